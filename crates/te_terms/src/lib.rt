@@ -1,8 +1,18 @@
-//! Values, expressions and events of transactional events, and what steps they take.
+//! Values, expressions and events of transactional events, and the steps that they take.
 #![tactic(auto)]
 
+mod code;
+mod event;
+mod expr;
 mod memory;
+mod name;
 mod rows;
+mod value;
 
+pub use code::{CodeFault, EventCode, Node};
+pub use event::{Event, Outcome, Parked};
+pub use expr::{Arith, Calc, Calcs, Cond, Expr, Operand as Prim, Test, Var};
 pub use memory::NoMemory;
+pub use name::Name;
 pub use rows::Rows;
+pub use value::{Atom, Trap, Value};
