@@ -1,0 +1,4 @@
+pub mod Scripts
+pub mod Wishes
+pub mod Stored
+pub mod Texts

@@ -1,0 +1,129 @@
+-- Scripts as values: statements over terms whose registers are not yet replaced.
+-- All of it is this project's own.
+use Rattle.std.specs.Prelude.{◌≡◌, ◌≢◌, ℕ, suc, ◌+◌, ◌<◌, ◌≤◌, max, List, [], ◌∷◌, length, map, nat_lt, if◌then◌else◌}
+use Rattle.std.specs.List.{AllByRecursion}
+use Rattle.te_terms.specs.Expressions.{Variable, register, name, known, Primitive, int, chan, part, Calculation, one, both, Expression, whole, tuple}
+use Rattle.te_terms.specs.Terms.{Term, always, never, throw, send, recv, and_then, choose, catch, when}
+
+-- `sync r t` writes what the event t gives to register r; `emit e` adds the value of e
+pub data Statement : Type 0 where
+  sync : ℕ → Term → Statement
+  emit : Expression → Statement
+
+-- a thread's name, the names of its registers by number, and its statements
+pub record Thread : Type 0 where
+  pub name : List ℕ
+  pub registers : List (List ℕ)
+  pub statements : List Statement
+
+-- the names of the channels by number, and the threads
+pub record Program : Type 0 where
+  pub channels : List (List ℕ)
+  pub threads : List Thread
+
+-- ---- what can be spelled: names in scope, places 0 to 3, channels declared, at most 4 calculations
+
+-- how many registers have been written, how many inner names are in scope, and how many channels there are
+pub record Scope : Type 0 where
+  pub written : ℕ
+  pub level : ℕ
+  pub channels : ℕ
+
+abbrev pub one_more : Scope → Scope
+one_more s = record s { level = suc s.level }
+
+abbrev pub IsNamed : Scope → Variable → Type 0
+IsNamed s (register r) = r < s.written
+IsNamed s (name n) = n < s.level
+IsNamed s (known v) = ⊥
+
+abbrev pub IsPrimitive : Scope → Primitive → Type 0
+IsPrimitive s (int z) = Unit {0}
+IsPrimitive s (chan c) = c < s.channels
+IsPrimitive s (part x d) = IsNamed s x × (d < 4)
+
+abbrev pub IsCalculation : Scope → Calculation → Type 0
+IsCalculation s (one p) = IsPrimitive s p
+IsCalculation s (both o p q) = IsPrimitive s p × IsPrimitive s q
+
+abbrev pub IsExpression : Scope → Expression → Type 0
+IsExpression s (whole x) = IsNamed s x
+IsExpression s (tuple cs) = AllByRecursion (IsCalculation s) cs × (length cs ≤ 4)
+
+abbrev pub IsEvent : Scope → Term → Type 0
+IsEvent s (always e) = IsExpression s e
+IsEvent s never = Unit {0}
+IsEvent s (throw e) = IsExpression s e
+IsEvent s (send p e) = IsPrimitive s p × IsExpression s e
+IsEvent s (recv p) = IsPrimitive s p
+IsEvent s (and_then e n f) = (n ≡ s.level) × IsEvent s e × IsEvent (one_more s) f
+IsEvent s (choose e f) = IsEvent s e × IsEvent s f
+IsEvent s (catch e n h) = (n ≡ s.level) × IsEvent s e × IsEvent (one_more s) h
+IsEvent s (when test p q e f) = IsPrimitive s p × IsPrimitive s q × IsEvent s e × IsEvent s f
+
+-- ---- limits of one event
+
+abbrev pub nodes : Term → ℕ
+nodes (and_then e n f) = suc (nodes e + nodes f)
+nodes (choose e f) = suc (nodes e + nodes f)
+nodes (catch e n h) = suc (nodes e + nodes h)
+nodes (when test p q e f) = suc (nodes e + nodes f)
+nodes t = 1
+
+-- a leaf has height 1
+abbrev pub height : Term → ℕ
+height (and_then e n f) = suc (max (height e) (height f))
+height (choose e f) = suc (max (height e) (height f))
+height (catch e n h) = suc (max (height e) (height h))
+height (when test p q e f) = suc (max (height e) (height f))
+height t = 1
+
+pub record IsWithin (t : Term) : Type 0 where
+  pub nodes : nodes t ≤ 4096
+  pub height : height t ≤ 32
+
+-- ---- threads and programs
+
+-- how many registers have been written once register r is
+abbrev pub with_register : ℕ → ℕ → ℕ
+with_register written r = if nat_lt r written then written else suc r
+
+-- registers are numbered in the order of their first writing, and each is read only after it was written
+abbrev pub AreStatements : ℕ → ℕ → ℕ → List Statement → Type 0
+AreStatements channels registers written [] = written ≡ registers
+AreStatements channels registers written (sync r t ∷ rest) =
+    (r ≤ written) × IsEvent (record { written = written; level = 0; channels = channels }) t × IsWithin t × AreStatements channels registers (with_register written r) rest
+AreStatements channels registers written (emit e ∷ rest) =
+    IsExpression (record { written = written; level = 0; channels = channels }) e × AreStatements channels registers written rest
+
+-- 1 to 32 bytes
+abbrev pub IsName : List ℕ → Type 0
+IsName bytes = (0 < length bytes) × (length bytes ≤ 32)
+
+-- no two are equal
+abbrev pub AreDistinct : List (List ℕ) → Type 0
+AreDistinct [] = Unit {0}
+AreDistinct (x ∷ xs) = AllByRecursion (λ y. x ≢ y) xs × AreDistinct xs
+
+-- what a thread keeps by itself, with this many channels
+pub record IsThread (channels : ℕ) (t : Thread) : Type 0 where
+  pub registers : length t.registers ≤ 8
+  pub distinct : AreDistinct t.registers
+  pub statements : length t.statements ≤ 1024
+  pub in_order : AreStatements channels (length t.registers) 0 t.statements
+
+abbrev pub thread_names : List Thread → List (List ℕ)
+thread_names ts = map (λ t. t.name) ts
+
+-- a register has no channel's name
+abbrev pub AreApart : List (List ℕ) → List (List ℕ) → Type 0
+AreApart xs ys = AllByRecursion (λ x. AllByRecursion (λ y. x ≢ y) ys) xs
+
+pub record IsProgram (p : Program) : Type 0 where
+  pub channels : length p.channels ≤ 256
+  pub channel_names : AreDistinct p.channels
+  pub some_thread : 0 < length p.threads
+  pub threads : length p.threads ≤ 64
+  pub names : AreDistinct (thread_names p.threads)
+  pub each : AllByRecursion (IsThread (length p.channels)) p.threads
+  pub apart : AllByRecursion (λ t. AreApart t.registers p.channels) p.threads

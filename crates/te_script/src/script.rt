@@ -1,0 +1,61 @@
+use std::marker::Model;
+use std::sync::Arc;
+use te_terms::{EventCode, Expr, Name, Rows};
+
+/// A statement of a thread.
+#[derive(Drop)]
+pub enum Stmt {
+    /// Synchronises on the event under `root` and writes what it gives to register `reg`.
+    Sync {
+        reg: u8,
+        code: Arc<EventCode>,
+        root: u32,
+    },
+    /// Adds the value of the expression to what the thread has emitted.
+    Emit(Expr),
+}
+
+/// One thread of a script: its name, the names of its registers by number, and its statements.
+#[derive(Drop)]
+pub struct ThreadText {
+    pub name: Name,
+    pub regs: Rows<Name>,
+    pub stmts: Rows<Stmt>,
+}
+
+impl Model for ThreadText {
+    ghost use Rattle.std.specs.Prelude.{map};
+    ghost use Rattle.te_script.specs.Scripts.{Thread};
+    ghost use Rattle.te_script.specs.Stored.{coded_thread};
+
+    ghost Value = { Thread };
+
+    ghost coded = { coded_thread };
+
+    ghost use Rattle.te_script.specs.Texts.{statement_of, IsText};
+
+    ghost view = { λ t. record { name = t.name; registers = t.regs; statements = map statement_of t.stmts } };
+
+    ghost invariant = { λ t. IsText (record { name = t.name; registers = t.regs; statements = map statement_of t.stmts }) t.stmts };
+}
+
+/// A script: the names of its channels by number, and its threads.
+#[derive(Drop)]
+pub struct Script {
+    pub channels: Rows<Name>,
+    pub threads: Rows<Arc<ThreadText>>,
+}
+
+impl Model for Script {
+    ghost use Rattle.std.specs.Prelude.{map};
+    ghost use Rattle.te_script.specs.Scripts.{Program, IsProgram};
+    ghost use Rattle.te_script.specs.Stored.{coded_program};
+
+    ghost Value = { Program };
+
+    ghost coded = { coded_program };
+
+    ghost view = { λ s. record { channels = s.channels; threads = map (λ a. a.value) s.threads } };
+
+    ghost invariant = { λ s. IsProgram (record { channels = s.channels; threads = map (λ a. a.value) s.threads }) };
+}
