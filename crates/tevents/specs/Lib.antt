@@ -1,0 +1,7 @@
+pub mod Play
+pub mod Certs
+pub mod State
+pub mod Follows
+pub mod OfScript
+pub mod Report
+pub mod Rounds
