@@ -52,3 +52,13 @@ registers_to regs (known w) = known w
 -- the term in which each register is replaced by its value
 abbrev pub closed : List (List Atom) → Term → Term
 closed regs t = replaced (registers_to regs) t
+
+abbrev pub or_name : Option (List Atom) → ℕ → Variable
+or_name (Some v) n = known v
+or_name None n = name n
+
+-- the values of the registers, and those of the inner names, from level 0 on
+abbrev pub scoped : List (List Atom) → List (List Atom) → Variable → Variable
+scoped regs inner (register r) = or_register (slice_get regs r) r
+scoped regs inner (name n) = or_name (slice_get inner n) n
+scoped regs inner (known w) = known w

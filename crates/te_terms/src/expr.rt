@@ -1,4 +1,13 @@
-use crate::value::Atom;
+ghost use Rattle.std.specs.Prelude.{◌≡◌, ◌↔◌, ◌<◌, ◌≤◌, length, IfSome, IsNone, Ok, Err, if◌then◌else◌};
+ghost use Rattle.std.specs.Option.{option_copied, ok_or};
+ghost use Rattle.te_terms.specs.declared.value.Atom.TheVariants.{Int};
+ghost use Rattle.te_terms.specs.declared.value.Trap.TheVariants.{Range, Kind};
+ghost use Rattle.te_terms.specs.Values.{arith_result, fits_i64};
+ghost use Rattle.te_terms.specs.Expressions.{in_primitive, in_calculation, in_expression, variable_value, primitive_atom, channel_value, calculation_atom, value_of, compared, test_value};
+ghost use Rattle.te_terms.specs.Terms.{scoped};
+ghost use Rattle.te_terms.specs.Codes.{variable_of, primitive_of, calculation_of, expression_of};
+
+use crate::value::{Atom, Trap, Value};
 use std::marker::Model;
 
 /// A variable: a register from 0 to 7, or an inner name by its level, which is the number of inner names
@@ -9,12 +18,49 @@ pub enum Var {
     Inner(u8),
 }
 
+impl Var {
+    /// The value of the variable, where it is in scope.
+    fn value<'a>(self, regs: &'a [Value; 8], inner: &'a [Value]) -> Option<&'a Value>
+        ensures { ok_or (option_copied result) Kind ≡ variable_value (scoped regs.now inner.now (variable_of self)) }
+    {
+        match self {
+            Var::Reg(r) => regs.get(r as usize),
+            Var::Inner(n) => inner.get(n as usize),
+        }
+    }
+}
+
 /// A primitive: an integer, a channel, or a place of a variable.
 #[derive(Clone, Copy, Debug, PartialEq, Eq)]
 pub enum Operand {
     Int(i64),
     Chan(u32),
     Part(Var, u8),
+}
+
+impl Operand {
+    fn atom(self, regs: &[Value; 8], inner: &[Value]) -> Result<Atom, Trap>
+        ensures { result ≡ primitive_atom (in_primitive (scoped regs.now inner.now) (primitive_of self)) }
+    {
+        match self {
+            Operand::Int(z) => Ok(Atom::Int(z)),
+            Operand::Chan(c) => Ok(Atom::Chan(c)),
+            Operand::Part(x, d) => {
+                let Some(value) = x.value(regs, inner) else {
+                    return Err(Trap::Kind);
+                };
+                value.get(d as usize).ok_or(Trap::Kind)
+            }
+        }
+    }
+
+    /// The channel that the primitive names, over these registers and inner values (level 0 first). It
+    /// traps with `Kind` where a place is missing, a variable isn't in scope, or the atom is no channel.
+    pub fn channel(&self, regs: &[Value; 8], inner: &[Value]) -> Result<u32, Trap>
+        ensures { result ≡ channel_value (in_primitive (scoped regs.now inner.now) (primitive_of self.now)) }
+    {
+        self.atom(regs, inner)?.channel()
+    }
 }
 
 /// What is done with two integers.
@@ -25,6 +71,22 @@ pub enum Arith {
     Mul,
 }
 
+impl Arith {
+    fn of(self, x: i64, y: i64) -> Result<Atom, Trap>
+        ensures { result ≡ (if fits_i64 (arith_result self x y) then Ok (Int (arith_result self x y)) else Err Range) }
+    {
+        let sum = match self {
+            Arith::Add => x.checked_add(y),
+            Arith::Sub => x.checked_sub(y),
+            Arith::Mul => x.checked_mul(y),
+        };
+        match sum {
+            Some(z) => Ok(Atom::Int(z)),
+            None => Err(Trap::Range),
+        }
+    }
+}
+
 /// A calculation: one primitive, or a sum, difference or product of two.
 #[derive(Clone, Copy, Debug, PartialEq, Eq)]
 pub enum Calc {
@@ -32,8 +94,26 @@ pub enum Calc {
     Op(Arith, Operand, Operand),
 }
 
+impl Calc {
+    // Both operands are found before their kinds are tested.
+    fn atom(&self, regs: &[Value; 8], inner: &[Value]) -> Result<Atom, Trap>
+        ensures { result ≡ calculation_atom (in_calculation (scoped regs.now inner.now) (calculation_of self.now)) }
+    {
+        match self {
+            Calc::One(p) => p.atom(regs, inner),
+            Calc::Op(op, p, q) => {
+                let a = p.atom(regs, inner)?;
+                let b = q.atom(regs, inner)?;
+                let x = a.integer()?;
+                let y = b.integer()?;
+                op.of(x, y)
+            }
+        }
+    }
+}
+
 /// A list of 0 to 4 calculations, seen as the list of them.
-#[derive(Clone, Copy)]
+#[derive(Clone, Copy, Debug, PartialEq, Eq)]
 pub struct Calcs {
     len: u32,
     list: [Calc; 4],
@@ -57,11 +137,60 @@ impl Model for Calcs {
     ghost inverse_ok = { λ a p. λ i. record { len = length_back p i; list = p.padded_so i } };
 }
 
+impl Calcs {
+    /// The list of these calculations; `None` exactly where there are more than 4.
+    pub fn of(list: &[Calc]) -> Option<Calcs>
+        ensures some { IfSome result (λ calcs. calcs ≡ list.now) }
+        ensures none { IsNone result ↔ (4 < length list.now) }
+    {
+        if list.len() > 4 {
+            return None;
+        }
+        let mut room = [Calc::One(Operand::Int(0)); 4];
+        room[..list.len()].copy_from_slice(list);
+        Some(Calcs {
+            len: list.len() as u32,
+            list: room,
+        })
+    }
+
+    /// The calculations, in order.
+    pub fn as_slice(&self) -> &[Calc]
+        ensures value { result.now ≡ self.now }
+        ensures range { length self.now ≤ 4 }
+    {
+        &self.list[..self.len as usize]
+    }
+}
+
 /// An expression: a whole variable, or a tuple of 0 to 4 calculations.
-#[derive(Clone, Copy)]
+#[derive(Clone, Copy, Debug, PartialEq, Eq)]
 pub enum Expr {
     Whole(Var),
     Tuple(Calcs),
+}
+
+impl Expr {
+    /// The value of the expression over these registers and inner values (level 0 first), found from left
+    /// to right. The first trap decides: `Kind` where a place is missing, a variable isn't in scope, or an
+    /// operand is no integer; `Range` where a sum, difference or product lies outside 64 bits.
+    pub fn eval(&self, regs: &[Value; 8], inner: &[Value]) -> Result<Value, Trap>
+        ensures { result ≡ value_of (in_expression (scoped regs.now inner.now) (expression_of self.now)) }
+    {
+        match self {
+            Expr::Whole(x) => match x.value(regs, inner) {
+                Some(value) => Ok(*value),
+                None => Err(Trap::Kind),
+            },
+            Expr::Tuple(calcs) => {
+                let mut value = Value::unit();
+                for calc in calcs.as_slice() {
+                    value.push(calc.atom(regs, inner)?);
+                }
+                Ok(value)
+            }
+        }
+    }
 }
 
 /// What a condition asks: `=` of two atoms, or `<` of two integers.
@@ -71,10 +200,38 @@ pub enum Test {
     Less,
 }
 
+impl Test {
+    fn compares(self, a: Atom, b: Atom) -> Result<bool, Trap>
+        ensures { result ≡ compared self a b }
+    {
+        match self {
+            Test::Equal => Ok(a == b),
+            Test::Less => {
+                let x = a.integer()?;
+                let y = b.integer()?;
+                Ok(x < y)
+            }
+        }
+    }
+}
+
 /// A condition on two primitives.
 #[derive(Clone, Copy, Debug, PartialEq, Eq)]
 pub struct Cond {
     pub test: Test,
     pub left: Operand,
     pub right: Operand,
+}
+
+impl Cond {
+    /// Whether the condition holds over these registers and inner values (level 0 first). The left
+    /// primitive is found first. It traps with `Kind` where a place is missing, a variable isn't in scope,
+    /// or `<` meets a channel; `=` compares any two atoms, and those of different kinds are unequal.
+    pub fn holds(&self, regs: &[Value; 8], inner: &[Value]) -> Result<bool, Trap>
+        ensures { result ≡ test_value self.now.test (in_primitive (scoped regs.now inner.now) (primitive_of self.now.left)) (in_primitive (scoped regs.now inner.now) (primitive_of self.now.right)) }
+    {
+        let a = self.left.atom(regs, inner)?;
+        let b = self.right.atom(regs, inner)?;
+        self.test.compares(a, b)
+    }
 }
