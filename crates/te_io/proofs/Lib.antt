@@ -1,0 +1,2 @@
+pub mod PiecesRead
+pub mod PiecesWritten
