@@ -1,4 +1,5 @@
 pub mod Scripts
 pub mod Wishes
-pub mod Stored
 pub mod Texts
+pub mod Cores
+pub mod Stored

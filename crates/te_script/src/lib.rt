@@ -2,5 +2,7 @@
 #![tactic(auto)]
 
 mod script;
+mod wish;
 
 pub use script::{Script, Stmt, ThreadText};
+pub use wish::{Core, Want};

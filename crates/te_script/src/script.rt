@@ -39,6 +39,20 @@ impl Model for ThreadText {
     ghost invariant = { λ t. IsText (record { name = t.name; registers = t.regs; statements = map statement_of t.stmts }) t.stmts };
 }
 
+impl ThreadText {
+    ghost use Rattle.std.specs.Prelude.{◌≡◌, map};
+    ghost use Rattle.te_script.specs.Texts.{statement_of};
+    ghost use Rattle.te_script.specs.Scripts.{IsThread};
+
+    // The statements, in order.
+    pub(crate) fn statements(&self) -> &[Stmt]
+        ensures value { map statement_of result.now ≡ self.now.statements }
+        ensures thread { IsThread 256 self.now }
+    {
+        self.stmts.as_slice()
+    }
+}
+
 /// A script: the names of its channels by number, and its threads.
 #[derive(Drop)]
 pub struct Script {

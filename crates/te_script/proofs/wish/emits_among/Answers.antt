@@ -1,0 +1,17 @@
+use Rattle.std.proofs.Common.{◌≡◌, ◌+◌, drop, map, ap, arith}
+use Rattle.te_script.specs.Cores.{emits_in}
+use Rattle.te_script.specs.Texts.{statement_of}
+use Rattle.te_script.proofs.EmitsDone.{statements_from, nothing_from}
+use Rattle.te_script.proofs.wish.emits_among.Goals as goal
+use Rattle.te_script.proofs.wish.emits_among.Goals.{in-Emit, in_default}
+
+pub loop-stmt-preserved : goal.loop-stmt-preserved
+loop-stmt-preserved c =
+    let here = ap emits_in (statements_from c.args.stmts.now c.loop-stmt.stmt-index c.stmt-item.result c.loop-stmt-test.true c.stmt-item.is) in
+    elim c.match-stmt.branch [
+      | in-Emit w ↦ let e = rw w.in-Emit.is at here in record { counted = omega (arith, e, w.count-is); within = omega (arith, w.count-is) }
+      | in_default w ↦ let e = rw w.in_default.is at here in record { counted = omega (arith, e, w.count-is); within = omega (arith, w.count-is) }
+    ]
+
+pub returns : goal.returns
+returns c = omega (arith, ap emits_in (nothing_from c.args.stmts.now c.loop-stmt.stmt-index c.loop-stmt-test.false))
