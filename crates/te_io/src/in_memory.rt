@@ -160,6 +160,22 @@ impl MemSink {
     {
         self.bytes.as_slice()
     }
+
+    /// How many of so many bytes a call takes.
+    fn share_of(&self, offered: usize) -> usize
+        ensures { result ≡ takes self.now offered }
+    {
+        self.piece.min(offered.min(self.room - self.bytes.len()))
+    }
+
+    /// Whether the next call fails at a piece of so many bytes.
+    fn refuses(&self, offered: usize) -> bool
+        ensures { IsTrue result ↔ Refuses self.now offered }
+    {
+        is_listed(&self.failing, self.calls.saturating_add(1))
+            || self.bytes.len() == self.room
+            || (offered > 0 && self.share_of(offered) == 0)
+    }
 }
 
 impl Sink for MemSink {
@@ -185,11 +201,10 @@ impl Sink for MemSink {
             (λ _. self.new.faults ≡ self.old.faults)
             (λ _. (self.new.faults ≡ one_more self.old.faults) × (self.new.held ≡ self.old.held)) }
     {
+        let count = self.share_of(piece.len());
+        let is_refused = self.refuses(piece.len());
         self.calls = self.calls.saturating_add(1);
-        let room = self.room - self.bytes.len();
-        let count = self.piece.min(piece.len().min(room));
-        let takes_nothing = room == 0 || (count == 0 && !piece.is_empty());
-        if takes_nothing || is_listed(&self.failing, self.calls) {
+        if is_refused {
             self.faults = self.faults.saturating_add(1);
             return Err(Failed);
         }
