@@ -31,11 +31,11 @@ impl Model for MemSource {
     ghost Value = { Supply };
 
     ghost view = { λ source. record {
-        left = drop source.given source.bytes.items;
-        piece = source.piece;
-        failing = source.failing.items;
-        calls = source.calls;
-        faults = source.faults
+      left = drop source.given source.bytes.items;
+      piece = source.piece;
+      failing = source.failing.items;
+      calls = source.calls;
+      faults = source.faults;
     } };
 
     ghost invariant = { λ source. (source.given ≤ vec_len source.bytes) × (1 ≤ source.piece) };
@@ -52,7 +52,12 @@ impl MemSource {
     ) -> Result<MemSource, NoMemory>
         requires { 1 ≤ piece }
         ensures { IfOk result (λ source. source ≡ record {
-            left = bytes.now; piece = piece; failing = failing.now; calls = 0; faults = 0 }) }
+          left = bytes.now;
+          piece = piece;
+          failing = failing.now;
+          calls = 0;
+          faults = 0;
+        }) }
     {
         Ok(MemSource {
             bytes: Vec::from_slice(alloc, bytes)?,
@@ -84,7 +89,10 @@ impl Source for MemSource {
         ensures gives { IfOk result (λ n.
             n ≡ min self.old.piece (min (length into.old) (length self.old.left))) }
         ensures after { self.new ≡ record self.old {
-            left = self.new.left; calls = one_more self.old.calls; faults = self.new.faults } }
+          left = self.new.left;
+          calls = one_more self.old.calls;
+          faults = self.new.faults;
+        } }
         ensures counted { MatchResult result
             (λ _. self.new.faults ≡ self.old.faults)
             (λ _. self.new.faults ≡ one_more self.old.faults) }
@@ -121,12 +129,12 @@ impl Model for MemSink {
     ghost Value = { Store };
 
     ghost view = { λ sink. record {
-        held = sink.bytes.items;
-        room = sink.room;
-        piece = sink.piece;
-        failing = sink.failing.items;
-        calls = sink.calls;
-        faults = sink.faults
+      held = sink.bytes.items;
+      room = sink.room;
+      piece = sink.piece;
+      failing = sink.failing.items;
+      calls = sink.calls;
+      faults = sink.faults;
     } };
 
     ghost invariant = { λ sink. (vec_len sink.bytes ≤ sink.room) × (sink.room ≤ vec_capacity sink.bytes) };
@@ -142,7 +150,13 @@ impl MemSink {
         failing: &[u32],
     ) -> Result<MemSink, NoMemory>
         ensures { IfOk result (λ sink. sink ≡ record {
-            held = []; room = room; piece = piece; failing = failing.now; calls = 0; faults = 0 }) }
+          held = [];
+          room = room;
+          piece = piece;
+          failing = failing.now;
+          calls = 0;
+          faults = 0;
+        }) }
     {
         Ok(MemSink {
             bytes: Vec::with_capacity(alloc, room)?,
@@ -196,7 +210,10 @@ impl Sink for MemSink {
         ensures fails { IsErr result ↔ Refuses self.old (length piece.now) }
         ensures taken { IfOk result (λ n. n ≡ takes self.old (length piece.now)) }
         ensures after { self.new ≡ record self.old {
-            held = self.new.held; calls = one_more self.old.calls; faults = self.new.faults } }
+          held = self.new.held;
+          calls = one_more self.old.calls;
+          faults = self.new.faults;
+        } }
         ensures counted { MatchResult result
             (λ _. self.new.faults ≡ self.old.faults)
             (λ _. (self.new.faults ≡ one_more self.old.faults) × (self.new.held ≡ self.old.held)) }

@@ -77,9 +77,9 @@ impl Model for SteadySink {
     ghost Value = { Shelf };
 
     ghost view = { λ sink. record {
-        held = sink.bytes.items;
-        room = sink.room;
-        faults = sink.faults
+      held = sink.bytes.items;
+      room = sink.room;
+      faults = sink.faults;
     } };
 
     ghost invariant = { λ sink. (vec_len sink.bytes ≤ sink.room) × (sink.room ≤ vec_capacity sink.bytes) };
