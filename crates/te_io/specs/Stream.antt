@@ -1,6 +1,6 @@
 -- What a call does to the bytes that a source still holds, and to those that a sink holds, where they are told.
 -- Each relation says something only where the bytes were told before the call.
-use Rattle.std.specs.Prelude.{◌≡◌, ◌+◌, ◌≤◌, ℕ, List, [], ◌++◌, length, take, drop, Option, Some}
+use Rattle.std.specs.Prelude.{◌≡◌, ◌≤◌, ℕ, List, [], ◌++◌, length, take, drop, Option, Some}
 
 -- no byte is held
 abbrev pub HoldsNothing : Option (List ℕ) → Type 0

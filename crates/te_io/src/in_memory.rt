@@ -1,7 +1,7 @@
 ghost use Rattle.std.specs.Prelude.{◌≡◌, ◌↔◌, ◌<◌, ◌≤◌, ℕ, List, Option, [], ◌++◌, length, take, drop, min, Some, Contains, IsTrue, IsErr, IfOk, OnErr, MatchResult};
 ghost use Rattle.te_io.specs.Stream.{GaveFirst, GrewBy, GrewByPrefix, HoldsNothing, HoldsSame};
 ghost use Rattle.te_io.specs.Causes.{Rose, one_more};
-ghost use Rattle.te_io.specs.InMemory.{FailsNext, Refuses, takes};
+ghost use Rattle.te_io.specs.InMemory.{FailsNext, Refuses, share_of};
 
 use crate::copying::copy_first;
 use crate::fault::Failed;
@@ -26,9 +26,9 @@ pub struct MemSource {
 
 impl Model for MemSource {
     ghost use Rattle.std.specs.Prelude.{◌≤◌, drop, vec_len};
-    ghost use Rattle.te_io.specs.InMemory.{Supply};
+    ghost use Rattle.te_io.specs.InMemory.{MemSourceState};
 
-    ghost Value = { Supply };
+    ghost Value = { MemSourceState };
 
     ghost view = { λ source. record {
       left = drop source.given source.bytes.items;
@@ -124,9 +124,9 @@ pub struct MemSink {
 
 impl Model for MemSink {
     ghost use Rattle.std.specs.Prelude.{◌≤◌, vec_len, vec_capacity};
-    ghost use Rattle.te_io.specs.InMemory.{Store};
+    ghost use Rattle.te_io.specs.InMemory.{MemSinkState};
 
-    ghost Value = { Store };
+    ghost Value = { MemSinkState };
 
     ghost view = { λ sink. record {
       held = sink.bytes.items;
@@ -177,7 +177,7 @@ impl MemSink {
 
     /// How many of so many bytes a call takes.
     fn share_of(&self, offered: usize) -> usize
-        ensures { result ≡ takes self.now offered }
+        ensures { result ≡ share_of self.now offered }
     {
         self.piece.min(offered.min(self.room - self.bytes.len()))
     }
@@ -208,7 +208,7 @@ impl Sink for MemSink {
 
         // Exactly what the call does.
         ensures fails { IsErr result ↔ Refuses self.old (length piece.now) }
-        ensures taken { IfOk result (λ n. n ≡ takes self.old (length piece.now)) }
+        ensures taken { IfOk result (λ n. n ≡ share_of self.old (length piece.now)) }
         ensures after { self.new ≡ record self.old {
           held = self.new.held;
           calls = one_more self.old.calls;
