@@ -1,38 +1,41 @@
--- What the sources and sinks over memory do at each call.
+-- What the sources and sinks over memory are and do, call by call. Calls are numbered from 1.
 use Rattle.std.specs.Prelude.{◌≡◌, ◌⊎◌, ◌<◌, ◌≤◌, ◌-◌, ℕ, List, length, min, Contains}
 use Rattle.te_io.specs.Causes.{one_more}
 
--- a source: what it still holds, how much a call gives at most, the numbers of the calls that fail, and the calls and faults so far
-pub record Supply : Type 0 where
+-- a `MemSource`: the bytes it still holds, and how many a call gives at most
+pub record MemSourceState : Type 0 where
   pub left : List ℕ
   pub piece : ℕ
+  -- the numbers of the calls that are to fail, how many calls there were, and how many of them failed
   pub failing : List ℕ
   pub calls : ℕ
   pub faults : ℕ
 
--- a sink: what it holds, how much it has room for, how much a call takes at most, the numbers of the calls that fail, and the calls and faults so far
-pub record Store : Type 0 where
+-- a `MemSink`: the bytes it holds, how many it has room for, and how many a call takes at most
+pub record MemSinkState : Type 0 where
   pub held : List ℕ
   pub room : ℕ
   pub piece : ℕ
+  -- as of a `MemSource`
   pub failing : List ℕ
   pub calls : ℕ
   pub faults : ℕ
 
--- a sink whose calls fail only past its room
-pub record Shelf : Type 0 where
+-- a `SteadySink`: the bytes it holds, how many it has room for, and how often it failed
+pub record SteadySinkState : Type 0 where
   pub held : List ℕ
   pub room : ℕ
   pub faults : ℕ
 
--- the next call is one of those that are to fail; calls are numbered from 1
+-- the next call is one of those that are to fail
 abbrev pub FailsNext : List ℕ → ℕ → Type 0
 FailsNext failing calls = Contains failing (one_more calls)
 
--- how many of so many bytes the sink takes at most
-abbrev pub takes : Store → ℕ → ℕ
-takes sink offered = min sink.piece (min offered (sink.room - length sink.held))
+-- how many of so many bytes a call takes
+abbrev pub share_of : MemSinkState → ℕ → ℕ
+share_of sink offered = min sink.piece (min offered (sink.room - length sink.held))
 
--- the sink fails at a piece of so many bytes: the call is to fail, the room is used up, or it takes nothing of something
-abbrev pub Refuses : Store → ℕ → Type 0
-Refuses sink offered = FailsNext sink.failing sink.calls ⊎ ((sink.room ≤ length sink.held) ⊎ ((0 < offered) × (takes sink offered ≡ 0)))
+-- the next call, with a piece of so many bytes, is to fail, or finds the room used up, or would take nothing of something
+abbrev pub Refuses : MemSinkState → ℕ → Type 0
+Refuses sink offered =
+    FailsNext sink.failing sink.calls ⊎ ((sink.room ≤ length sink.held) ⊎ ((0 < offered) × (share_of sink offered ≡ 0)))

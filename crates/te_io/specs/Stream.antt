@@ -1,6 +1,6 @@
 -- What a call does to the bytes that a source still holds, and to those that a sink holds, where they are told.
 -- Each relation says something only where the bytes were told before the call.
-use Rattle.std.specs.Prelude.{◌≡◌, ◌+◌, ◌≤◌, ℕ, List, [], ◌++◌, length, take, drop, Option, Some}
+use Rattle.std.specs.Prelude.{◌≡◌, ◌≤◌, ℕ, List, [], ◌++◌, length, take, drop, Option, Some}
 
 -- no byte is held
 abbrev pub HoldsNothing : Option (List ℕ) → Type 0
@@ -13,12 +13,12 @@ HoldsSame before after = (bytes : List ℕ) → before ≡ Some bytes → after 
 -- what is held is what was held but for the first few bytes, at most n of them
 abbrev pub HoldsRest : ℕ → Option (List ℕ) → Option (List ℕ) → Type 0
 HoldsRest n before after = (bytes : List ℕ) → before ≡ Some bytes
-  → (k : ℕ) × (k ≤ n) × (after ≡ Some (drop k bytes))
+    → (k : ℕ) × (k ≤ n) × (after ≡ Some (drop k bytes))
 
 -- the first n bytes were given, all where there are no more, and the others are still held
 abbrev pub GaveFirst : ℕ → Option (List ℕ) → Option (List ℕ) → List ℕ → Type 0
 GaveFirst n before after given = (bytes : List ℕ) → before ≡ Some bytes
-  → (given ≡ take n bytes) × (after ≡ Some (drop n bytes))
+    → (given ≡ take n bytes) × (after ≡ Some (drop n bytes))
 
 -- all bytes were given, and none is held any more
 abbrev pub GaveAll : Option (List ℕ) → Option (List ℕ) → List ℕ → Type 0

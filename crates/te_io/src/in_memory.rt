@@ -1,7 +1,7 @@
 ghost use Rattle.std.specs.Prelude.{◌≡◌, ◌↔◌, ◌<◌, ◌≤◌, ℕ, List, Option, [], ◌++◌, length, take, drop, min, Some, Contains, IsTrue, IsErr, IfOk, OnErr, MatchResult};
 ghost use Rattle.te_io.specs.Stream.{GaveFirst, GrewBy, GrewByPrefix, HoldsNothing, HoldsSame};
 ghost use Rattle.te_io.specs.Causes.{Rose, one_more};
-ghost use Rattle.te_io.specs.InMemory.{FailsNext, Refuses, takes};
+ghost use Rattle.te_io.specs.InMemory.{FailsNext, Refuses, share_of};
 
 use crate::copying::copy_first;
 use crate::fault::Failed;
@@ -26,16 +26,16 @@ pub struct MemSource {
 
 impl Model for MemSource {
     ghost use Rattle.std.specs.Prelude.{◌≤◌, drop, vec_len};
-    ghost use Rattle.te_io.specs.InMemory.{Supply};
+    ghost use Rattle.te_io.specs.InMemory.{MemSourceState};
 
-    ghost Value = { Supply };
+    ghost Value = { MemSourceState };
 
     ghost view = { λ source. record {
-        left = drop source.given source.bytes.items;
-        piece = source.piece;
-        failing = source.failing.items;
-        calls = source.calls;
-        faults = source.faults
+      left = drop source.given source.bytes.items;
+      piece = source.piece;
+      failing = source.failing.items;
+      calls = source.calls;
+      faults = source.faults;
     } };
 
     ghost invariant = { λ source. (source.given ≤ vec_len source.bytes) × (1 ≤ source.piece) };
@@ -52,7 +52,12 @@ impl MemSource {
     ) -> Result<MemSource, NoMemory>
         requires { 1 ≤ piece }
         ensures { IfOk result (λ source. source ≡ record {
-            left = bytes.now; piece = piece; failing = failing.now; calls = 0; faults = 0 }) }
+          left = bytes.now;
+          piece = piece;
+          failing = failing.now;
+          calls = 0;
+          faults = 0;
+        }) }
     {
         Ok(MemSource {
             bytes: Vec::from_slice(alloc, bytes)?,
@@ -84,7 +89,10 @@ impl Source for MemSource {
         ensures gives { IfOk result (λ n.
             n ≡ min self.old.piece (min (length into.old) (length self.old.left))) }
         ensures after { self.new ≡ record self.old {
-            left = self.new.left; calls = one_more self.old.calls; faults = self.new.faults } }
+          left = self.new.left;
+          calls = one_more self.old.calls;
+          faults = self.new.faults;
+        } }
         ensures counted { MatchResult result
             (λ _. self.new.faults ≡ self.old.faults)
             (λ _. self.new.faults ≡ one_more self.old.faults) }
@@ -116,17 +124,17 @@ pub struct MemSink {
 
 impl Model for MemSink {
     ghost use Rattle.std.specs.Prelude.{◌≤◌, vec_len, vec_capacity};
-    ghost use Rattle.te_io.specs.InMemory.{Store};
+    ghost use Rattle.te_io.specs.InMemory.{MemSinkState};
 
-    ghost Value = { Store };
+    ghost Value = { MemSinkState };
 
     ghost view = { λ sink. record {
-        held = sink.bytes.items;
-        room = sink.room;
-        piece = sink.piece;
-        failing = sink.failing.items;
-        calls = sink.calls;
-        faults = sink.faults
+      held = sink.bytes.items;
+      room = sink.room;
+      piece = sink.piece;
+      failing = sink.failing.items;
+      calls = sink.calls;
+      faults = sink.faults;
     } };
 
     ghost invariant = { λ sink. (vec_len sink.bytes ≤ sink.room) × (sink.room ≤ vec_capacity sink.bytes) };
@@ -142,7 +150,13 @@ impl MemSink {
         failing: &[u32],
     ) -> Result<MemSink, NoMemory>
         ensures { IfOk result (λ sink. sink ≡ record {
-            held = []; room = room; piece = piece; failing = failing.now; calls = 0; faults = 0 }) }
+          held = [];
+          room = room;
+          piece = piece;
+          failing = failing.now;
+          calls = 0;
+          faults = 0;
+        }) }
     {
         Ok(MemSink {
             bytes: Vec::with_capacity(alloc, room)?,
@@ -159,6 +173,22 @@ impl MemSink {
         ensures { result.now ≡ self.now.held }
     {
         self.bytes.as_slice()
+    }
+
+    /// How many of so many bytes a call takes.
+    fn share_of(&self, offered: usize) -> usize
+        ensures { result ≡ share_of self.now offered }
+    {
+        self.piece.min(offered.min(self.room - self.bytes.len()))
+    }
+
+    /// Whether the next call fails at a piece of so many bytes.
+    fn refuses(&self, offered: usize) -> bool
+        ensures { IsTrue result ↔ Refuses self.now offered }
+    {
+        is_listed(&self.failing, self.calls.saturating_add(1))
+            || self.bytes.len() == self.room
+            || (offered > 0 && self.share_of(offered) == 0)
     }
 }
 
@@ -178,18 +208,20 @@ impl Sink for MemSink {
 
         // Exactly what the call does.
         ensures fails { IsErr result ↔ Refuses self.old (length piece.now) }
-        ensures taken { IfOk result (λ n. n ≡ takes self.old (length piece.now)) }
+        ensures taken { IfOk result (λ n. n ≡ share_of self.old (length piece.now)) }
         ensures after { self.new ≡ record self.old {
-            held = self.new.held; calls = one_more self.old.calls; faults = self.new.faults } }
+          held = self.new.held;
+          calls = one_more self.old.calls;
+          faults = self.new.faults;
+        } }
         ensures counted { MatchResult result
             (λ _. self.new.faults ≡ self.old.faults)
             (λ _. (self.new.faults ≡ one_more self.old.faults) × (self.new.held ≡ self.old.held)) }
     {
+        let count = self.share_of(piece.len());
+        let is_refused = self.refuses(piece.len());
         self.calls = self.calls.saturating_add(1);
-        let room = self.room - self.bytes.len();
-        let count = self.piece.min(piece.len().min(room));
-        let takes_nothing = room == 0 || (count == 0 && !piece.is_empty());
-        if takes_nothing || is_listed(&self.failing, self.calls) {
+        if is_refused {
             self.faults = self.faults.saturating_add(1);
             return Err(Failed);
         }

@@ -1,5 +1,4 @@
 ghost use Rattle.std.specs.Prelude.{◌≡◌, ◌<◌, ◌≤◌, ℕ, List, Option, length, take, IfOk, OnErr};
-
 ghost use Rattle.te_io.specs.Stream.{GaveFirst, HoldsNothing, HoldsSame};
 ghost use Rattle.te_io.specs.Causes.{Rose};
 

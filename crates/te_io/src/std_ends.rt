@@ -36,7 +36,22 @@ impl<R: Read> Source for StdSource<R> {
 
     ghost faults = { source_faults };
 
-    fn read(&mut self, into: &mut [u8]) -> Result<usize, Failed> {
+    fn read(&mut self, into: &mut [u8]) -> Result<usize, Failed>
+        ensures bound { IfOk result (λ n. n ≤ length into.new) }
+        ensures gave { IfOk result (λ n. GaveFirst n
+            (R.remaining (reader_of self.old)) (R.remaining (reader_of self.new)) (take n into.new)) }
+        ensures end { IfOk result (λ n.
+            n ≡ 0 → 0 < length into.new → HoldsNothing (R.remaining (reader_of self.new))) }
+        ensures err { OnErr result
+            (HoldsSame (R.remaining (reader_of self.old)) (R.remaining (reader_of self.new))) }
+        ensures count { source_faults self.old ≤ source_faults self.new }
+        ensures failed { OnErr result (Rose (source_faults self.old) (source_faults self.new)) }
+
+        // Each error is counted once, and nothing else is.
+        ensures counted { MatchResult result
+            (λ _. source_faults self.new ≡ source_faults self.old)
+            (λ _. source_faults self.new ≡ one_more (source_faults self.old)) }
+    {
         match self.reader.read(into) {
             Ok(count) => Ok(count),
             Err(_) => {
@@ -77,7 +92,21 @@ impl<W: Write> Sink for StdSink<W> {
 
     ghost faults = { sink_faults };
 
-    fn write(&mut self, piece: &[u8]) -> Result<usize, Failed> {
+    fn write(&mut self, piece: &[u8]) -> Result<usize, Failed>
+        ensures bound { IfOk result (λ n. n ≤ length piece.now) }
+        ensures moves_on { IfOk result (λ n. 0 < length piece.now → 0 < n) }
+        ensures ok { IfOk result (λ n. GrewBy
+            (W.contents (writer_of self.old)) (W.contents (writer_of self.new)) (take n piece.now)) }
+        ensures err { OnErr result (GrewByPrefix
+            (W.contents (writer_of self.old)) (W.contents (writer_of self.new)) piece.now) }
+        ensures count { sink_faults self.old ≤ sink_faults self.new }
+        ensures failed { OnErr result (Rose (sink_faults self.old) (sink_faults self.new)) }
+
+        // Each failed call is counted once, and nothing else is.
+        ensures counted { MatchResult result
+            (λ _. sink_faults self.new ≡ sink_faults self.old)
+            (λ _. sink_faults self.new ≡ one_more (sink_faults self.old)) }
+    {
         match write_and_flush(&mut self.writer, piece) {
             Ok(count) => Ok(count),
             Err(Failed) => {

@@ -1,5 +1,5 @@
 ghost use Rattle.std.specs.Prelude.{◌≡◌, ◌↔◌, ◌<◌, ◌≤◌, ◌+◌, ℕ, List, Option, [], ◌++◌, length, take, drop, min, Some, IsOk, IsErr, IfOk, OnErr, OnOk, MatchResult};
-ghost use Rattle.te_io.specs.Stream.{GaveFirst, GrewBy, GrewByPrefix, HoldsNothing, HoldsSame};
+ghost use Rattle.te_io.specs.Stream.{GaveFirst, GrewBy, GrewByPrefix, HoldsNothing};
 ghost use Rattle.te_io.specs.Causes.{Rose, one_more};
 
 use crate::copying::copy_first;
@@ -49,7 +49,6 @@ impl Source for SteadySource {
         ensures gave { IfOk result (λ n.
             GaveFirst n (Some self.old) (Some self.new) (take n into.new)) }
         ensures end { IfOk result (λ n. n ≡ 0 → 0 < length into.new → HoldsNothing (Some self.new)) }
-        ensures err { OnErr result (HoldsSame (Some self.old) (Some self.new)) }
 
         // Exactly what the call does.
         ensures gives { result ≡ Ok (min (length into.old) (length self.old)) }
@@ -72,14 +71,14 @@ pub struct SteadySink {
 
 impl Model for SteadySink {
     ghost use Rattle.std.specs.Prelude.{◌≤◌, vec_len, vec_capacity};
-    ghost use Rattle.te_io.specs.InMemory.{Shelf};
+    ghost use Rattle.te_io.specs.InMemory.{SteadySinkState};
 
-    ghost Value = { Shelf };
+    ghost Value = { SteadySinkState };
 
     ghost view = { λ sink. record {
-        held = sink.bytes.items;
-        room = sink.room;
-        faults = sink.faults
+      held = sink.bytes.items;
+      room = sink.room;
+      faults = sink.faults;
     } };
 
     ghost invariant = { λ sink. (vec_len sink.bytes ≤ sink.room) × (sink.room ≤ vec_capacity sink.bytes) };

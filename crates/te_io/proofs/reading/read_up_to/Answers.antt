@@ -6,7 +6,7 @@ use Rattle.te_io.proofs.reading.read_up_to.Goals as goal
 
 -- at a read of no byte the source is at its end
 at_end : (g : _) (c : goal.After-from g)
-  → GaveAll (g.S.Source.bytes_left c.args.source.now) (g.S.Source.bytes_left c.read.new.self) c.pieces.bytes.items
+    → GaveAll (g.S.Source.bytes_left c.args.source.now) (g.S.Source.bytes_left c.read.new.self) c.pieces.bytes.items
 at_end g c =
     let has_room : 0 < length c.read.new.into = omega (arith, length-take {A = ℕ}) in
     let nothing = c.in_ok-count.ensures.end c.if-count-eq0.true has_room in
@@ -29,7 +29,7 @@ pub pieces-preserved : goal.pieces-preserved
 pieces-preserved g c =
     let fits : c.in_ok-count.count ≤ length c.read.new.into = c.in_ok-count.ensures.bound in
     let room : length c.pieces.bytes.items + c.in_ok-count.count ≤ c.args.most + 1 =
-        omega (arith, length-take {A = ℕ}) in
+    omega (arith, length-take {A = ℕ}) in
     let read = piece_read c.in_ok-count.count c.read.new.into c.pieces.invariant.0 fits room c.in_ok-count.ensures.gave in
     (rw (c.in_ok-extend_from_slice.ensures.items, take-append-le) read, omega arith)
 
@@ -38,7 +38,7 @@ pub returns-in_err-extend_from_slice-clause-rest :
 returns-in_err-extend_from_slice-clause-rest g c =
     let fits : c.in_ok-count.count ≤ length c.read.new.into = c.in_ok-count.ensures.bound in
     let room : length c.pieces.bytes.items + c.in_ok-count.count ≤ c.args.most + 1 =
-        omega (arith, length-take {A = ℕ}) in
+    omega (arith, length-take {A = ℕ}) in
     rest_left_after c.in_ok-count.count c.pieces.invariant.0 room c.in_ok-count.ensures.gave
 
 pub returns-clause-first : goal.returns-clause-first

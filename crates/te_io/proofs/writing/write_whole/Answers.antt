@@ -9,6 +9,7 @@ returns-in_err-taken-clause-err g c =
     rw failed.1 (prefix_written c.pieces.invariant.0 c.in_err-taken.ensures.err)
 
 pub pieces-preserved : goal.pieces-preserved
-pieces-preserved g c =
-    (piece_written c.in_ok-taken.taken c.pieces.invariant.0 c.in_ok-taken.ensures.bound c.in_ok-taken.ensures.ok,
-        omega arith)
+pieces-preserved g c = (
+  piece_written c.in_ok-taken.taken c.pieces.invariant.0 c.in_ok-taken.ensures.bound c.in_ok-taken.ensures.ok,
+  omega arith,
+)

@@ -1,4 +1,4 @@
-use Rattle.std.proofs.Common.{◌≤◌, ℕ, length}
+use Rattle.std.proofs.Common.{◌≤◌, length}
 use Rattle.te_io.proofs.PiecesWritten.{IsWritten}
 use Rattle.te_io.proofs.writing.write_whole.Given as goal
 
