@@ -1,6 +1,7 @@
 -- What an event code keeps beside its nodes. No public clause cites this module.
 use Rattle.std.specs.Prelude.{◌≡◌, ◌↔◌, ℕ, ◌<◌, List, [], ◌∷◌, length, Option, Some, None, slice_index_or, IsTrue}
 use Rattle.te_terms.specs.declared.code.Node.{Node}
+use Rattle.te_terms.specs.declared.code.Node.TheVariants as nodes
 use Rattle.te_terms.specs.declared.code.Mark.{Mark}
 use Rattle.te_terms.specs.Codes.{term_under}
 use Rattle.te_terms.specs.Shape.{height, weight, times_named, IsForest}
@@ -20,3 +21,14 @@ pub record IsKept (code : List Node) (marks : List Mark) : Type 0 where
 abbrev pub listed : Option (ℕ × ℕ) → List ℕ
 listed None = []
 listed (Some p) = p.0 ∷ p.1 ∷ []
+
+-- what a node itself adds to the weight of its term
+abbrev pub own_weight : Node → ℕ
+own_weight (nodes.Send p e) = 1
+own_weight (nodes.Recv p) = 1
+own_weight (nodes.Choose a b) = 1
+own_weight _ = 0
+
+-- an earlier number that has no parent yet
+abbrev pub IsFree : List Node → ℕ → Type 0
+IsFree code i = (i < length code) × (times_named i code ≡ 0)

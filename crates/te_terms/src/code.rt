@@ -1,8 +1,8 @@
-ghost use Rattle.std.specs.Prelude.{◌≡◌, ◌↔◌, ◌<◌, ◌≤◌, ℕ, List, [], ◌∷◌, ◌++◌, length, slice_get, IfOk, OnErr, IfSome, IsTrue, Err};
+ghost use Rattle.std.specs.Prelude.{◌≡◌, ◌≢◌, ◌↔◌, ◌<◌, ◌≤◌, ℕ, List, [], ◌∷◌, ◌++◌, length, slice_get, IfOk, OnErr, IfSome, IsTrue, Err};
 ghost use Rattle.te_terms.specs.declared.code.Node.{Node};
 ghost use Rattle.te_terms.specs.declared.code.CodeFault.TheVariants as faults;
 ghost use Rattle.te_terms.specs.Shape.{children, height, weight, times_named, NamesEarlier, IsForest, HasFreeChildren, term_over};
-ghost use Rattle.te_terms.specs.Kept.{Tells, IsKept, listed};
+ghost use Rattle.te_terms.specs.Kept.{Tells, IsKept, IsFree, listed, own_weight};
 
 use crate::expr::{Cond, Expr, Operand};
 use std::alloc::Global;
@@ -37,6 +37,15 @@ impl Node {
         match self {
             Node::Then(a, b) | Node::Choose(a, b) | Node::Catch(a, b) | Node::If(_, a, b) => Some((*a, *b)),
             Node::Always(_) | Node::Never | Node::Throw(_) | Node::Send(_, _) | Node::Recv(_) => None,
+        }
+    }
+
+    fn own_weight(&self) -> u32
+        ensures { result ≡ own_weight self.now }
+    {
+        match self {
+            Node::Choose(_, _) | Node::Send(_, _) | Node::Recv(_) => 1,
+            _ => 0,
         }
     }
 }
@@ -110,11 +119,55 @@ impl EventCode {
     }
 
     fn is_free(&self, i: u32) -> bool
-        ensures { IsTrue result ↔ ((i < length self.now) × (times_named i self.now ≡ 0)) }
+        ensures { IsTrue result ↔ IsFree self.now i }
     {
         match self.marks.get(i as usize) {
             Some(mark) => !mark.is_child,
             None => false,
+        }
+    }
+
+    fn are_free(&self, a: u32, b: u32) -> bool
+        ensures { IsTrue result ↔ ((a ≢ b) × IsFree self.now a × IsFree self.now b) }
+    {
+        a != b && self.is_free(a) && self.is_free(b)
+    }
+
+    fn takes_children(&self, node: &Node) -> bool
+        ensures { IsTrue result ↔ HasFreeChildren self.now node.now }
+    {
+        match node.children() {
+            None => true,
+            Some((a, b)) => self.are_free(a, b),
+        }
+    }
+
+    fn mark(&self, i: u32) -> Mark
+        requires { i < length self.now }
+        ensures tells { Tells self.now i result }
+        ensures low { result.height ≤ 32 }
+    {
+        self.marks[i as usize]
+    }
+
+    fn height_over(&self, node: &Node) -> u32
+        requires { HasFreeChildren self.now node.now }
+        ensures { result ≡ height (term_over self.now node.now) }
+    {
+        match node.children() {
+            None => 1,
+            Some((a, b)) => 1 + self.mark(a).height.max(self.mark(b).height),
+        }
+    }
+
+    fn weight_over(&self, node: &Node) -> u32
+        requires free { HasFreeChildren self.now node.now }
+        requires low { height (term_over self.now node.now) ≤ 32 }
+        ensures { result ≡ weight (term_over self.now node.now) }
+    {
+        match node.children() {
+            None => node.own_weight(),
+            Some((a, b)) => node.own_weight() + (self.mark(a).weight + self.mark(b).weight),
         }
     }
 }
