@@ -1,2 +1,5 @@
 pub mod PaddingLemmas
 pub mod Evaluating
+pub mod TermLemmas
+pub mod ChildLemmas
+pub mod SizeLemmas

@@ -6,3 +6,5 @@ pub mod Steps
 pub mod Joint
 pub mod Codes
 pub mod Stored
+pub mod Shape
+pub mod Kept

@@ -1,40 +1,173 @@
+ghost use Rattle.std.specs.Prelude.{◌≡◌, ◌≢◌, ◌↔◌, ◌<◌, ◌≤◌, ℕ, List, [], ◌∷◌, ◌++◌, length, slice_get, IfOk, OnErr, IfSome, IsTrue, Err};
+ghost use Rattle.te_terms.specs.declared.code.Node.{Node};
+ghost use Rattle.te_terms.specs.declared.code.CodeFault.TheVariants as faults;
+ghost use Rattle.te_terms.specs.Shape.{children, height, weight, times_named, NamesEarlier, IsForest, HasFreeChildren, term_over};
+ghost use Rattle.te_terms.specs.Kept.{Tells, IsKept, IsFree, listed, own_weight};
+
 use crate::expr::{Cond, Expr, Operand};
+use std::alloc::Global;
 use std::marker::Model;
 
 /// One node of an event, with its children by their numbers.
-#[derive(Clone, Copy)]
+#[derive(Clone, Copy, Debug, PartialEq, Eq)]
 pub enum Node {
+    /// Gives the expression's value.
     Always(Expr),
     Never,
+    /// Raises the expression's value.
     Throw(Expr),
+    /// Sends the expression's value on the channel that the primitive names.
     Send(Operand, Expr),
+    /// Receives on the channel that the primitive names.
     Recv(Operand),
+    /// The first part, and then the second, one level up, with what the first gave.
     Then(u32, u32),
+    /// One of two parts.
     Choose(u32, u32),
+    /// The first part; where it raises, then the second, one level up, with what was raised.
     Catch(u32, u32),
+    /// The first part where the condition holds, else the second.
     If(Cond, u32, u32),
+}
+
+impl Node {
+    fn children(&self) -> Option<(u32, u32)>
+        ensures { listed result ≡ children self.now }
+    {
+        match self {
+            Node::Then(a, b) | Node::Choose(a, b) | Node::Catch(a, b) | Node::If(_, a, b) => Some((*a, *b)),
+            Node::Always(_) | Node::Never | Node::Throw(_) | Node::Send(_, _) | Node::Recv(_) => None,
+        }
+    }
+
+    fn own_weight(&self) -> u32
+        ensures { result ≡ own_weight self.now }
+    {
+        match self {
+            Node::Choose(_, _) | Node::Send(_, _) | Node::Recv(_) => 1,
+            _ => 0,
+        }
+    }
 }
 
 /// Why a node wasn't taken.
 #[derive(Clone, Copy, Debug, PartialEq, Eq)]
 pub enum CodeFault {
+    /// A child is no earlier node, has a parent already, or is named twice.
     Child,
+    /// There are 4,096 nodes.
     Full,
+    /// The node's height would pass 32; a leaf has height 1.
     Depth,
+    /// There was no memory.
     Memory,
 }
 
-/// The nodes of events, seen as the list of them.
+// What is kept of a node: the height and the weight of the term under it, and whether it has a parent.
+#[derive(Clone, Copy)]
+struct Mark {
+    height: u32,
+    weight: u32,
+    is_child: bool,
+}
+
+/// The nodes of events, seen as the list of them. Children are earlier nodes, each the child of at most
+/// one; heights are at most 32, and there are at most 4,096 nodes. The limits are this project's own.
 #[derive(Drop)]
 pub struct EventCode {
     nodes: Vec<Node>,
+    marks: Vec<Mark>,
 }
 
 impl Model for EventCode {
     ghost use Rattle.std.specs.Prelude.{List};
     ghost use Rattle.te_terms.specs.declared.code.Node.{Node};
+    ghost use Rattle.te_terms.specs.Kept.{IsKept};
 
     ghost Value = { List Node };
 
     ghost view = { λ c. c.nodes.items };
+
+    ghost invariant = { λ c. IsKept c.nodes.items c.marks.items };
+}
+
+impl EventCode {
+    /// The code without a node. It takes no memory.
+    pub fn new(alloc: Global) -> EventCode
+        ensures { result ≡ [] }
+    {
+        EventCode {
+            nodes: Vec::new(alloc),
+            marks: Vec::new(alloc),
+        }
+    }
+
+    /// The number of nodes.
+    pub fn len(&self) -> u32
+        ensures value { result ≡ length self.now }
+        ensures forest { IsForest self.now }
+    {
+        self.nodes.len() as u32
+    }
+
+    /// Node `i`, from 0; `None` exactly where there is no such node.
+    pub fn node(&self, i: u32) -> Option<Node>
+        ensures value { result ≡ slice_get self.now i }
+        ensures earlier { IfSome result (λ node. NamesEarlier i node) }
+    {
+        self.nodes.get(i as usize).copied()
+    }
+
+    fn is_free(&self, i: u32) -> bool
+        ensures { IsTrue result ↔ IsFree self.now i }
+    {
+        match self.marks.get(i as usize) {
+            Some(mark) => !mark.is_child,
+            None => false,
+        }
+    }
+
+    fn are_free(&self, a: u32, b: u32) -> bool
+        ensures { IsTrue result ↔ ((a ≢ b) × IsFree self.now a × IsFree self.now b) }
+    {
+        a != b && self.is_free(a) && self.is_free(b)
+    }
+
+    fn takes_children(&self, node: &Node) -> bool
+        ensures { IsTrue result ↔ HasFreeChildren self.now node.now }
+    {
+        match node.children() {
+            None => true,
+            Some((a, b)) => self.are_free(a, b),
+        }
+    }
+
+    fn mark(&self, i: u32) -> Mark
+        requires { i < length self.now }
+        ensures tells { Tells self.now i result }
+        ensures low { result.height ≤ 32 }
+    {
+        self.marks[i as usize]
+    }
+
+    fn height_over(&self, node: &Node) -> u32
+        requires { HasFreeChildren self.now node.now }
+        ensures { result ≡ height (term_over self.now node.now) }
+    {
+        match node.children() {
+            None => 1,
+            Some((a, b)) => 1 + self.mark(a).height.max(self.mark(b).height),
+        }
+    }
+
+    fn weight_over(&self, node: &Node) -> u32
+        requires free { HasFreeChildren self.now node.now }
+        requires low { height (term_over self.now node.now) ≤ 32 }
+        ensures { result ≡ weight (term_over self.now node.now) }
+    {
+        match node.children() {
+            None => node.own_weight(),
+            Some((a, b)) => node.own_weight() + (self.mark(a).weight + self.mark(b).weight),
+        }
+    }
 }

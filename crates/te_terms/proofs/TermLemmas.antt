@@ -1,0 +1,58 @@
+-- The term under a node: how it unfolds, and what later nodes and the level leave of it.
+use Rattle.std.proofs.Common.{◌≡◌, ℕ, zero, suc, ◌+◌, ◌*◌, ◌^◌, ◌<◌, ◌≤◌, max, List, [], ◌∷◌, ◌++◌, length, Option, Some, None, refl, sym, ap, ◌∙◌, subst, lit<, one-add, arith}
+use Rattle.std.specs.Prelude.{slice_get}
+use Rattle.std.proofs.lemmas.Option.{slice_get_within}
+use Rattle.te_terms.specs.declared.code.Node.{Node}
+use Rattle.te_terms.specs.declared.code.Node.TheVariants as nodes
+use Rattle.te_terms.specs.Terms.{Term, always, never, throw, send, recv, and_then, choose, catch, when}
+use Rattle.te_terms.specs.Codes.{over, term_within, term_at, term_under, primitive_of, expression_of}
+use Rattle.te_terms.specs.Shape.{height, weight, children, NamesEarlier, IsForest, term_over}
+
+-- each node names earlier ones
+abbrev pub IsEarlier : List Node → Type 0
+IsEarlier code = (i : ℕ) (node : Node) → slice_get code i ≡ Some node → NamesEarlier i node
+
+-- the term of a node depends on those under its children alone
+over_same : (f g : ℕ → ℕ → Term) (level i : ℕ) (node : Node) → NamesEarlier i node → ((l c : ℕ) → c < i → f l c ≡ g l c) → over f level (Some node) ≡ over g level (Some node)
+over_same f g level i (nodes.Always e) h same = refl
+over_same f g level i nodes.Never h same = refl
+over_same f g level i (nodes.Throw e) h same = refl
+over_same f g level i (nodes.Send p e) h same = refl
+over_same f g level i (nodes.Recv p) h same = refl
+over_same f g level i (nodes.Then a b) h same = rw (same level a h.0, same (suc level) b h.1.0) refl
+over_same f g level i (nodes.Choose a b) h same = rw (same level a h.0, same level b h.1.0) refl
+over_same f g level i (nodes.Catch a b) h same = rw (same level a h.0, same (suc level) b h.1.0) refl
+over_same f g level i (nodes.If c a b) h same = rw (same level a h.0, same level b h.1.0) refl
+
+over_option : (f g : ℕ → ℕ → Term) (level i : ℕ) (o : Option Node) → ((node : Node) → o ≡ Some node → NamesEarlier i node) → ((l c : ℕ) → c < i → f l c ≡ g l c) → over f level o ≡ over g level o
+over_option f g level i None h same = refl
+over_option f g level i (Some node) h same = over_same f g level i node (h node refl) same
+
+-- the rounds don't matter where there are enough of them
+within_same : (code : List Node) → IsEarlier code → (n m level i : ℕ) → i < n → i < m → term_within n code level i ≡ term_within m code level i
+within_same code earlier zero m level i h k = absurd (omega arith)
+within_same code earlier (suc n) zero level i h k = absurd (omega arith)
+within_same code earlier (suc n) (suc m) level i h k =
+    over_option (term_within n code) (term_within m code) level i (slice_get code i) (earlier i)
+      (λ l c less. within_same code earlier n m l c (omega arith) (omega arith))
+
+-- a node's term is over those under its children
+pub term_at_is : (code : List Node) → IsEarlier code → (level i : ℕ) → term_at code level i ≡ over (term_at code) level (slice_get code i)
+term_at_is code earlier level i =
+    over_option (term_within i code) (term_at code) level i (slice_get code i) (earlier i)
+      (λ l c less. within_same code earlier i (suc c) l c less (omega arith))
+
+slice_get_front : {A : Type 0} (xs ys : List A) (i : ℕ) → i < length xs → slice_get (xs ++ ys) i ≡ slice_get xs i
+slice_get_front [] ys i h = absurd (omega arith)
+slice_get_front (x ∷ xs) ys zero h = refl
+slice_get_front (x ∷ xs) ys (suc i) h = slice_get_front xs ys i (omega arith)
+
+-- nodes that are appended leave the terms as they are
+within_append : (code more : List Node) → IsEarlier code → (n level i : ℕ) → i < length code → term_within n (code ++ more) level i ≡ term_within n code level i
+within_append code more earlier zero level i h = refl
+within_append code more earlier (suc n) level i h =
+    rw (slice_get_front code more i h) (over_option (term_within n (code ++ more)) (term_within n code) level i (slice_get code i) (earlier i)
+      (λ l c less. within_append code more earlier n l c (omega arith)))
+
+pub term_at-append : (code more : List Node) → IsEarlier code → (level i : ℕ) → i < length code → term_at (code ++ more) level i ≡ term_at code level i
+term_at-append code more earlier level i h = within_append code more earlier (suc i) level i h
