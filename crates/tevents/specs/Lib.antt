@@ -5,3 +5,4 @@ pub mod Follows
 pub mod OfScript
 pub mod Report
 pub mod Rounds
+pub mod Boards

@@ -1,8 +1,10 @@
 //! The program `tevents`: runs the threads of a script and writes what they did.
 #![tactic(auto)]
 
+mod board;
 mod cert;
 mod history;
+mod kind;
 mod report;
 
 fn main() {}
