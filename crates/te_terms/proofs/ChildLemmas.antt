@@ -9,7 +9,7 @@ use Rattle.te_terms.specs.declared.code.Node.TheVariants as nodes
 use Rattle.te_terms.specs.Terms.{Term}
 use Rattle.te_terms.specs.Codes.{over}
 use Rattle.te_terms.specs.Shape.{height, weight, children, times_in, times_named, NamesEarlier, IsForest, HasFreeChildren, term_over}
-use Rattle.te_terms.specs.Kept.{IsFree}
+use Rattle.te_terms.specs.Kept.{IsFree, listed}
 
 times_two : (c a b : ℕ) (cs : List ℕ) → cs ≡ a ∷ b ∷ [] → count_by (λ x. x == c) cs ≡ cond (eqb a c) 1 0 + cond (eqb b c) 1 0
 times_two c a b cs e = rw (e, zero-add) refl
@@ -69,3 +69,10 @@ second_free code node a b e free =
     | inr (inr (inl right)) ↦ let at = free b (omega arith) in (at.0, omega (arith, times_named_push b code node, at.1))
     | inr (inr (inr neither)) ↦ absurd (neither.1 refl)
     ]
+
+-- free children are nodes
+pub free_within : (code : List Node) (node : Node) (two : Option (ℕ × ℕ)) → HasFreeChildren code node → listed two ≡ children node →
+    (x : ℕ × ℕ) → two ≡ Some x → (x.0 < length code) × (x.1 < length code)
+free_within code node two free e x some =
+    let are : children node ≡ x.0 ∷ x.1 ∷ [] = sym e ∙ ap listed some in
+    ((first_free code node x.0 x.1 are free).0, (second_free code node x.0 x.1 are free).0)

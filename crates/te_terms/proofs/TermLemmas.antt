@@ -42,10 +42,14 @@ term_at_is code earlier level i =
     over_option (term_within i code) (term_at code) level i (slice_get code i) (earlier i)
       (λ l c less. within_same code earlier i (suc c) l c less (omega arith))
 
-slice_get_front : {A : Type 0} (xs ys : List A) (i : ℕ) → i < length xs → slice_get (xs ++ ys) i ≡ slice_get xs i
+pub slice_get_front : {A : Type 0} (xs ys : List A) (i : ℕ) → i < length xs → slice_get (xs ++ ys) i ≡ slice_get xs i
 slice_get_front [] ys i h = absurd (omega arith)
 slice_get_front (x ∷ xs) ys zero h = refl
 slice_get_front (x ∷ xs) ys (suc i) h = slice_get_front xs ys i (omega arith)
+
+pub slice_get_seam : {A : Type 0} (xs : List A) (y : A) (ys : List A) → slice_get (xs ++ y ∷ ys) (length xs) ≡ Some y
+slice_get_seam [] y ys = refl
+slice_get_seam (x ∷ xs) y ys = slice_get_seam xs y ys
 
 -- nodes that are appended leave the terms as they are
 within_append : (code more : List Node) → IsEarlier code → (n level i : ℕ) → i < length code → term_within n (code ++ more) level i ≡ term_within n code level i
@@ -56,3 +60,10 @@ within_append code more earlier (suc n) level i h =
 
 pub term_at-append : (code more : List Node) → IsEarlier code → (level i : ℕ) → i < length code → term_at (code ++ more) level i ≡ term_at code level i
 term_at-append code more earlier level i h = within_append code more earlier (suc i) level i h
+
+-- the term of an appended node
+pub term_at_new : (code : List Node) (node : Node) → IsEarlier code → NamesEarlier (length code) node → (level : ℕ) →
+    term_at (code ++ node ∷ []) level (length code) ≡ over (term_at code) level (Some node)
+term_at_new code node earlier names level =
+    rw (slice_get_seam code node []) (over_same (term_within (length code) (code ++ node ∷ [])) (term_at code) level (length code) node names
+      (λ l c less. within_append code (node ∷ []) earlier (length code) l c less ∙ within_same code earlier (length code) (suc c) l c less (omega arith)))
