@@ -1,5 +1,5 @@
 -- What the marks say after children have got their parent.
-use Rattle.std.proofs.Common.{◌≡◌, ◌≢◌, ◌↔◌, ◌⊎◌, inl, inr, ℕ, zero, suc, ◌+◌, ◌<◌, ◌≤◌, Bool, true, false, cond, eqb, List, [], ◌∷◌, ◌++◌, length, set, get_or, IsTrue, refl, sym, ap, ◌∙◌, subst, arith}
+use Rattle.std.proofs.Common.{◌≡◌, ◌≢◌, ◌↔◌, ◌⊎◌, inl, inr, ℕ, zero, suc, ◌+◌, ◌<◌, true, cond, eqb, List, [], ◌∷◌, length, set, get_or, IsTrue, refl, sym, ap, ◌∙◌, subst, arith}
 use Rattle.std.specs.Prelude.{◌==◌}
 use Rattle.std.specs.List.{count_by, AllByRecursion}
 use Rattle.std.proofs.lemmas.List.Sums.{sum_by-cons}
@@ -64,10 +64,10 @@ listed_more c j cs = sum_by-cons (λ x. cond (x == j) 1 0) c cs
 after_one : (c j : ℕ) (ms : List Mark) (d : Mark) → c < length ms → IsTrue (get_or (adopt c ms) j d).is_child ↔ (IsTrue (get_or ms j d).is_child ⊎ (c ≡ j))
 after_one c j ms d h =
     elim (cases_eq c j) [
-      inl same ↦ (λ p. inr same, λ p. subst (λ k. (get_or (adopt c ms) k d).is_child ≡ true) same (is_child_then c ms d h))
-    | inr other ↦
-        let stays : (get_or (adopt c ms) j d).is_child ≡ (get_or ms j d).is_child = ap (λ m. m.is_child) (others_stay c ms j d other) in
-        (λ p. inl (sym stays ∙ p), λ p. elim p [ inl q ↦ stays ∙ q | inr same ↦ absurd (other same) ])
+      | inl same ↦ (λ p. inr same, λ p. subst (λ k. (get_or (adopt c ms) k d).is_child ≡ true) same (is_child_then c ms d h))
+      | inr other ↦
+          let stays : (get_or (adopt c ms) j d).is_child ≡ (get_or ms j d).is_child = ap (λ m. m.is_child) (others_stay c ms j d other) in
+          (λ p. inl (sym stays ∙ p), λ p. elim p [ inl q ↦ stays ∙ q | inr same ↦ absurd (other same) ])
     ]
 
 -- who has a parent then: who had one, and who is listed
@@ -78,15 +78,16 @@ is_child-adopted (c ∷ cs) ms j d h =
     let within : AllByRecursion (λ x. x < length (adopt c ms)) cs = subst (λ n. AllByRecursion (λ x. x < n) cs) (sym (length-adopt c ms)) h.1 in
     let then_on = is_child-adopted cs (adopt c ms) j d within in
     let one = after_one c j ms d h.0 in
-    let count = listed_more c j cs in
-    (λ p. elim (then_on.0 p) [
-       inl q ↦ elim (one.0 q) [ inl old ↦ inl old | inr same ↦ inr (grind (arith, nat_tests, count, same)) ]
-     | inr more ↦ inr (omega (arith, count, more))
-     ],
-     λ p. then_on.1 elim p [
-       inl old ↦ inl (one.1 (inl old))
-     | inr some ↦ elim (cases_eq c j) [ inl same ↦ inl (one.1 (inr same)) | inr other ↦ inr (grind (arith, nat_tests, count, some, other)) ]
-     ])
+    let count = listed_more c j cs in (
+      λ p. elim (then_on.0 p) [
+        | inl q ↦ elim (one.0 q) [ inl old ↦ inl old | inr same ↦ inr (grind (arith, nat_tests, count, same)) ]
+        | inr more ↦ inr (omega (arith, count, more))
+      ],
+      λ p. then_on.1 elim p [
+        | inl old ↦ inl (one.1 (inl old))
+        | inr some ↦ elim (cases_eq c j) [ inl same ↦ inl (one.1 (inr same)) | inr other ↦ inr (grind (arith, nat_tests, count, some, other)) ]
+      ],
+    )
 
 -- a write to the mark of a child
 adopt_at : (i : ℕ) (ms : List Mark) (m : Mark) → m ≡ get_or ms i m → i < length ms → set ms i (as_child m) ≡ adopt i ms

@@ -1,5 +1,5 @@
 -- Expressions whose variables may be replaced by values, and what they come to. The rules are this project's own.
-use Rattle.std.specs.Prelude.{ℕ, Bool, true, false, List, [], ◌∷◌, ℤ, int_lt, Result, Ok, Err, map, slice_get, if◌then◌else◌}
+use Rattle.std.specs.Prelude.{ℕ, Bool, List, [], ◌∷◌, ℤ, int_lt, Result, Ok, Err, map, slice_get, if◌then◌else◌}
 use Rattle.std.specs.Option.{ok_or}
 use Rattle.te_terms.specs.declared.value.Atom.{Atom}
 use Rattle.te_terms.specs.declared.value.Atom.TheVariants.{Int, Chan}

@@ -7,7 +7,7 @@ use Rattle.te_terms.specs.declared.value.Trap.{Trap}
 use Rattle.te_terms.specs.declared.event.Outcome.{Outcome}
 use Rattle.te_terms.specs.declared.event.Parked.{Parked}
 use Rattle.te_terms.specs.Expressions.{value_of, channel_value}
-use Rattle.te_terms.specs.Terms.{Term, always, never, throw, send, recv, and_then, choose, catch, when}
+use Rattle.te_terms.specs.Terms.{Term, send, recv, choose}
 use Rattle.te_terms.specs.Steps.{Member, giving, quiet_step, outcome_of, head, with_head}
 
 -- a choice of a thread, true for the left; or a meeting of a sending and a receiving thread

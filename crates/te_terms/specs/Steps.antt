@@ -1,6 +1,6 @@
 -- Quiet steps, heads and endings of terms.
 -- `then`, `choose`, `send` and `recv` after Donnelly and Fluet, Transactional Events, JFP 18(5-6), 2008; traps, throw, catch and if are this project's own.
-use Rattle.std.specs.Prelude.{◌≡◌, ℕ, Bool, true, false, List, [], Option, Some, None, Result, Ok, Err, IsSome}
+use Rattle.std.specs.Prelude.{◌≡◌, ℕ, Bool, true, false, List, Option, Some, None, Result, Ok, Err, IsSome}
 use Rattle.std.specs.Option.{option_map}
 use Rattle.te_terms.specs.declared.value.Atom.{Atom}
 use Rattle.te_terms.specs.declared.value.Trap.{Trap}
@@ -8,7 +8,7 @@ use Rattle.te_terms.specs.declared.value.Trap.TheVariants.{Kind}
 use Rattle.te_terms.specs.declared.event.Outcome.{Outcome}
 use Rattle.te_terms.specs.declared.event.Outcome.TheVariants.{Gives, Raises}
 use Rattle.te_terms.specs.Values.{trap_value}
-use Rattle.te_terms.specs.Expressions.{known, Expression, whole, value_of, channel_value, test_value}
+use Rattle.te_terms.specs.Expressions.{known, whole, value_of, channel_value, test_value}
 use Rattle.te_terms.specs.Terms.{Term, always, never, throw, send, recv, and_then, choose, catch, when, bound}
 
 -- a thread and the term that it has come to

@@ -1,7 +1,7 @@
 -- Terms in a stored form, by which a proof tells two of them apart.
-use Rattle.std.specs.Prelude.{◌≡◌, ℕ, Bool, true, false, List, ℤ, refl}
+use Rattle.std.specs.Prelude.{◌≡◌, List, refl}
 use Rattle.std.proofs.Common.{ap}
-use Rattle.std.specs.Coded.{Coded, coded×, coded⊎, coded_ℕ, coded_ℤ, coded_list, coded_option}
+use Rattle.std.specs.Coded.{Coded, coded_ℤ, coded_list}
 use base.Stored.{Gv, gnil, gnum, gcons}
 use Rattle.te_terms.specs.declared.value.Atom.{Atom}
 use Rattle.te_terms.specs.contracts.value.Atom as atom

@@ -1,6 +1,6 @@
 -- Events as terms, and the replacing of their variables.
 -- Forms and binding after Donnelly and Fluet, Transactional Events, JFP 18(5-6), 2008, made first order; throw, catch and if are this project's own.
-use Rattle.std.specs.Prelude.{ℕ, ◌+◌, List, ◌==◌, Some, None, Option, slice_get, if◌then◌else◌}
+use Rattle.std.specs.Prelude.{ℕ, List, ◌==◌, Some, None, Option, slice_get, if◌then◌else◌}
 use Rattle.te_terms.specs.declared.value.Atom.{Atom}
 use Rattle.te_terms.specs.declared.expr.Test.{Test}
 use Rattle.te_terms.specs.Expressions.{Variable, register, name, known, Primitive, Expression, in_primitive, in_expression}

@@ -1,5 +1,5 @@
 -- Atoms, and the values that traps raise. A value is the list of its atoms.
-use Rattle.std.specs.Prelude.{ℕ, Bool, false, ◌==◌, List, [], ◌∷◌, ℤ, negsuc, ◌+ℤ◌, ◌-ℤ◌, ◌*ℤ◌, int_le, pos, ◌^◌, ◌&&◌, int_lt}
+use Rattle.std.specs.Prelude.{Bool, false, ◌==◌, List, [], ◌∷◌, ℤ, negsuc, ◌+ℤ◌, ◌-ℤ◌, ◌*ℤ◌, int_le, pos, ◌&&◌, int_lt}
 use Rattle.std.specs.Ordering.{int_eq}
 use Rattle.te_terms.specs.declared.value.Atom.{Atom}
 use Rattle.te_terms.specs.declared.value.Atom.TheVariants.{Int, Chan}

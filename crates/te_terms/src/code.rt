@@ -37,8 +37,11 @@ impl Node {
         ensures { listed result ≡ children self.now }
     {
         match self {
-            Node::Then(a, b) | Node::Choose(a, b) | Node::Catch(a, b) | Node::If(_, a, b) => Some((*a, *b)),
-            Node::Always(_) | Node::Never | Node::Throw(_) | Node::Send(_, _) | Node::Recv(_) => None,
+            Node::Then(a, b) | Node::Choose(a, b) | Node::Catch(a, b) | Node::If(_, a, b) => Some((
+                *a, *b,
+            )),
+            Node::Always(_) | Node::Never | Node::Throw(_) | Node::Send(_, _) | Node::Recv(_) =>
+                None,
         }
     }
 

@@ -1,4 +1,4 @@
-use Rattle.std.proofs.Common.{◌≡◌, ℕ, Result, IfErr, subst, arith, refl, ap, length, ◌≤◌, ◌<◌, ◌∙◌, sym}
+use Rattle.std.proofs.Common.{◌≡◌, ℕ, Result, IfErr, subst, arith, refl, ap, length}
 use Rattle.te_terms.specs.declared.code.CodeFault.{CodeFault}
 use Rattle.te_terms.specs.declared.code.CodeFault.TheVariants as faults
 use Rattle.te_terms.proofs.code.EventCode.push.Goals as goal
@@ -25,6 +25,7 @@ pub append-requires-clause-free : goal.append-requires-clause-free
 append-requires-clause-free c = c.takes_children.ensures.0 c.if-not-takes_children.false
 
 pub returns-clause-child : goal.returns-clause-child
-returns-clause-child c =
-    (λ e free. let P : Result ℕ CodeFault → Type 0 = λ r. IfErr r (λ f. f ≡ faults.Memory) in let other : faults.Child ≡ faults.Memory = subst P e c.append.ensures.memory in absurd cc,
-     λ no. absurd (no (c.takes_children.ensures.0 c.if-not-takes_children.false)))
+returns-clause-child c = (
+  λ e free. let P : Result ℕ CodeFault → Type 0 = λ r. IfErr r (λ f. f ≡ faults.Memory) in let other : faults.Child ≡ faults.Memory = subst P e c.append.ensures.memory in absurd cc,
+  λ no. absurd (no (c.takes_children.ensures.0 c.if-not-takes_children.false)),
+)
