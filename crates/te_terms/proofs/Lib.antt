@@ -5,3 +5,4 @@ pub mod ChildLemmas
 pub mod SizeLemmas
 pub mod AdoptLemmas
 pub mod KeptLemmas
+pub mod SameLemmas

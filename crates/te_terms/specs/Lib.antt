@@ -9,3 +9,4 @@ pub mod Stored
 pub mod Shape
 pub mod Kept
 pub mod Made
+pub mod Sameness
