@@ -6,3 +6,4 @@ pub mod SizeLemmas
 pub mod AdoptLemmas
 pub mod KeptLemmas
 pub mod SameLemmas
+pub mod CompareLemmas

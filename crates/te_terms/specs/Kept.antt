@@ -1,10 +1,11 @@
 -- What an event code keeps beside its nodes. No public clause cites this module.
-use Rattle.std.specs.Prelude.{◌≡◌, ◌↔◌, ℕ, zero, suc, ◌<◌, true, false, List, [], ◌∷◌, length, Option, Some, None, slice_index_or, IsTrue}
+use Rattle.std.specs.Prelude.{Bool, ◌≡◌, ◌↔◌, ℕ, zero, suc, ◌<◌, true, false, List, [], ◌∷◌, length, Option, Some, None, slice_index_or, IsTrue}
+use Rattle.te_terms.specs.declared.value.Atom.{Atom}
 use Rattle.te_terms.specs.declared.code.Node.{Node}
 use Rattle.te_terms.specs.declared.code.Node.TheVariants as nodes
 use Rattle.te_terms.specs.declared.code.Mark.{Mark}
-use Rattle.te_terms.specs.Terms.{Term, always, never, throw, send, recv, and_then, choose, catch, when}
-use Rattle.te_terms.specs.Codes.{term_under, primitive_of, expression_of}
+use Rattle.te_terms.specs.Terms.{Term, always, never, throw, send, recv, and_then, choose, catch, when, replaced, registers_to}
+use Rattle.te_terms.specs.Codes.{term_at, term_under, primitive_of, expression_of}
 use Rattle.te_terms.specs.Shape.{height, weight, times_named, IsForest, term_over}
 
 -- the mark of node i
@@ -74,3 +75,7 @@ formed (nodes.Then a b) level e f = and_then e level f
 formed (nodes.Choose a b) level e f = choose e f
 formed (nodes.Catch a b) level e f = catch e level f
 formed (nodes.If c a b) level e f = when c.test (primitive_of c.left) (primitive_of c.right) e f
+
+-- the test tells whether the terms under two nodes are the same, at each level
+pub record Compares (test : Bool) (code : List Node) (i : ℕ) (regs : List (List Atom)) (other : List Node) (j : ℕ) (others : List (List Atom)) : Type 0 where
+  pub at : (level : ℕ) → IsTrue test ↔ (replaced (registers_to regs) (term_at code level i) ≡ replaced (registers_to others) (term_at other level j))

@@ -5,7 +5,7 @@ ghost use Rattle.std.specs.Option.{option_copied};
 ghost use Rattle.te_terms.specs.Expressions.{known, in_primitive, in_calculation, in_expression};
 ghost use Rattle.te_terms.specs.Terms.{never, replaced, registers_to};
 ghost use Rattle.te_terms.specs.Codes.{variable_of, primitive_of, calculation_of, expression_of, term_at};
-ghost use Rattle.te_terms.specs.Kept.{formed};
+ghost use Rattle.te_terms.specs.Kept.{formed, Compares};
 
 use crate::code::{EventCode, Node};
 use crate::expr::{Calc, Cond, Expr, Operand, Var};
@@ -53,7 +53,9 @@ fn same_calc(c: &Calc, regs: &[Value; 8], d: &Calc, others: &[Value; 8]) -> bool
     match (c, d) {
         (Calc::One(p), Calc::One(q)) => same_operand(*p, regs, *q, others),
         (Calc::Op(op, p, q), Calc::Op(other, r, s)) => {
-            *op == *other && same_operand(*p, regs, *r, others) && same_operand(*q, regs, *s, others)
+            *op == *other
+                && same_operand(*p, regs, *r, others)
+                && same_operand(*q, regs, *s, others)
         }
         _ => false,
     }
@@ -66,7 +68,8 @@ fn same_calcs(list: &[Calc], regs: &[Value; 8], other: &[Calc], others: &[Value;
         [] => other.is_empty(),
         [c, rest @ ..] => match other {
             [] => false,
-            [d, others_rest @ ..] => same_calc(c, regs, d, others) && same_calcs(rest, regs, others_rest, others),
+            [d, others_rest @ ..] => same_calc(c, regs, d, others)
+                && same_calcs(rest, regs, others_rest, others),
         },
     }
 }
@@ -89,7 +92,9 @@ fn same_expr(e: &Expr, regs: &[Value; 8], f: &Expr, others: &[Value; 8]) -> bool
 fn same_cond(c: &Cond, regs: &[Value; 8], d: &Cond, others: &[Value; 8]) -> bool
     ensures { IsTrue result ↔ ((c.now.test ≡ d.now.test) × (in_primitive (registers_to regs.now) (primitive_of c.now.left) ≡ in_primitive (registers_to others.now) (primitive_of d.now.left)) × (in_primitive (registers_to regs.now) (primitive_of c.now.right) ≡ in_primitive (registers_to others.now) (primitive_of d.now.right))) }
 {
-    c.test == d.test && same_operand(c.left, regs, d.left, others) && same_operand(c.right, regs, d.right, others)
+    c.test == d.test
+        && same_operand(c.left, regs, d.left, others)
+        && same_operand(c.right, regs, d.right, others)
 }
 
 // Whether two nodes are the same but for their children.
@@ -97,8 +102,11 @@ fn same_node(m: &Node, regs: &[Value; 8], n: &Node, others: &[Value; 8]) -> bool
     ensures { (level : ℕ) → IsTrue result ↔ (replaced (registers_to regs.now) (formed m.now level never never) ≡ replaced (registers_to others.now) (formed n.now level never never)) }
 {
     match (m, n) {
-        (Node::Always(e), Node::Always(f)) | (Node::Throw(e), Node::Throw(f)) => same_expr(e, regs, f, others),
-        (Node::Send(p, e), Node::Send(q, f)) => same_operand(*p, regs, *q, others) && same_expr(e, regs, f, others),
+        (Node::Always(e), Node::Always(f)) | (Node::Throw(e), Node::Throw(f)) => same_expr(
+            e, regs, f, others,
+        ),
+        (Node::Send(p, e), Node::Send(q, f)) => same_operand(*p, regs, *q, others)
+            && same_expr(e, regs, f, others),
         (Node::Recv(p), Node::Recv(q)) => same_operand(*p, regs, *q, others),
         (Node::If(c, _, _), Node::If(d, _, _)) => same_cond(c, regs, d, others),
         (Node::Never, Node::Never)
@@ -107,4 +115,35 @@ fn same_node(m: &Node, regs: &[Value; 8], n: &Node, others: &[Value; 8]) -> bool
         | (Node::Catch(_, _), Node::Catch(_, _)) => true,
         _ => false,
     }
+}
+
+// Whether the terms under two nodes are the same. No path is longer than the height, which is at most 32.
+pub(crate) fn same_under(
+    code: &EventCode,
+    i: u32,
+    regs: &[Value; 8],
+    other: &EventCode,
+    j: u32,
+    others: &[Value; 8],
+) -> bool
+    requires first { i < length code.now }
+    requires second { j < length other.now }
+    ensures { Compares result code.now i regs.now other.now j others.now }
+{
+    let (Some(m), Some(n)) = (code.node(i), other.node(j)) else {
+        return false;
+    };
+    if !same_node(&m, regs, &n, others) {
+        return false;
+    }
+    let Some((a, b)) = m.children() else {
+        return true;
+    };
+    let Some((c, d)) = n.children() else {
+        return true;
+    };
+    if !same_under(code, a, regs, other, c, others) {
+        return false;
+    }
+    same_under(code, b, regs, other, d, others)
 }
