@@ -7,3 +7,7 @@ pub mod AdoptLemmas
 pub mod KeptLemmas
 pub mod SameLemmas
 pub mod CompareLemmas
+pub mod QuietStepsEnd
+pub mod Settles
+pub mod OneThing
+pub mod UnderFirst

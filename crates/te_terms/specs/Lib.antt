@@ -10,3 +10,4 @@ pub mod Shape
 pub mod Kept
 pub mod Made
 pub mod Sameness
+pub mod Settling
