@@ -185,3 +185,31 @@ head_of_with u (and_then e n f) = head_of_with u e
 head_of_with u (choose e f) = refl
 head_of_with u (catch e n f) = head_of_with u e
 head_of_with u (when test p q e f) = refl
+
+-- ---- of members
+
+pub settled_from : (m : Member) → quiet_of m.thread m.term ≡ None → IsSettled m
+settled_from m p = ap (option_map (λ t. record m { term = t })) p
+
+unmapped : {A B : Type 0} (f : A → B) (o : Option A) → option_map f o ≡ None → o ≡ None
+unmapped f None p = refl
+unmapped f (Some x) p = absurd cc
+
+pub stands_settled : (m : Member) → IsSettled m → Stands m.term
+stands_settled m p = stands m.thread m.term (unmapped (λ t. record m { term = t }) (quiet_of m.thread m.term) p)
+
+-- ---- what the first part does, `then` and `catch` do
+
+placed_then : (n : ℕ) (f e : Term) (o : Option Term) → option_map (λ u. with_head u (and_then e n f)) o ≡ option_map (λ x. and_then x n f) (option_map (λ u. with_head u e) o)
+placed_then n f e None = refl
+placed_then n f e (Some u) = refl
+
+placed_catch : (n : ℕ) (f e : Term) (o : Option Term) → option_map (λ u. with_head u (catch e n f)) o ≡ option_map (λ x. catch x n f) (option_map (λ u. with_head u e) o)
+placed_catch n f e None = refl
+placed_catch n f e (Some u) = refl
+
+pub choice_under_then : (left : Bool) (e : Term) (n : ℕ) (f : Term) → after_choice left (and_then e n f) ≡ option_map (λ x. and_then x n f) (after_choice left e)
+choice_under_then left e n f = placed_then n f e (chosen_from left (head e))
+
+pub choice_under_catch : (left : Bool) (e : Term) (n : ℕ) (f : Term) → after_choice left (catch e n f) ≡ option_map (λ x. catch x n f) (after_choice left e)
+choice_under_catch left e n f = placed_catch n f e (chosen_from left (head e))

@@ -1,5 +1,5 @@
 -- What a term is once its quiet steps are done, and the counts by which they end. These are this project's own.
-use Rattle.std.specs.Prelude.{◌≡◌, ℕ, zero, suc, ◌+◌, ◌-◌, ◌*◌, ◌<◌, ◌⊎◌, List, Option, Some, None, Result, Ok, Err}
+use Rattle.std.specs.Prelude.{◌≡◌, Bool, ℕ, zero, suc, ◌+◌, ◌-◌, ◌*◌, ◌<◌, ◌⊎◌, List, Option, Some, None, Result, Ok, Err}
 use Rattle.std.specs.Option.{option_map, unwrap_or}
 use Rattle.te_terms.specs.declared.value.Atom.{Atom}
 use Rattle.te_terms.specs.declared.value.Trap.{Trap}
@@ -8,7 +8,7 @@ use Rattle.te_terms.specs.declared.event.Outcome.TheVariants.{Gives, Raises}
 use Rattle.te_terms.specs.Expressions.{value_of}
 use Rattle.te_terms.specs.Terms.{Term, always, never, throw, send, recv, and_then, choose, catch, when, bound}
 use Rattle.te_terms.specs.Steps.{Member, quiet_step, giving, raising, outcome_of, head}
-use Rattle.te_terms.specs.Joint.{Message, sending, receiving}
+use Rattle.te_terms.specs.Joint.{Message, after_choice, sending, receiving}
 
 -- ---- counts
 
@@ -84,3 +84,11 @@ pub data Stands : Term → Type 0 where
   at_send : (t : Term) (s : Message) → sending t ≡ Some s → Stands t
   at_receive : (t : Term) (channel : ℕ) → receiving t ≡ Some channel → Stands t
   at_never : (t : Term) → head t ≡ never → Stands t
+
+-- ---- doing one thing
+
+abbrev pub CannotChoose : Term → Type 0
+CannotChoose t = (left : Bool) → after_choice left t ≡ None
+
+abbrev pub IsOpen : Term → Type 0
+IsOpen t = outcome_of t ≡ None
