@@ -11,3 +11,5 @@ pub mod QuietStepsEnd
 pub mod Settles
 pub mod OneThing
 pub mod UnderFirst
+pub mod WorkedTerms
+pub mod WorkedGroups
