@@ -8,3 +8,6 @@ pub mod Codes
 pub mod Stored
 pub mod Shape
 pub mod Kept
+pub mod Made
+pub mod Sameness
+pub mod Settling
