@@ -1,0 +1,7 @@
+pub mod Beginnings
+pub mod Bits
+pub mod OneView
+pub mod Changing
+pub mod Asking
+pub mod Releasing
+pub mod Making

@@ -1,0 +1,4 @@
+pub mod Entries
+pub mod Lock
+pub mod Passes
+pub mod Rule

@@ -1,0 +1,31 @@
+-- What contracts see of a lock and of a pass.
+use Rattle.std.specs.Prelude.{◌≡◌, ℕ, zero, suc, Bool, false, List, [], ◌∷◌, ◌++◌}
+use Rattle.atomic_table.specs.Seated.{TableId}
+
+-- which lock it is, and its number of callers
+pub record Lock : Type 0 where
+  pub table : TableId
+  pub callers : ℕ
+
+-- what a pass knows: its lock and caller number; a beginning of the history that it read, and how long it saw the history; its own entries; whether it has the turn
+pub record Knowledge (E : Type 0) : Type 0 where
+  pub lock : Lock
+  pub caller : ℕ
+  pub read : List E
+  pub front : ℕ
+  pub own : List E
+  pub has_turn : Bool
+
+module _ {E : Type 0} where
+  -- the pass of a new lock that has this caller number
+  abbrev pub new_pass : Lock → ℕ → Knowledge E
+  new_pass lock caller = record { lock = lock; caller = caller; read = []; front = 0; own = []; has_turn = false }
+
+  -- the passes of a new lock below a caller number, in order
+  abbrev pub new_passes : Lock → ℕ → List (Knowledge E)
+  new_passes lock zero = []
+  new_passes lock (suc n) = new_passes lock n ++ new_pass lock n ∷ []
+
+  -- the same caller's pass of the same lock
+  abbrev pub IsSamePass : Knowledge E → Knowledge E → Type 0
+  IsSamePass p q = (q.lock ≡ p.lock) × (q.caller ≡ p.caller)

@@ -1,0 +1,160 @@
+-- The rule that every step at the lock's table keeps, and the steps by name.
+-- The table has one word, which is twice the length of the history, plus 1 while the turn is held, and one slot, which has the value.
+use Rattle.std.specs.Prelude.{◌≡◌, ◌≢◌, ◌⊎◌, ℕ, ◌+◌, ◌*◌, ◌/◌, ◌<◌, ◌≤◌, true, false, List, [], ◌∷◌, ◌++◌, length, drop, Option, Some, None}
+use mathlib.Core.Option.{none, some}
+use mathlib.Core.List.{IsPrefix}
+use lib.ListN.{get_elem?}
+use Rattle.atomic_table.specs.Table.{State, Me}
+use Rattle.te_lock.specs.declared.view.View.{View}
+use Rattle.te_lock.specs.declared.view.Role.{Role}
+use Rattle.te_lock.specs.declared.view.Role.TheVariants.{Maker, Caller, Spent}
+use Rattle.te_lock.specs.Entries.{entries_by, GoesOnBy}
+
+module _ {E : Type 0} where
+  -- the caller number stands in the view
+  abbrev pub Stands : ℕ → View E → Type 0
+  Stands caller v = v.role ≡ Caller caller
+
+  -- exactly one view is the maker's, and it counts the passes that were made
+  pub record HasMaker (count : ℕ) (views : List (View E)) : Type 0 where
+    pub seat : ℕ
+    pub maker : View E
+    pub there : get_elem? views seat ≡ some maker
+    pub role : maker.role ≡ Maker count
+    pub alone : (i n : ℕ) (v : View E) → get_elem? views i ≡ some v → v.role ≡ Maker n → i ≡ seat
+
+  -- exactly one view has the turn, and it has read the whole history
+  pub record HasHolder (log : List E) (views : List (View E)) : Type 0 where
+    pub seat : ℕ
+    pub holder : View E
+    pub there : get_elem? views seat ≡ some holder
+    pub holds : holder.has_turn ≡ true
+    pub whole : holder.read ≡ log
+    pub alone : (i : ℕ) (v : View E) → get_elem? views i ≡ some v → v.has_turn ≡ true → i ≡ seat
+
+  -- each caller number below the count stands in exactly one view
+  pub record StandOnce (count : ℕ) (views : List (View E)) : Type 0 where
+    pub each : (k : ℕ) → k < count → (i : ℕ) × (v : View E) × (get_elem? views i ≡ some v) × Stands k v
+    pub once : (k i j : ℕ) (v u : View E) → get_elem? views i ≡ some v → get_elem? views j ≡ some u → Stands k v → Stands k u → i ≡ j
+
+  -- what a view says is so: what it read begins the history, what it saw is no longer than that, its own entries are all that its caller has there, and only a caller has the turn
+  pub record IsSo (author : E → ℕ) (callers count : ℕ) (log : List E) (v : View E) : Type 0 where
+    pub read : IsPrefix v.read log
+    pub behind : length v.read ≤ v.front
+    pub front : v.front ≤ length log
+    pub made : (k : ℕ) → Stands k v → k < count
+    pub own : (k : ℕ) → v.role ≡ Caller k → v.own ≡ entries_by author k log
+    pub number : v.role ≢ Spent → v.callers ≡ callers
+    pub turn : v.has_turn ≡ true → (k : ℕ) × (v.role ≡ Caller k)
+
+module _ {V E : Type 0} (entries : V → List E) (members : V → ℕ) where
+  -- the word is even: nobody has the turn, and the slot is at home with a value whose list is the history
+  pub record IsFree (callers : ℕ) (log : List E) (s : State (Option V) (View E)) : Type 0 where
+    pub value : V
+    pub word : s.words ≡ (2 * length log) ∷ []
+    pub home : s.homes ≡ some (Some value) ∷ []
+    pub list : entries value ≡ log
+    pub number : members value ≡ callers
+    pub nobody : (i : ℕ) (v : View E) → get_elem? s.views i ≡ some v → v.has_turn ≡ false
+
+-- the word is odd: exactly one view has the turn, the slot is away, and the history is what that view has read
+pub record IsHeld {V E : Type 0} (log : List E) (s : State (Option V) (View E)) : Type 0 where
+  pub word : s.words ≡ (2 * length log + 1) ∷ []
+  pub away : s.homes ≡ none ∷ []
+  pub one : HasHolder log s.views
+
+module _ {V E : Type 0} (entries : V → List E) (members : V → ℕ) (author : E → ℕ) (lawful : ℕ → List E → Type 0) where
+  -- the rule: there is one lawful history, of callers that were made; the turn is free or held; every view is so
+  pub record IsKept (callers : ℕ) (s : State (Option V) (View E)) : Type 0 where
+    pub log : List E
+    pub count : ℕ
+    pub most : count ≤ callers
+    pub law : lawful callers log
+    pub turn : IsFree entries members callers log s ⊎ IsHeld log s
+    pub maker : HasMaker count s.views
+    pub numbers : StandOnce count s.views
+    pub views : (i : ℕ) (v : View E) → get_elem? s.views i ≡ some v → IsSo author callers count log v
+    pub unmade : (k : ℕ) → count ≤ k → entries_by author k log ≡ []
+
+module _ {E : Type 0} where
+  -- the maker's view, when it has made so many passes
+  abbrev pub maker_of : ℕ → ℕ → View E
+  maker_of count callers = record { role = Maker count; callers = callers; read = []; front = 0; own = []; has_turn = false }
+
+  -- the view after the turn was taken, at a value of this list
+  abbrev pub taken : List E → View E → View E
+  taken list v = record { role = v.role; callers = v.callers; read = list; front = length list; own = v.own; has_turn = true }
+
+  -- the view after it found the turn held
+  abbrev pub refused : ℕ → View E → View E
+  refused found v = record { role = v.role; callers = v.callers; read = v.read; front = found / 2; own = v.own; has_turn = v.has_turn }
+
+  -- the view after the turn was given back, with a value of this list
+  abbrev pub released : List E → View E → View E
+  released list v = record { role = v.role; callers = v.callers; read = list; front = length list; own = v.own ++ drop (length v.read) list; has_turn = false }
+
+-- an even word was found: the seat has the turn and the slot, and the value has all that was seen
+pub record Takes {V E : Type 0} (entries : V → List E) (members : V → ℕ) (author : E → ℕ) (lawful : ℕ → List E → Type 0) (me : Me (Option V) (View E)) (found : ℕ) (after : Me (Option V) (View E)) : Type 0 where
+  pub value : V
+  pub word : found ≡ 2 * length (entries value)
+  pub slot : after.1 ≡ (0, Some value) ∷ me.1
+  pub view : after.0 ≡ taken (entries value) me.0
+  pub number : members value ≡ me.0.callers
+  pub law : lawful me.0.callers (entries value)
+  pub sees : IsPrefix me.0.read (entries value)
+  pub reaches : me.0.front ≤ length (entries value)
+  pub own : (k : ℕ) → me.0.role ≡ Caller k → me.0.own ≡ entries_by author k (entries value)
+
+-- an odd word was found, and nothing is taken
+pub record FindsHeld {V E : Type 0} (me : Me (Option V) (View E)) (found : ℕ) (after : Me (Option V) (View E)) : Type 0 where
+  pub history : ℕ
+  pub word : found ≡ 2 * history + 1
+  pub same : after ≡ (refused found me.0, me.1)
+  pub reaches : me.0.front ≤ history
+
+module _ {V E : Type 0} where
+  -- the seat asks for the turn, by setting the word's lowest bit
+  abbrev pub Asked : (V → List E) → (V → ℕ) → (E → ℕ) → (ℕ → List E → Type 0) → Me (Option V) (View E) → ℕ → Me (Option V) (View E) → Type 0
+  Asked entries members author lawful me found after = Takes entries members author lawful me found after ⊎ FindsHeld me found after
+
+  -- the slot that the seat has gives its value, and is empty
+  abbrev pub Empties : Me (Option V) (View E) → V → Me (Option V) (View E) → Type 0
+  Empties me value after = (me.1 ≡ (0, Some value) ∷ []) × (after ≡ (me.0, (0, None) ∷ []))
+
+  -- the slot that the seat has takes a value
+  abbrev pub Fills : Me (Option V) (View E) → V → Me (Option V) (View E) → Type 0
+  Fills me value after = (me.1 ≡ (0, None) ∷ []) × (after ≡ (me.0, (0, Some value) ∷ []))
+
+  -- the word becomes twice the length of the slot's list, the slot goes home, and the new entries are the seat's own
+  abbrev pub Released : (V → List E) → Me (Option V) (View E) → Me (Option V) (View E) → Type 0
+  Released entries me after = (value : V) × (me.1 ≡ (0, Some value) ∷ []) × (after ≡ (released (entries value) me.0, []))
+
+-- the seat may give the turn back with the value in its slot: the value has the lock's number of callers, its list is lawful and goes on by this caller's entries alone, and the word is twice its length
+pub record Ready {V E : Type 0} (entries : V → List E) (members : V → ℕ) (author : E → ℕ) (lawful : ℕ → List E → Type 0) (me : Me (Option V) (View E)) (word : ℕ) : Type 0 where
+  pub value : V
+  pub caller : ℕ
+  pub role : me.0.role ≡ Caller caller
+  pub slot : me.1 ≡ (0, Some value) ∷ []
+  pub number : members value ≡ me.0.callers
+  pub law : lawful me.0.callers (entries value)
+  pub goes : GoesOnBy author caller me.0.read (entries value)
+  pub twice : word ≡ 2 * length (entries value)
+
+abbrev pub count_up : Role → Role
+count_up (Maker n) = Maker (n + 1)
+count_up (Caller k) = Caller k
+count_up Spent = Spent
+
+abbrev pub next_of : Role → Role
+next_of (Maker n) = Caller n
+next_of (Caller k) = Spent
+next_of Spent = Spent
+
+module _ {E : Type 0} where
+  -- the maker's view after it made a pass
+  abbrev pub counted : View E → View E
+  counted v = record { role = count_up v.role; callers = v.callers; read = v.read; front = v.front; own = v.own; has_turn = v.has_turn }
+
+  -- the view of the pass that the maker makes next
+  abbrev pub next_pass : View E → View E
+  next_pass v = record { role = next_of v.role; callers = v.callers; read = []; front = 0; own = []; has_turn = false }

@@ -1,0 +1,16 @@
+//! A turn over one history, which callers in threads of their own add to.
+#![tactic(auto)]
+
+mod kept;
+mod law;
+mod pass;
+mod steps;
+mod turn;
+mod view;
+
+pub use kept::Kept;
+pub use pass::{Busy, Pass};
+pub use turn::Turn;
+
+#[cfg(test)]
+mod tests;
