@@ -1,6 +1,7 @@
 -- The step that asks for the turn keeps the rule.
-use Rattle.std.proofs.Common.{◌≡◌, ◌≢◌, ℕ, ◌+◌, ◌*◌, ◌/◌, true, false, true≢false, List, [], ◌∷◌, length, bit_or, Option, Some, refl, sym, ap, ◌∙◌, subst, ⊎_elim, inl, inr, arith}
+use Rattle.std.proofs.Common.{◌≡◌, ◌≢◌, ℕ, ◌+◌, ◌*◌, ◌/◌, ◌%◌, ◌≤◌, true, false, true≢false, List, [], ◌∷◌, length, bit_or, Option, Some, refl, sym, ap, ◌∙◌, subst, ⊎_elim, inl, inr, arith}
 use Rattle.std.specs.Prelude.{slice_index, slice_set}
+use Rattle.std.proofs.lemmas.List.Elements.{All-push, All-weaker}
 use mathlib.Core.Option.{none, some}
 use mathlib.Core.List.{IsPrefix}
 use lib.ListN.{get_elem?}
@@ -8,11 +9,12 @@ use Rattle.atomic_table.specs.Table.{State, Me, Act, keeps, takes, Allows, Valid
 use Rattle.te_lock.specs.declared.view.View.{View}
 use Rattle.te_lock.specs.declared.view.Role.TheVariants.{Caller, Spent}
 use Rattle.te_lock.specs.Entries.{entries_by}
-use Rattle.te_lock.specs.Rule.{IsSo, IsFree, IsHeld, IsKept, taken, refused, Asked}
+use Rattle.te_lock.specs.Rule.{IsSo, IsFree, IsHeld, IsKept, taken, looked, Asked}
 use Rattle.te_lock.proofs.Bits.{or_one-even, or_one-odd}
 use Rattle.te_lock.proofs.Beginnings.{prefix_self}
 use Rattle.te_lock.proofs.OneView.{set_at, each_set}
-use Rattle.te_lock.proofs.Changing.{maker_stays, numbers_stay, holder_stays}
+use Rattle.te_lock.proofs.Changing.{maker_stays, numbers_stay}
+use Rattle.te_lock.proofs.Looking.{looks_at, half_held}
 
 module _ {V E : Type 0} (entries : V → List E) (members : V → ℕ) (author : E → ℕ) (lawful : ℕ → List E → Type 0) (callers id : ℕ) (me : Me (Option V) (View E)) (k : ℕ) (role : me.0.role ≡ Caller k) (idle : me.0.has_turn ≡ false)
     (s : State (Option V) (View E)) (h : IsKept entries members author lawful callers s) (at : get_elem? s.views id ≡ some me.0) where
@@ -65,6 +67,7 @@ module _ {V E : Type 0} (entries : V → List E) (members : V → ℕ) (author :
                 front = omega arith;
                 made = mine.made;
                 own = mine.own;
+                looks = All-push (λ word. word / 2 ≤ length h.log) me.0.looks (2 * length list) mine.looks (omega arith);
                 number = mine.number;
                 turn = λ _. (k, role);
               };
@@ -79,6 +82,7 @@ module _ {V E : Type 0} (entries : V → List E) (members : V → ℕ) (author :
           law = subst (λ n. lawful n list) (sym (mine.number live)) (subst (lawful callers) (sym f.list) h.law);
           sees = subst (IsPrefix me.0.read) (sym f.list) mine.read;
           reaches = let m = mine.front in omega arith;
+          looks = All-weaker (λ word. word / 2 ≤ length h.log) (λ word. word / 2 ≤ length list) (λ word le. omega arith) me.0.looks mine.looks;
           own = λ j is. mine.own j is ∙ ap (entries_by author j) (sym f.list);
         },
       )
@@ -88,48 +92,13 @@ module _ {V E : Type 0} (entries : V → List E) (members : V → ℕ) (author :
       → (w : View E) × (a : Act (Option V)) × Valid s.homes me.1 a × IsKept entries members author lawful callers (stepped s 0 (bit_or (slice_index s.words 0) 1) id me.1 w a)
       × Asked entries members author lawful me (slice_index s.words 0) (w, carried_after me.1 a)
   asks_held f =
-      let found : slice_index s.words 0 ≡ 2 * length h.log + 1 = ap (λ ws. slice_index ws 0) f.word in
-      let w = refused (slice_index s.words 0) me.0 in
-      let half : slice_index s.words 0 / 2 ≡ length h.log = ap (λ n. n / 2) found ∙ omega arith in (
-        w,
-        keeps,
-        tt,
-        record {
-          log = h.log;
-          count = h.count;
-          most = h.most;
-          law = h.law;
-          turn = inr record {
-            word = ap (λ ws. slice_set ws 0 (bit_or (slice_index ws 0) 1)) f.word ∙ ap (λ n. n ∷ []) (or_one-odd (length h.log));
-            away = f.away;
-            one = holder_stays s.views id me.0 w at h.log refl (λ _ e. e) f.one;
-          };
-          maker = maker_stays s.views id me.0 w at h.count refl h.maker;
-          numbers = numbers_stay s.views id me.0 w at h.count (λ _ e. e) (λ _ e. e) h.numbers;
-          views = each_set
-              (λ i v. IsSo author callers h.count h.log v)
-              s.views
-              id
-              w
-              (λ i v _ e. h.views i v e)
-              record {
-                read = mine.read;
-                behind = let m = mine.behind in let n = mine.front in omega arith;
-                front = omega arith;
-                made = mine.made;
-                own = mine.own;
-                number = mine.number;
-                turn = mine.turn;
-              };
-          unmade = h.unmade;
-        },
-        inr record {
-          history = length h.log;
-          word = found;
-          same = refl;
-          reaches = mine.front;
-        },
-      )
+      let found = slice_index s.words 0 in
+      let is : found ≡ 2 * length h.log + 1 = ap (λ ws. slice_index ws 0) f.word in
+      let odd : found % 2 ≡ 1 = ap (λ n. n % 2) is ∙ omega arith in
+      let stays : slice_set s.words 0 (bit_or found 1) ≡ s.words =
+      ap (λ ws. slice_set ws 0 (bit_or (slice_index ws 0) 1)) f.word ∙ ap (λ n. n ∷ []) (or_one-odd (length h.log)) ∙ sym f.word in
+      let step = looks_at entries members author lawful callers id me idle s h at found (bit_or found 1) (half_held entries members author lawful h.log s f) stays in
+      (looked found me.0, keeps, tt, step.0, inr (odd, step.1))
 
 module _ {V E : Type 0} (entries : V → List E) (members : V → ℕ) (author : E → ℕ) (lawful : ℕ → List E → Type 0) where
   pub asks : (callers slots id : ℕ) (me : Me (Option V) (View E)) (k : ℕ) → me.0.role ≡ Caller k → me.0.has_turn ≡ false

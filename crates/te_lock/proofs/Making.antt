@@ -1,5 +1,6 @@
 -- The step that makes a pass keeps the rule, and so does the table when it is made.
-use Rattle.std.proofs.Common.{◌≡◌, ℕ, zero, suc, ◌+◌, ◌<◌, false, true≢false, List, [], ◌∷◌, set, Some, refl, sym, ap, ◌∙◌, subst, ⊎_elim, inl, inr, arith}
+use Rattle.std.proofs.Common.{◌≡◌, ℕ, zero, suc, ◌+◌, ◌/◌, ◌<◌, ◌≤◌, length, false, true≢false, List, [], ◌∷◌, set, Some, refl, sym, ap, ◌∙◌, subst, ⊎_elim, inl, inr, arith}
+use Rattle.std.proofs.lemmas.List.Elements.{All-nil}
 use mathlib.Core.Option.{some, some-injective, some-ne-none}
 use lib.ListN.{get_elem?}
 use Rattle.atomic_table.specs.Table.{opening, Splits}
@@ -38,6 +39,7 @@ module _ {V E : Type 0} (entries : V → List E) (members : V → ℕ) (author :
               front = omega arith;
               made = λ k r. absurd cc;
               own = λ k r. absurd cc;
+              looks = All-nil (λ word. word / 2 ≤ 0);
               number = λ _. refl;
               turn = λ t. absurd (true≢false (sym t));
             };
@@ -65,6 +67,7 @@ module _ {V E : Type 0} (entries : V → List E) (members : V → ℕ) (author :
         front = mine.front;
         made = λ k r. absurd (cc (counts, r));
         own = λ k r. absurd (cc (counts, r));
+        looks = mine.looks;
         number = λ _. live;
         turn = λ t. absurd (let c = mine.turn t in cc (c.1, role));
       } in
@@ -119,6 +122,7 @@ module _ {V E : Type 0} (entries : V → List E) (members : V → ℕ) (author :
               front = was.front;
               made = λ k r. let b = was.made k r in omega arith;
               own = was.own;
+              looks = was.looks;
               number = was.number;
               turn = was.turn;
             })
@@ -128,6 +132,7 @@ module _ {V E : Type 0} (entries : V → List E) (members : V → ℕ) (author :
               front = omega arith;
               made = λ k r. let same : h.count ≡ k = cc (next, r) in omega arith;
               own = λ k r. let same : h.count ≡ k = cc (next, r) in sym (h.unmade k (omega arith));
+              looks = All-nil (λ word. word / 2 ≤ length h.log);
               number = λ _. live;
               turn = λ t. absurd (true≢false (sym t));
             };

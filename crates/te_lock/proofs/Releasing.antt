@@ -1,7 +1,8 @@
 -- The step that gives the turn back keeps the rule.
-use Rattle.std.proofs.Common.{◌≡◌, ◌≢◌, ℕ, ◌+◌, ◌*◌, Bool, true, false, true≢false, List, [], ◌∷◌, ◌++◌, length, length-append, drop, Option, Some, refl, sym, ap, ◌∙◌, subst, ⊎_elim, inl, arith}
+use Rattle.std.proofs.Common.{◌≡◌, ◌≢◌, ℕ, ◌+◌, ◌*◌, ◌/◌, ◌≤◌, Bool, true, false, true≢false, List, [], ◌∷◌, ◌++◌, length, length-append, drop, Option, Some, refl, sym, ap, ◌∙◌, subst, ⊎_elim, inl, arith}
 use Rattle.std.specs.Prelude.{All, slice_set}
 use Rattle.std.proofs.lemmas.List.{append-nil}
+use Rattle.std.proofs.lemmas.List.Elements.{All-weaker}
 use mathlib.Core.Option.{some}
 use mathlib.Core.List.{IsPrefix}
 use lib.ListN.{get_elem?}
@@ -72,6 +73,7 @@ module _ {V E : Type 0} (entries : V → List E) (members : V → ℕ) (author :
                 front = let b = was.front in omega arith;
                 made = was.made;
                 own = λ j r. was.own j r ∙ sym (apart j (λ same. ne (h.numbers.once k i id v me.0 e at (r ∙ ap Caller same) role)));
+                looks = All-weaker (λ word. word / 2 ≤ length h.log) (λ word. word / 2 ≤ length list) (λ word le. omega arith) v.looks was.looks;
                 number = was.number;
                 turn = was.turn;
               })
@@ -81,6 +83,7 @@ module _ {V E : Type 0} (entries : V → List E) (members : V → ℕ) (author :
                 front = omega arith;
                 made = mine.made;
                 own = λ j r. let same : k ≡ j = cc (role, r) in subst (λ n. w.own ≡ entries_by author n list) same own;
+                looks = All-weaker (λ word. word / 2 ≤ length h.log) (λ word. word / 2 ≤ length list) (λ word le. omega arith) me.0.looks mine.looks;
                 number = mine.number;
                 turn = λ t. absurd (true≢false (sym t));
               };

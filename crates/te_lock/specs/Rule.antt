@@ -1,6 +1,6 @@
 -- The rule that every step at the lock's table keeps, and the steps by name.
 -- The table has one word, which is twice the length of the history, plus 1 while the turn is held, and one slot, which has the value.
-use Rattle.std.specs.Prelude.{◌≡◌, ◌≢◌, ◌⊎◌, ℕ, ◌+◌, ◌*◌, ◌/◌, ◌<◌, ◌≤◌, true, false, List, [], ◌∷◌, ◌++◌, length, drop, Option, Some, None}
+use Rattle.std.specs.Prelude.{◌≡◌, ◌≢◌, ◌⊎◌, ℕ, ◌+◌, ◌*◌, ◌/◌, ◌%◌, ◌<◌, ◌≤◌, true, false, List, [], ◌∷◌, ◌++◌, length, drop, All, Option, Some, None}
 use mathlib.Core.Option.{none, some}
 use mathlib.Core.List.{IsPrefix}
 use lib.ListN.{get_elem?}
@@ -37,13 +37,14 @@ module _ {E : Type 0} where
     pub each : (k : ℕ) → k < count → (i : ℕ) × (v : View E) × (get_elem? views i ≡ some v) × Stands k v
     pub once : (k i j : ℕ) (v u : View E) → get_elem? views i ≡ some v → get_elem? views j ≡ some u → Stands k v → Stands k u → i ≡ j
 
-  -- what a view says is so: what it read begins the history, what it saw is no longer than that, its own entries are all that its caller has there, and only a caller has the turn
+  -- what a view says is so: what it read begins the history, what it saw in all its looks is no longer than that, its own entries are all that its caller has there, and only a caller has the turn
   pub record IsSo (author : E → ℕ) (callers count : ℕ) (log : List E) (v : View E) : Type 0 where
     pub read : IsPrefix v.read log
     pub behind : length v.read ≤ v.front
     pub front : v.front ≤ length log
     pub made : (k : ℕ) → Stands k v → k < count
     pub own : (k : ℕ) → v.role ≡ Caller k → v.own ≡ entries_by author k log
+    pub looks : All (λ word. word / 2 ≤ length log) v.looks
     pub number : v.role ≢ Spent → v.callers ≡ callers
     pub turn : v.has_turn ≡ true → (k : ℕ) × (v.role ≡ Caller k)
 
@@ -79,19 +80,19 @@ module _ {V E : Type 0} (entries : V → List E) (members : V → ℕ) (author :
 module _ {E : Type 0} where
   -- the maker's view, when it has made so many passes
   abbrev pub maker_of : ℕ → ℕ → View E
-  maker_of count callers = record { role = Maker count; callers = callers; read = []; front = 0; own = []; has_turn = false }
+  maker_of count callers = record { role = Maker count; callers = callers; read = []; front = 0; own = []; looks = []; has_turn = false }
 
   -- the view after the turn was taken, at a value of this list
   abbrev pub taken : List E → View E → View E
-  taken list v = record { role = v.role; callers = v.callers; read = list; front = length list; own = v.own; has_turn = true }
+  taken list v = record { role = v.role; callers = v.callers; read = list; front = length list; own = v.own; looks = v.looks ++ (2 * length list) ∷ []; has_turn = true }
 
-  -- the view after it found the turn held
-  abbrev pub refused : ℕ → View E → View E
-  refused found v = record { role = v.role; callers = v.callers; read = v.read; front = found / 2; own = v.own; has_turn = v.has_turn }
+  -- the view, which has not the turn, after it found this word
+  abbrev pub looked : ℕ → View E → View E
+  looked found v = record { role = v.role; callers = v.callers; read = v.read; front = found / 2; own = v.own; looks = v.looks ++ found ∷ []; has_turn = v.has_turn }
 
   -- the view after the turn was given back, with a value of this list
   abbrev pub released : List E → View E → View E
-  released list v = record { role = v.role; callers = v.callers; read = list; front = length list; own = v.own ++ drop (length v.read) list; has_turn = false }
+  released list v = record { role = v.role; callers = v.callers; read = list; front = length list; own = v.own ++ drop (length v.read) list; looks = v.looks; has_turn = false }
 
 -- an even word was found: the seat has the turn and the slot, and the value has all that was seen
 pub record Takes {V E : Type 0} (entries : V → List E) (members : V → ℕ) (author : E → ℕ) (lawful : ℕ → List E → Type 0) (me : Me (Option V) (View E)) (found : ℕ) (after : Me (Option V) (View E)) : Type 0 where
@@ -103,16 +104,20 @@ pub record Takes {V E : Type 0} (entries : V → List E) (members : V → ℕ) (
   pub law : lawful me.0.callers (entries value)
   pub sees : IsPrefix me.0.read (entries value)
   pub reaches : me.0.front ≤ length (entries value)
+  pub looks : All (λ word. word / 2 ≤ length (entries value)) me.0.looks
   pub own : (k : ℕ) → me.0.role ≡ Caller k → me.0.own ≡ entries_by author k (entries value)
 
--- an odd word was found, and nothing is taken
-pub record FindsHeld {V E : Type 0} (me : Me (Option V) (View E)) (found : ℕ) (after : Me (Option V) (View E)) : Type 0 where
-  pub history : ℕ
-  pub word : found ≡ 2 * history + 1
-  pub same : after ≡ (refused found me.0, me.1)
-  pub reaches : me.0.front ≤ history
+-- a seat without the turn looks at the word: half of it is no less than all that was seen
+pub record Looks {V E : Type 0} (me : Me (Option V) (View E)) (found : ℕ) (after : Me (Option V) (View E)) : Type 0 where
+  pub same : after ≡ (looked found me.0, me.1)
+  pub reaches : me.0.front ≤ found / 2
+  pub looks : All (λ word. word / 2 ≤ found / 2) me.0.looks
 
 module _ {V E : Type 0} where
+  -- an odd word was found, and nothing is taken
+  abbrev pub FindsHeld : Me (Option V) (View E) → ℕ → Me (Option V) (View E) → Type 0
+  FindsHeld me found after = (found % 2 ≡ 1) × Looks me found after
+
   -- the seat asks for the turn, by setting the word's lowest bit
   abbrev pub Asked : (V → List E) → (V → ℕ) → (E → ℕ) → (ℕ → List E → Type 0) → Me (Option V) (View E) → ℕ → Me (Option V) (View E) → Type 0
   Asked entries members author lawful me found after = Takes entries members author lawful me found after ⊎ FindsHeld me found after
@@ -153,8 +158,8 @@ next_of Spent = Spent
 module _ {E : Type 0} where
   -- the maker's view after it made a pass
   abbrev pub counted : View E → View E
-  counted v = record { role = count_up v.role; callers = v.callers; read = v.read; front = v.front; own = v.own; has_turn = v.has_turn }
+  counted v = record { role = count_up v.role; callers = v.callers; read = v.read; front = v.front; own = v.own; looks = v.looks; has_turn = v.has_turn }
 
   -- the view of the pass that the maker makes next
   abbrev pub next_pass : View E → View E
-  next_pass v = record { role = next_of v.role; callers = v.callers; read = []; front = 0; own = []; has_turn = false }
+  next_pass v = record { role = next_of v.role; callers = v.callers; read = []; front = 0; own = []; looks = []; has_turn = false }

@@ -23,6 +23,15 @@ impl<V: Kept> Play<Option<V>, View<V::Entry>> for Asks {
     ghost then = { λ _ me found after. Asked V.entries V.members V.author V.lawful me found after };
 }
 
+/// The step that looks at the word.
+pub struct Loads;
+
+impl<V: Kept> Play<Option<V>, View<V::Entry>> for Loads {
+    ghost use Rattle.te_lock.specs.Rule.{Looks};
+
+    ghost then = { λ _ me found after. Looks me found after };
+}
+
 /// The step that gives the turn back.
 pub struct Releases;
 

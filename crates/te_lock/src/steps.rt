@@ -1,10 +1,10 @@
 // The steps at the lock's table, each by its name in the rule.
 ghost use Rattle.std.specs.Prelude.{◌≡◌, ℕ, ◌<◌, [], ◌∷◌, Some, None, true, false};
 ghost use Rattle.te_lock.specs.declared.view.Role.TheVariants.{Maker, Caller};
-ghost use Rattle.te_lock.specs.Rule.{Asked, Empties, Fills, Released, Ready, counted, next_pass};
+ghost use Rattle.te_lock.specs.Rule.{Asked, Empties, Fills, Looks, Released, Ready, counted, next_pass};
 
 use crate::kept::Kept;
-use crate::law::{Asks, Law, Makes, Releases};
+use crate::law::{Asks, Law, Loads, Makes, Releases};
 use crate::view::View;
 use atomic_table::{Seat, Shared};
 
@@ -23,6 +23,17 @@ pub fn ask<V: Kept>(table: &Shelf<V>, seat: &mut Place<V>) -> u64
     ensures asked { Asked V.entries V.members V.author V.lawful seat.old.me result seat.new.me }
 {
     table.fetch_or::<Asks>(seat, 0, 1)
+}
+
+/// Loads the word.
+pub fn load<V: Kept>(table: &Shelf<V>, seat: &mut Place<V>) -> u64
+    requires here { (seat.old.table_id ≡ table.now.table_id) × (table.now.table_id.words ≡ 1) }
+    requires caller { (k : ℕ) × (seat.old.me.0.role ≡ Caller k) }
+    requires idle { seat.old.me.0.has_turn ≡ false }
+    ensures here { seat.new.table_id ≡ seat.old.table_id }
+    ensures looks { Looks seat.old.me result seat.new.me }
+{
+    table.load::<Loads>(seat, 0)
 }
 
 /// Takes the value out of the slot, which is then empty.

@@ -67,6 +67,7 @@ fn add(turn: &Turn<Slip>, pass: &mut Pass<Slip>, number: u64) -> Result<(), Fail
 fn a_pair_is_read_by_the_other_caller(rt: HostRuntime) -> Result<(), Fail> {
     let (turn, mut first, mut second) = two(rt.alloc())?;
     add(&turn, &mut first, 5)?;
+    assert!(rt; turn.front(&mut second) == 1);
     let slip = turn.try_turn(&mut second).ok().ok_or("the turn")?;
     assert!(rt; slip.pairs.as_slice() == [(0, 5)].as_slice());
     assert!(rt; turn.try_turn(&mut first).err() == Some(Busy { word: 3 }));
@@ -81,6 +82,7 @@ fn a_new_lock_is_held_by_one(rt: HostRuntime) -> Result<(), Fail> {
     let slip = turn.try_turn(&mut first).ok().ok_or("the turn")?;
     assert!(rt; turn.try_turn(&mut second).err() == Some(Busy { word: 1 }));
     turn.leave(&mut first, slip);
+    assert!(rt; turn.front(&mut second) == 0);
     assert!(rt; turn.try_turn(&mut second).is_ok());
     Ok(())
 }

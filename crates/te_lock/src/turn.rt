@@ -1,13 +1,13 @@
-ghost use Rattle.std.specs.Prelude.{◌≡◌, ℕ, ◌+◌, ◌*◌, ◌/◌, ◌%◌, ◌^◌, ◌<◌, ◌≤◌, List, [], ◌++◌, length, is_ok, IfOk, IfErr, OnOk, OnErr, true, false};
+ghost use Rattle.std.specs.Prelude.{◌≡◌, ℕ, ◌+◌, ◌*◌, ◌/◌, ◌%◌, ◌^◌, ◌<◌, ◌≤◌, All, List, [], ◌∷◌, ◌++◌, length, is_ok, IfOk, IfErr, OnOk, OnErr, true, false};
 ghost use mathlib.Core.List.{IsPrefix};
 ghost use Rattle.te_lock.specs.Entries.{entries_by, GoesOnBy};
-ghost use Rattle.te_lock.specs.Lock.{new_passes, IsSamePass};
+ghost use Rattle.te_lock.specs.Lock.{new_passes, IsSamePass, WaitsFor};
 ghost use Rattle.te_lock.specs.Rule.{maker_of};
 
 use crate::kept::Kept;
 use crate::law::Law;
 use crate::pass::{Busy, Pass};
-use crate::steps::{Place, Shelf, ask, make, put_back, release, take_out};
+use crate::steps::{Place, Shelf, ask, load, make, put_back, release, take_out};
 use crate::view::View;
 use atomic_table::Table;
 use std::alloc::Global;
@@ -79,9 +79,14 @@ impl<V: Kept> Turn<V> {
         ensures own { OnOk result (entries_by V.author pass.new.caller pass.new.read ≡ pass.new.own) }
         ensures kept { pass.new.own ≡ pass.old.own }
 
-        ensures busy { IfErr result (λ found. found.word % 2 ≡ 1) }
-        ensures saw { IfErr result (λ found. pass.new.front ≡ found.word / 2) }
-        ensures stays { OnErr result ((pass.new.read ≡ pass.old.read) × (pass.old.front ≤ pass.new.front)) }
+        // what was looked at
+        ensures found_free { OnOk result (pass.new.looks ≡ pass.old.looks ++ (2 * length pass.new.read) ∷ []) }
+        ensures looks { OnOk result (All (λ word. word / 2 ≤ length pass.new.read) pass.new.looks) }
+        ensures found_held { IfErr result (λ busy. (busy.word % 2 ≡ 1) × (pass.new.looks ≡ pass.old.looks ++ busy.word ∷ [])) }
+
+        // what is left after Busy
+        ensures busy_front { IfErr result (λ busy. (pass.new.front ≡ busy.word / 2) × (pass.old.front ≤ pass.new.front)) }
+        ensures busy_read { OnErr result (pass.new.read ≡ pass.old.read) }
     {
         let word = ask(&self.table.shared, &mut pass.seat);
         if word % 2 == 1 {
@@ -108,6 +113,10 @@ impl<V: Kept> Turn<V> {
         ensures front { pass.new.front ≡ length pass.new.read }
         ensures own { entries_by V.author pass.new.caller pass.new.read ≡ pass.new.own }
         ensures kept { pass.new.own ≡ pass.old.own }
+
+        // what was looked at
+        ensures found { WaitsFor (2 * length pass.new.read) pass.old.looks pass.new.looks }
+        ensures looks { All (λ word. word / 2 ≤ length pass.new.read) pass.new.looks }
     {
         for _ in rt.forever() {
             match self.try_turn(pass) {
@@ -132,11 +141,29 @@ impl<V: Kept> Turn<V> {
         ensures read { pass.new.read ≡ V.entries value }
         ensures own { (more : List V.Entry) → V.entries value ≡ pass.old.read ++ more → pass.new.own ≡ pass.old.own ++ more }
         ensures front { pass.new.front ≡ length pass.new.read }
+        ensures looks { pass.new.looks ≡ pass.old.looks }
         ensures law { V.lawful pass.new.lock.callers pass.new.read }
     {
         let word = 2 * value.length();
         put_back(&self.table.shared, &mut pass.seat, value);
         release(&self.table.shared, &mut pass.seat, word);
+    }
+
+    /// Loads the word once, and answers the length of the history, of which the pass has then seen as
+    /// much. It waits for nobody.
+    pub fn front(&self, pass: &mut Pass<V>) -> u64
+        requires here { pass.old.lock ≡ self.now }
+        requires idle { pass.old.has_turn ≡ false }
+        ensures same { IsSamePass pass.old pass.new }
+        ensures turn { pass.new.has_turn ≡ false }
+        ensures front { result ≡ pass.new.front }
+        ensures looks { (word : ℕ) × (pass.new.looks ≡ pass.old.looks ++ word ∷ []) × (result ≡ word / 2) }
+        ensures rises { pass.old.front ≤ result }
+        ensures reaches { All (λ word. word / 2 ≤ result) pass.new.looks }
+        ensures read { pass.new.read ≡ pass.old.read }
+        ensures own { pass.new.own ≡ pass.old.own }
+    {
+        load(&self.table.shared, &mut pass.seat) / 2
     }
 
     /// The caller number of a pass.

@@ -19,5 +19,7 @@ pub struct View<E> {
     pub front: u64,
     /// The entries that this caller appended.
     pub own: LinkedList<E>,
+    /// The words that its looks found while it hadn't the turn, in order.
+    pub looks: LinkedList<u64>,
     pub has_turn: bool,
 }

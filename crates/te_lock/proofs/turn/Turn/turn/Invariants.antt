@@ -1,4 +1,5 @@
-use Rattle.std.proofs.Common.{◌≡◌, ◌≤◌, false}
+use Rattle.std.proofs.Common.{◌≡◌, ℕ, ◌%◌, ◌≤◌, List, ◌++◌, false}
+use Rattle.std.specs.Prelude.{All}
 use Rattle.te_lock.specs.Lock.{IsSamePass}
 use Rattle.te_lock.proofs.turn.Turn.turn.Given as goal
 
@@ -12,4 +13,5 @@ invariant-loop g l = record {
   read : l.pass.read ≡ l.fn.pass.read;
   own : l.pass.own ≡ l.fn.pass.own;
   front : l.fn.pass.front ≤ l.pass.front;
+  waited : (waited : List ℕ) × All (λ word. word % 2 ≡ 1) waited × (l.pass.looks ≡ l.fn.pass.looks ++ waited);
 }
