@@ -1,15 +1,14 @@
 -- The step that asks for the turn keeps the rule.
 use Rattle.std.proofs.Common.{◌≡◌, ◌≢◌, ℕ, ◌+◌, ◌*◌, ◌/◌, ◌%◌, ◌≤◌, true, false, true≢false, List, [], ◌∷◌, length, bit_or, Option, Some, refl, sym, ap, ◌∙◌, subst, ⊎_elim, inl, inr, arith}
-use Rattle.std.specs.Prelude.{slice_index, slice_set}
-use Rattle.std.proofs.lemmas.List.Elements.{All-push, All-weaker}
+use Rattle.std.specs.Prelude.{All, slice_index, slice_set}
+use Rattle.std.proofs.lemmas.List.Elements.{All-push}
 use mathlib.Core.Option.{none, some}
 use mathlib.Core.List.{IsPrefix}
 use lib.ListN.{get_elem?}
 use Rattle.atomic_table.specs.Table.{State, Me, Act, keeps, takes, Allows, Valid, stepped, carried_after}
 use Rattle.te_lock.specs.declared.view.View.{View}
 use Rattle.te_lock.specs.declared.view.Role.TheVariants.{Caller, Spent}
-use Rattle.te_lock.specs.Entries.{entries_by}
-use Rattle.te_lock.specs.Rule.{IsSo, IsFree, IsHeld, IsKept, taken, looked, Asked}
+use Rattle.te_lock.specs.Rule.{Sees, IsSo, IsFree, IsHeld, IsKept, taken, looked, Asked}
 use Rattle.te_lock.proofs.Bits.{or_one-even, or_one-odd}
 use Rattle.te_lock.proofs.Beginnings.{prefix_self}
 use Rattle.te_lock.proofs.OneView.{set_at, each_set}
@@ -53,7 +52,7 @@ module _ {V E : Type 0} (entries : V → List E) (members : V → ℕ) (author :
               alone = each_set (λ i v. v.has_turn ≡ true → i ≡ id) s.views id w (λ i v _ e turn. absurd (true≢false (sym turn ∙ f.nobody i v e))) (λ _. refl);
             };
           };
-          maker = maker_stays s.views id me.0 w at h.count refl h.maker;
+          maker = maker_stays s.views id me.0 w at h.count (λ _ r. r) (λ _ r. r) h.maker;
           numbers = numbers_stay s.views id me.0 w at h.count (λ _ e. e) (λ _ e. e) h.numbers;
           views = each_set
               (λ i v. IsSo author callers h.count h.log v)
@@ -62,14 +61,19 @@ module _ {V E : Type 0} (entries : V → List E) (members : V → ℕ) (author :
               w
               (λ i v _ e. h.views i v e)
               record {
-                read = subst (λ l. IsPrefix l h.log) (sym f.list) (prefix_self h.log);
-                behind = omega arith;
-                front = omega arith;
-                made = mine.made;
-                own = mine.own;
+                sees = record {
+                  read = subst (λ l. IsPrefix l h.log) (sym f.list) (prefix_self h.log);
+                  known = mine.sees.known;
+                  front = omega arith;
+                  own = mine.sees.own;
+                  closed = mine.sees.closed;
+                };
                 looks = All-push (λ word. word / 2 ≤ length h.log) me.0.looks (2 * length list) mine.looks (omega arith);
+                behind = omega arith;
+                made = mine.made;
                 number = mine.number;
                 turn = λ _. (k, role);
+                closer = mine.closer;
               };
           unmade = h.unmade;
         },
@@ -80,10 +84,8 @@ module _ {V E : Type 0} (entries : V → List E) (members : V → ℕ) (author :
           view = refl;
           number = f.number ∙ sym (mine.number live);
           law = subst (λ n. lawful n list) (sym (mine.number live)) (subst (lawful callers) (sym f.list) h.law);
-          sees = subst (IsPrefix me.0.read) (sym f.list) mine.read;
-          reaches = let m = mine.front in omega arith;
-          looks = All-weaker (λ word. word / 2 ≤ length h.log) (λ word. word / 2 ≤ length list) (λ word le. omega arith) me.0.looks mine.looks;
-          own = λ j is. mine.own j is ∙ ap (entries_by author j) (sym f.list);
+          sees = subst (λ l. Sees author l me.0) (sym f.list) mine.sees;
+          looks = subst (λ l. All (λ word. word / 2 ≤ length l) me.0.looks) (sym f.list) mine.looks;
         },
       )
 

@@ -1,10 +1,11 @@
 -- Lists that begin with one another, and the entries of one caller in them.
-use Rattle.std.proofs.Common.{◌≡◌, ◌≢◌, ℕ, ◌≤◌, eqb, cond, List, [], ◌∷◌, ◌++◌, length, drop, refl, sym, ap, ◌∙◌, arith, append_assoc, length-append, ne_eqb, eq-eqb}
+use Rattle.std.proofs.Common.{◌≡◌, ◌≢◌, ◌⊎◌, ℕ, ◌<◌, ◌≤◌, eqb, cond, List, [], ◌∷◌, ◌++◌, length, drop, refl, sym, ap, ◌∙◌, ⊎_elim, inl, inr, arith, append_assoc, length-append, ne_eqb, eq-eqb}
 use Rattle.std.specs.Prelude.{All}
 use Rattle.std.proofs.lemmas.List.{append-nil}
+use Rattle.std.proofs.lemmas.Bool.{cases_lt, lt-ltb, le-ltb}
 use Rattle.std.proofs.lemmas.List.Elements.{All-head, All-tail, filter-append}
 use mathlib.Core.List.{IsPrefix}
-use Rattle.te_lock.specs.Entries.{entries_by}
+use Rattle.te_lock.specs.Entries.{entries_by, longer}
 
 module _ {E : Type 0} where
   pub prefix_self : (xs : List E) → IsPrefix xs xs
@@ -43,3 +44,11 @@ module _ {E : Type 0} (author : E → ℕ) (caller : ℕ) where
 
   pub entries_by-append : (xs ys : List E) → entries_by author caller (xs ++ ys) ≡ entries_by author caller xs ++ entries_by author caller ys
   entries_by-append xs ys = filter-append (λ e. eqb (author e) caller) xs ys
+
+-- which of two lists is the longer
+pub longer_cases : {E : Type 0} (xs ys : List E) → ((longer xs ys ≡ xs) × (length ys ≤ length xs)) ⊎ ((longer xs ys ≡ ys) × (length xs < length ys))
+longer_cases xs ys =
+    ⊎_elim
+    (λ (t : length xs < length ys). inr (ap (λ b. cond b ys xs) (lt-ltb (length xs) (length ys) t), t))
+    (λ (t : length ys ≤ length xs). inl (ap (λ b. cond b ys xs) (le-ltb (length xs) (length ys) t), t))
+    (cases_lt (length xs) (length ys))

@@ -11,15 +11,15 @@ use Rattle.te_lock.proofs.OneView.{each_set, each_added, still_there, was_there}
 
 -- one view is changed
 module _ {E : Type 0} (views : List (View E)) (id : ℕ) (v w : View E) (at : get_elem? views id ≡ some v) where
-  pub maker_stays : (count : ℕ) → w.role ≡ v.role → HasMaker count views → HasMaker count (set views id w)
-  maker_stays count same h =
-      let now = still_there (λ u. u.role ≡ Maker count) views id v w at (λ e. same ∙ e) h.seat h.maker h.there h.role in record {
+  pub maker_stays : (count : ℕ) → ((n : ℕ) → v.role ≡ Maker n → w.role ≡ Maker n) → ((n : ℕ) → w.role ≡ Maker n → v.role ≡ Maker n) → HasMaker count views → HasMaker count (set views id w)
+  maker_stays count forth back h =
+      let now = still_there (λ u. u.role ≡ Maker count) views id v w at (forth count) h.seat h.maker h.there h.role in record {
         seat = h.seat;
         maker = now.0;
         there = now.1;
         role = now.2;
         alone = λ i n u e role.
-            let was = was_there (λ x. x.role ≡ Maker n) views id v w at (λ r. sym same ∙ r) i u e role in
+            let was = was_there (λ x. x.role ≡ Maker n) views id v w at (back n) i u e role in
             h.alone i n was.0 was.1 was.2;
       }
 
@@ -74,6 +74,23 @@ module _ {E : Type 0} (views : List (View E)) (w : View E) where
 
   pub nobody_added : w.has_turn ≡ false → ((i : ℕ) (u : View E) → get_elem? views i ≡ some u → u.has_turn ≡ false) → (i : ℕ) (u : View E) → get_elem? (views ++ w ∷ []) i ≡ some u → u.has_turn ≡ false
   nobody_added idle h = each_added (λ _ u. u.has_turn ≡ false) views w h idle
+
+  -- the new view has no caller number
+  pub numbers_added : (count : ℕ) → ((k : ℕ) → Stands k w → ⊥) → StandOnce count views → StandOnce count (views ++ w ∷ [])
+  numbers_added count none h = record {
+    each = λ k below. let was = h.each k below in (was.0, was.1, at_longer views (w ∷ []) was.0 was.1 was.2, was.3);
+    once = λ k i j u x e f s t.
+        each_added
+        (λ i u. Stands k u → i ≡ j)
+        views
+        w
+        (λ i u e s. each_added (λ j x. Stands k x → i ≡ j) views w (λ j x f t. h.once k i j u x e f s t) (λ t. absurd (none k t)) j x f t)
+        (λ s. absurd (none k s))
+        i
+        u
+        e
+        s;
+  }
 
   -- the next caller number stands in the new view
   pub next_number : (count : ℕ) → ((i k : ℕ) (u : View E) → get_elem? views i ≡ some u → Stands k u → k < count) → Stands count w → ((k : ℕ) → Stands k w → k ≡ count)

@@ -43,7 +43,7 @@ module _ {V E : Type 0} (entries : V → List E) (members : V → ℕ) (author :
                     one = holder_stays s.views id v w at h.log refl (λ _ e. e) f.one;
                   })
                   h.turn;
-              maker = maker_stays s.views id v w at h.count refl h.maker;
+              maker = maker_stays s.views id v w at h.count (λ _ r. r) (λ _ r. r) h.maker;
               numbers = numbers_stay s.views id v w at h.count (λ _ e. e) (λ _ e. e) h.numbers;
               views = each_set
                   (λ i u. IsSo author callers h.count h.log u)
@@ -52,20 +52,25 @@ module _ {V E : Type 0} (entries : V → List E) (members : V → ℕ) (author :
                   w
                   (λ i u _ e. h.views i u e)
                   record {
-                    read = mine.read;
-                    behind = let m = mine.behind in let n = mine.front in omega arith;
-                    front = omega arith;
-                    made = mine.made;
-                    own = mine.own;
+                    sees = record {
+                      read = mine.sees.read;
+                      known = mine.sees.known;
+                      front = omega arith;
+                      own = mine.sees.own;
+                      closed = mine.sees.closed;
+                    };
                     looks = All-push (λ word. word / 2 ≤ length h.log) v.looks found mine.looks (omega arith);
+                    behind = let m = mine.behind in let n = mine.sees.front in omega arith;
+                    made = mine.made;
                     number = mine.number;
                     turn = mine.turn;
+                    closer = mine.closer;
                   };
               unmade = h.unmade;
             },
         record {
           same = refl;
-          reaches = let m = mine.front in omega arith;
+          reaches = let m = mine.sees.front in omega arith;
           looks = All-weaker (λ word. word / 2 ≤ length h.log) (λ word. word / 2 ≤ found / 2) (λ word le. omega arith) v.looks mine.looks;
         },
       )

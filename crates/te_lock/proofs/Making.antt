@@ -2,12 +2,15 @@
 use Rattle.std.proofs.Common.{◌≡◌, ℕ, zero, suc, ◌+◌, ◌/◌, ◌<◌, ◌≤◌, length, false, true≢false, List, [], ◌∷◌, set, Some, refl, sym, ap, ◌∙◌, subst, ⊎_elim, inl, inr, arith}
 use Rattle.std.proofs.lemmas.List.Elements.{All-nil}
 use mathlib.Core.Option.{some, some-injective, some-ne-none}
+use mathlib.Core.List.{IsPrefix}
 use lib.ListN.{get_elem?}
 use Rattle.atomic_table.specs.Table.{opening, Splits}
 use Rattle.te_lock.specs.declared.view.View.{View}
 use Rattle.te_lock.specs.declared.view.Role.TheVariants.{Maker, Caller}
-use Rattle.te_lock.specs.Rule.{IsSo, IsFree, IsHeld, IsKept, maker_of, count_up, next_of, counted, next_pass}
+use Rattle.te_lock.specs.Entries.{entries_by}
+use Rattle.te_lock.specs.Rule.{Stands, Closes, IsSo, IsFree, IsHeld, IsKept, maker_of, count_up, next_of, counted, next_pass}
 use Rattle.te_lock.proofs.Beginnings.{prefix_nil, prefix_self}
+use Rattle.te_lock.proofs.Numbers.{closes_none}
 use Rattle.te_lock.proofs.OneView.{set_at, one_at, each_set, each_added}
 use Rattle.te_lock.proofs.Changing.{numbers_stay, holder_stays, nobody_stays, maker_added, holder_added, nobody_added, next_number}
 
@@ -34,14 +37,19 @@ module _ {V E : Type 0} (entries : V → List E) (members : V → ℕ) (author :
             (λ _ v. IsSo author callers 0 [] v)
             m
             record {
-              read = prefix_self [];
-              behind = omega arith;
-              front = omega arith;
-              made = λ k r. absurd cc;
-              own = λ k r. absurd cc;
+              sees = record {
+                read = prefix_self [];
+                known = All-nil (λ list. IsPrefix list []);
+                front = omega arith;
+                own = λ k r. absurd cc;
+                closed = All-nil (λ c. c.1 ≡ entries_by author c.0 []);
+              };
               looks = All-nil (λ word. word / 2 ≤ 0);
+              behind = omega arith;
+              made = λ k. ⊎_elim (λ (r : m.role ≡ Caller k). absurd cc) (λ c. absurd (closes_none k m refl c));
               number = λ _. refl;
               turn = λ t. absurd (true≢false (sym t));
+              closer = λ k c. absurd (closes_none k m refl c);
             };
         unmade = λ _ _. refl;
       }
@@ -59,17 +67,25 @@ module _ {V E : Type 0} (entries : V → List E) (members : V → ℕ) (author :
       let both : Maker n ≡ Maker h.count = sym role ∙ ap (λ x. x.role) same ∙ h.maker.role in cc both in
       let counts : w.role ≡ Maker (h.count + 1) = ap count_up role ∙ ap (λ k. Maker (k + 1)) count in
       let next : p.role ≡ Caller h.count = ap next_of role ∙ ap Caller count in
+      let no_number : (k : ℕ) → Stands k v → ⊥ = λ k. ⊎_elim (λ (r : v.role ≡ Caller k). absurd (cc (role, r))) (λ (c : Closes k v). let by = mine.closer k c in absurd (cc (role, by.1))) in
+      let back : (k : ℕ) → Stands k w → Stands k v = λ k. ⊎_elim (λ (r : w.role ≡ Caller k). absurd (cc (counts, r))) (λ (c : Closes k w). inr c) in
+      let one_number : (k : ℕ) → Stands k p → h.count ≡ k = λ k. ⊎_elim (λ (r : p.role ≡ Caller k). cc (next, r)) (λ (c : Closes k p). absurd (closes_none k p refl c)) in
       let views = set s.views id w in
       let so : (i : ℕ) (u : View E) → get_elem? views i ≡ some u → IsSo author callers h.count h.log u =
       each_set (λ _ u. IsSo author callers h.count h.log u) s.views id w (λ i u _ e. h.views i u e) record {
-        read = mine.read;
-        behind = mine.behind;
-        front = mine.front;
-        made = λ k r. absurd (cc (counts, r));
-        own = λ k r. absurd (cc (counts, r));
+        sees = record {
+          read = mine.sees.read;
+          known = mine.sees.known;
+          front = mine.sees.front;
+          own = λ k r. absurd (cc (counts, r));
+          closed = mine.sees.closed;
+        };
         looks = mine.looks;
+        behind = mine.behind;
+        made = λ k r. absurd (no_number k (back k r));
         number = λ _. live;
         turn = λ t. absurd (let c = mine.turn t in cc (c.1, role));
+        closer = λ k c. absurd (no_number k (inr c));
       } in
       record {
         log = h.log;
@@ -108,33 +124,37 @@ module _ {V E : Type 0} (entries : V → List E) (members : V → ℕ) (author :
             p
             h.count
             (λ i k u e r. (so i u e).made k r)
-            next
-            (λ k r. cc (next, r))
-            (numbers_stay s.views id v w at h.count (λ k r. absurd (cc (role, r))) (λ k r. absurd (cc (counts, r))) h.numbers);
+            (inl next)
+            (λ k r. sym (one_number k r))
+            (numbers_stay s.views id v w at h.count (λ k r. absurd (no_number k r)) back h.numbers);
         views = each_added
             (λ _ u. IsSo author callers (h.count + 1) h.log u)
             views
             p
             (λ i u e.
             let was = so i u e in record {
-              read = was.read;
-              behind = was.behind;
-              front = was.front;
-              made = λ k r. let b = was.made k r in omega arith;
-              own = was.own;
+              sees = was.sees;
               looks = was.looks;
+              behind = was.behind;
+              made = λ k r. let b = was.made k r in omega arith;
               number = was.number;
               turn = was.turn;
+              closer = was.closer;
             })
             record {
-              read = prefix_nil h.log;
-              behind = omega arith;
-              front = omega arith;
-              made = λ k r. let same : h.count ≡ k = cc (next, r) in omega arith;
-              own = λ k r. let same : h.count ≡ k = cc (next, r) in sym (h.unmade k (omega arith));
+              sees = record {
+                read = prefix_nil h.log;
+                known = All-nil (λ list. IsPrefix list h.log);
+                front = omega arith;
+                own = λ k r. let same = one_number k (inl r) in sym (h.unmade k (omega arith));
+                closed = All-nil (λ c. c.1 ≡ entries_by author c.0 h.log);
+              };
               looks = All-nil (λ word. word / 2 ≤ length h.log);
+              behind = omega arith;
+              made = λ k r. let same = one_number k r in omega arith;
               number = λ _. live;
               turn = λ t. absurd (true≢false (sym t));
+              closer = λ k c. absurd (closes_none k p refl c);
             };
         unmade = λ k above. h.unmade k (omega arith);
       }

@@ -1,3 +1,4 @@
+pub mod Gathered
 pub mod Entries
 pub mod Lock
 pub mod Passes

@@ -1,19 +1,23 @@
 -- The rule that every step at the lock's table keeps, and the steps by name.
 -- The table has one word, which is twice the length of the history, plus 1 while the turn is held, and one slot, which has the value.
-use Rattle.std.specs.Prelude.{◌≡◌, ◌≢◌, ◌⊎◌, ℕ, ◌+◌, ◌*◌, ◌/◌, ◌%◌, ◌<◌, ◌≤◌, true, false, List, [], ◌∷◌, ◌++◌, length, drop, All, Option, Some, None}
+use Rattle.std.specs.Prelude.{◌≡◌, ◌≢◌, ◌⊎◌, ℕ, ◌+◌, ◌*◌, ◌/◌, ◌%◌, ◌<◌, ◌≤◌, true, false, List, [], ◌∷◌, ◌++◌, length, drop, max, All, Contains, Option, Some, None}
 use mathlib.Core.Option.{none, some}
 use mathlib.Core.List.{IsPrefix}
 use lib.ListN.{get_elem?}
 use Rattle.atomic_table.specs.Table.{State, Me}
 use Rattle.te_lock.specs.declared.view.View.{View}
 use Rattle.te_lock.specs.declared.view.Role.{Role}
-use Rattle.te_lock.specs.declared.view.Role.TheVariants.{Maker, Caller, Spent}
-use Rattle.te_lock.specs.Entries.{entries_by, GoesOnBy}
+use Rattle.te_lock.specs.declared.view.Role.TheVariants.{Maker, Caller, Note, Spent}
+use Rattle.te_lock.specs.Entries.{entries_by, GoesOnBy, longer}
 
 module _ {E : Type 0} where
-  -- the caller number stands in the view
+  -- the caller number is closed in the view
+  abbrev pub Closes : ℕ → View E → Type 0
+  Closes caller v = (own : List E) × Contains v.closed (caller, own)
+
+  -- the caller number stands in the view: it is the view's own, or closed in it
   abbrev pub Stands : ℕ → View E → Type 0
-  Stands caller v = v.role ≡ Caller caller
+  Stands caller v = (v.role ≡ Caller caller) ⊎ Closes caller v
 
   -- exactly one view is the maker's, and it counts the passes that were made
   pub record HasMaker (count : ℕ) (views : List (View E)) : Type 0 where
@@ -37,16 +41,23 @@ module _ {E : Type 0} where
     pub each : (k : ℕ) → k < count → (i : ℕ) × (v : View E) × (get_elem? views i ≡ some v) × Stands k v
     pub once : (k i j : ℕ) (v u : View E) → get_elem? views i ≡ some v → get_elem? views j ≡ some u → Stands k v → Stands k u → i ≡ j
 
-  -- what a view says is so: what it read begins the history, what it saw in all its looks is no longer than that, its own entries are all that its caller has there, and only a caller has the turn
-  pub record IsSo (author : E → ℕ) (callers count : ℕ) (log : List E) (v : View E) : Type 0 where
+  -- what a view says of the history is so: what it read and each list that it knows begin it; it saw no longer one; the entries that it has of a caller are all that the caller has there
+  pub record Sees (author : E → ℕ) (log : List E) (v : View E) : Type 0 where
     pub read : IsPrefix v.read log
-    pub behind : length v.read ≤ v.front
+    pub known : All (λ list. IsPrefix list log) v.known
     pub front : v.front ≤ length log
-    pub made : (k : ℕ) → Stands k v → k < count
     pub own : (k : ℕ) → v.role ≡ Caller k → v.own ≡ entries_by author k log
+    pub closed : All (λ c. c.1 ≡ entries_by author c.0 log) v.closed
+
+  -- a view is so: it sees the history, of which no look found a longer one; its callers were made; it has the lock's number of callers; only a caller's view has the turn, or closed numbers
+  pub record IsSo (author : E → ℕ) (callers count : ℕ) (log : List E) (v : View E) : Type 0 where
+    pub sees : Sees author log v
+    pub behind : length v.read ≤ v.front
     pub looks : All (λ word. word / 2 ≤ length log) v.looks
+    pub made : (k : ℕ) → Stands k v → k < count
     pub number : v.role ≢ Spent → v.callers ≡ callers
     pub turn : v.has_turn ≡ true → (k : ℕ) × (v.role ≡ Caller k)
+    pub closer : (k : ℕ) → Closes k v → (n : ℕ) × (v.role ≡ Caller n)
 
 module _ {V E : Type 0} (entries : V → List E) (members : V → ℕ) where
   -- the word is even: nobody has the turn, and the slot is at home with a value whose list is the history
@@ -80,19 +91,19 @@ module _ {V E : Type 0} (entries : V → List E) (members : V → ℕ) (author :
 module _ {E : Type 0} where
   -- the maker's view, when it has made so many passes
   abbrev pub maker_of : ℕ → ℕ → View E
-  maker_of count callers = record { role = Maker count; callers = callers; read = []; front = 0; own = []; looks = []; has_turn = false }
+  maker_of count callers = record { role = Maker count; callers = callers; read = []; front = 0; own = []; looks = []; known = []; closed = []; has_turn = false }
 
   -- the view after the turn was taken, at a value of this list
   abbrev pub taken : List E → View E → View E
-  taken list v = record { role = v.role; callers = v.callers; read = list; front = length list; own = v.own; looks = v.looks ++ (2 * length list) ∷ []; has_turn = true }
+  taken list v = record { role = v.role; callers = v.callers; read = list; front = length list; own = v.own; looks = v.looks ++ (2 * length list) ∷ []; known = v.known; closed = v.closed; has_turn = true }
 
   -- the view, which has not the turn, after it found this word
   abbrev pub looked : ℕ → View E → View E
-  looked found v = record { role = v.role; callers = v.callers; read = v.read; front = found / 2; own = v.own; looks = v.looks ++ found ∷ []; has_turn = v.has_turn }
+  looked found v = record { role = v.role; callers = v.callers; read = v.read; front = found / 2; own = v.own; looks = v.looks ++ found ∷ []; known = v.known; closed = v.closed; has_turn = v.has_turn }
 
   -- the view after the turn was given back, with a value of this list
   abbrev pub released : List E → View E → View E
-  released list v = record { role = v.role; callers = v.callers; read = list; front = length list; own = v.own ++ drop (length v.read) list; looks = v.looks; has_turn = false }
+  released list v = record { role = v.role; callers = v.callers; read = list; front = length list; own = v.own ++ drop (length v.read) list; looks = v.looks; known = v.known; closed = v.closed; has_turn = false }
 
 -- an even word was found: the seat has the turn and the slot, and the value has all that was seen
 pub record Takes {V E : Type 0} (entries : V → List E) (members : V → ℕ) (author : E → ℕ) (lawful : ℕ → List E → Type 0) (me : Me (Option V) (View E)) (found : ℕ) (after : Me (Option V) (View E)) : Type 0 where
@@ -102,10 +113,8 @@ pub record Takes {V E : Type 0} (entries : V → List E) (members : V → ℕ) (
   pub view : after.0 ≡ taken (entries value) me.0
   pub number : members value ≡ me.0.callers
   pub law : lawful me.0.callers (entries value)
-  pub sees : IsPrefix me.0.read (entries value)
-  pub reaches : me.0.front ≤ length (entries value)
+  pub sees : Sees author (entries value) me.0
   pub looks : All (λ word. word / 2 ≤ length (entries value)) me.0.looks
-  pub own : (k : ℕ) → me.0.role ≡ Caller k → me.0.own ≡ entries_by author k (entries value)
 
 -- a seat without the turn looks at the word: half of it is no less than all that was seen
 pub record Looks {V E : Type 0} (me : Me (Option V) (View E)) (found : ℕ) (after : Me (Option V) (View E)) : Type 0 where
@@ -139,6 +148,7 @@ pub record Ready {V E : Type 0} (entries : V → List E) (members : V → ℕ) (
   pub value : V
   pub caller : ℕ
   pub role : me.0.role ≡ Caller caller
+  pub alone : me.0.closed ≡ []
   pub slot : me.1 ≡ (0, Some value) ∷ []
   pub number : members value ≡ me.0.callers
   pub law : lawful me.0.callers (entries value)
@@ -148,18 +158,49 @@ pub record Ready {V E : Type 0} (entries : V → List E) (members : V → ℕ) (
 abbrev pub count_up : Role → Role
 count_up (Maker n) = Maker (n + 1)
 count_up (Caller k) = Caller k
+count_up Note = Note
 count_up Spent = Spent
 
 abbrev pub next_of : Role → Role
 next_of (Maker n) = Caller n
 next_of (Caller k) = Spent
+next_of Note = Spent
 next_of Spent = Spent
+
+-- the numbers of a joined view, each with its own entries
+abbrev pub closes_of : {E : Type 0} → Role → List E → List (ℕ × List E) → List (ℕ × List E)
+closes_of (Caller k) own closed = (k, own) ∷ closed
+closes_of (Maker n) own closed = closed
+closes_of Note own closed = closed
+closes_of Spent own closed = closed
 
 module _ {E : Type 0} where
   -- the maker's view after it made a pass
   abbrev pub counted : View E → View E
-  counted v = record { role = count_up v.role; callers = v.callers; read = v.read; front = v.front; own = v.own; looks = v.looks; has_turn = v.has_turn }
+  counted v = record { role = count_up v.role; callers = v.callers; read = v.read; front = v.front; own = v.own; looks = v.looks; known = v.known; closed = v.closed; has_turn = v.has_turn }
 
   -- the view of the pass that the maker makes next
   abbrev pub next_pass : View E → View E
-  next_pass v = record { role = next_of v.role; callers = v.callers; read = []; front = 0; own = []; looks = []; has_turn = false }
+  next_pass v = record { role = next_of v.role; callers = v.callers; read = []; front = 0; own = []; looks = []; known = []; closed = []; has_turn = false }
+
+  -- the view of a new note
+  abbrev pub noted : View E → View E
+  noted v = record { role = Note; callers = v.callers; read = v.read; front = v.front; own = []; looks = []; known = v.known; closed = []; has_turn = false }
+
+  -- the view after it took in the other
+  abbrev pub joined : View E → View E → View E
+  joined v u = record {
+    role = v.role;
+    callers = v.callers;
+    read = longer v.read u.read;
+    front = max v.front u.front;
+    own = v.own;
+    looks = v.looks;
+    known = (v.known ++ u.known) ++ v.read ∷ u.read ∷ [];
+    closed = v.closed ++ closes_of u.role u.own u.closed;
+    has_turn = v.has_turn;
+  }
+
+  -- the view that was taken in
+  abbrev pub spent : View E
+  spent = record { role = Spent; callers = 0; read = []; front = 0; own = []; looks = []; known = []; closed = []; has_turn = false }

@@ -1,7 +1,7 @@
 // The rule of the lock's table, and what its steps tell.
 use crate::kept::Kept;
 use crate::view::View;
-use atomic_table::{Play, Split, TableRule};
+use atomic_table::{Join, Play, Split, TableRule};
 
 /// The rule: one word, one slot, and what every view knows of the one history.
 pub struct Law;
@@ -50,4 +50,26 @@ impl<E> Split<View<E>> for Makes {
     ghost left = { counted };
 
     ghost right = { next_pass };
+}
+
+/// The step that makes a note.
+pub struct Notes;
+
+impl<E> Split<View<E>> for Notes {
+    ghost use Rattle.te_lock.specs.Rule.{noted};
+
+    ghost left = { λ v. v };
+
+    ghost right = { noted };
+}
+
+/// The step that joins two views.
+pub struct Meets;
+
+impl<E> Join<View<E>> for Meets {
+    ghost use Rattle.te_lock.specs.Rule.{joined, spent};
+
+    ghost both = { joined };
+
+    ghost spent = { spent };
 }

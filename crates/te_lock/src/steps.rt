@@ -1,10 +1,10 @@
 // The steps at the lock's table, each by its name in the rule.
-ghost use Rattle.std.specs.Prelude.{◌≡◌, ℕ, ◌<◌, [], ◌∷◌, Some, None, true, false};
-ghost use Rattle.te_lock.specs.declared.view.Role.TheVariants.{Maker, Caller};
-ghost use Rattle.te_lock.specs.Rule.{Asked, Empties, Fills, Looks, Released, Ready, counted, next_pass};
+ghost use Rattle.std.specs.Prelude.{◌≡◌, ◌≢◌, ℕ, ◌<◌, [], ◌∷◌, Some, None, true, false};
+ghost use Rattle.te_lock.specs.declared.view.Role.TheVariants.{Maker, Caller, Spent};
+ghost use Rattle.te_lock.specs.Rule.{Asked, Empties, Fills, Looks, Released, Ready, counted, joined, next_pass, noted};
 
 use crate::kept::Kept;
-use crate::law::{Asks, Law, Loads, Makes, Releases};
+use crate::law::{Asks, Law, Loads, Makes, Meets, Notes, Releases};
 use crate::view::View;
 use atomic_table::{Seat, Shared};
 
@@ -81,4 +81,29 @@ pub fn make<V: Kept>(table: &Shelf<V>, maker: &mut Place<V>) -> Place<V>
     ensures made { result.me ≡ (next_pass maker.old.me.0, []) }
 {
     table.split_seat::<Makes>(maker)
+}
+
+/// Makes a note of what the seat knows.
+pub fn note<V: Kept>(table: &Shelf<V>, seat: &mut Place<V>) -> Place<V>
+    requires here { (seat.old.table_id ≡ table.now.table_id) × (table.now.table_id.words ≡ 1) }
+    requires caller { (k : ℕ) × (seat.old.me.0.role ≡ Caller k) }
+    ensures here { (seat.new.table_id ≡ seat.old.table_id) × (result.table_id ≡ seat.old.table_id) }
+    ensures same { seat.new.me ≡ seat.old.me }
+    ensures noted { result.me ≡ (noted seat.old.me.0, []) }
+{
+    table.split_seat::<Notes>(seat)
+}
+
+/// Takes in what the other seat, of a note or of a pass without the turn, knows.
+pub fn join<V: Kept>(table: &Shelf<V>, seat: &mut Place<V>, other: Place<V>)
+    requires here { (seat.old.table_id ≡ table.now.table_id) × (table.now.table_id.words ≡ 1) }
+    requires there { other.table_id ≡ table.now.table_id }
+    requires caller { (k : ℕ) × (seat.old.me.0.role ≡ Caller k) }
+    requires no_maker { (n : ℕ) → other.me.0.role ≢ Maker n }
+    requires not_spent { other.me.0.role ≢ Spent }
+    requires idle { (other.me.0.has_turn ≡ false) × (other.me.1 ≡ []) }
+    ensures here { seat.new.table_id ≡ seat.old.table_id }
+    ensures joined { seat.new.me ≡ (joined seat.old.me.0 other.me.0, seat.old.me.1) }
+{
+    table.join_seat::<Meets>(seat, other);
 }

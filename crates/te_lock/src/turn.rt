@@ -21,18 +21,18 @@ use te_terms::NoMemory;
 /// Contracts see it as a `Lock`: which lock it is, and its number of callers.
 #[derive(Drop)]
 pub struct Turn<V: Kept> {
-    table: Table<Option<V>, View<V::Entry>, u32, Law, Global>,
+    pub(crate) table: Table<Option<V>, View<V::Entry>, u32, Law, Global>,
 }
 
 impl<V: Kept> Model for Turn<V> {
-    ghost use Rattle.std.specs.Prelude.{◌≡◌};
+    ghost use Rattle.std.specs.Prelude.{◌≡◌, ◌<◌};
     ghost use Rattle.te_lock.specs.Lock.{Lock};
 
     ghost Value = { Lock };
 
     ghost view = { λ t. record { table = t.table.shared.table_id; callers = t.table.shared.key } };
 
-    ghost invariant = { λ t. t.table.shared.table_id.words ≡ 1 };
+    ghost invariant = { λ t. (t.table.shared.table_id.words ≡ 1) × (t.table.shared.table_id.slots ≡ 1) × (0 < t.table.shared.key) };
 }
 
 impl<V: Kept> Turn<V> {
@@ -74,10 +74,11 @@ impl<V: Kept> Turn<V> {
 
         // how the list goes on from what was known
         ensures begins { OnOk result (IsPrefix pass.old.read pass.new.read) }
+        ensures begins_known { OnOk result (All (λ list. IsPrefix list pass.new.read) pass.old.known) }
         ensures reaches { OnOk result (pass.old.front ≤ length pass.new.read) }
         ensures front { OnOk result (pass.new.front ≡ length pass.new.read) }
         ensures own { OnOk result (entries_by V.author pass.new.caller pass.new.read ≡ pass.new.own) }
-        ensures kept { pass.new.own ≡ pass.old.own }
+        ensures kept { (pass.new.own ≡ pass.old.own) × (pass.new.known ≡ pass.old.known) }
 
         // what was looked at
         ensures found_free { OnOk result (pass.new.looks ≡ pass.old.looks ++ (2 * length pass.new.read) ∷ []) }
@@ -109,10 +110,11 @@ impl<V: Kept> Turn<V> {
 
         // how the list goes on from what was known
         ensures begins { IsPrefix pass.old.read pass.new.read }
+        ensures begins_known { All (λ list. IsPrefix list pass.new.read) pass.old.known }
         ensures reaches { pass.old.front ≤ length pass.new.read }
         ensures front { pass.new.front ≡ length pass.new.read }
         ensures own { entries_by V.author pass.new.caller pass.new.read ≡ pass.new.own }
-        ensures kept { pass.new.own ≡ pass.old.own }
+        ensures kept { (pass.new.own ≡ pass.old.own) × (pass.new.known ≡ pass.old.known) }
 
         // what was looked at
         ensures found { WaitsFor (2 * length pass.new.read) pass.old.looks pass.new.looks }
@@ -142,6 +144,7 @@ impl<V: Kept> Turn<V> {
         ensures own { (more : List V.Entry) → V.entries value ≡ pass.old.read ++ more → pass.new.own ≡ pass.old.own ++ more }
         ensures front { pass.new.front ≡ length pass.new.read }
         ensures looks { pass.new.looks ≡ pass.old.looks }
+        ensures known { pass.new.known ≡ pass.old.known }
         ensures law { V.lawful pass.new.lock.callers pass.new.read }
     {
         let word = 2 * value.length();
@@ -162,6 +165,7 @@ impl<V: Kept> Turn<V> {
         ensures reaches { All (λ word. word / 2 ≤ result) pass.new.looks }
         ensures read { pass.new.read ≡ pass.old.read }
         ensures own { pass.new.own ≡ pass.old.own }
+        ensures known { pass.new.known ≡ pass.old.known }
     {
         load(&self.table.shared, &mut pass.seat) / 2
     }

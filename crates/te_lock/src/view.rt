@@ -1,10 +1,11 @@
 use std::collections::LinkedList;
 
 /// Whose view it is: that of the maker of passes, with how many it has made, that of a caller by its
-/// number, or one that a join has used up.
+/// number, a note's, or one that a join has used up.
 pub enum Role {
     Maker(u32),
     Caller(u32),
+    Note,
     Spent,
 }
 
@@ -21,5 +22,9 @@ pub struct View<E> {
     pub own: LinkedList<E>,
     /// The words that its looks found while it hadn't the turn, in order.
     pub looks: LinkedList<u64>,
+    /// Lists that the history is known to begin with.
+    pub known: LinkedList<LinkedList<E>>,
+    /// The caller numbers of passes that were joined into this one, each with its own entries.
+    pub closed: LinkedList<(u32, LinkedList<E>)>,
     pub has_turn: bool,
 }

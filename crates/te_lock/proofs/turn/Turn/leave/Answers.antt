@@ -14,6 +14,7 @@ release-requires-clause-ready g c =
       value = c.args.value;
       caller = c.pass.inside.caller;
       role = c.pass.invariant.role;
+      alone = c.pass.invariant.alone;
       slot = refl;
       number = number;
       law = subst (λ n. g.V.Kept.lawful n (g.V.Kept.entries c.args.value)) number c.length-word.ensures.lawful;

@@ -12,6 +12,7 @@ invariant-loop g l = record {
   idle : l.pass.has_turn ≡ false;
   read : l.pass.read ≡ l.fn.pass.read;
   own : l.pass.own ≡ l.fn.pass.own;
+  known : l.pass.known ≡ l.fn.pass.known;
   front : l.fn.pass.front ≤ l.pass.front;
   waited : (waited : List ℕ) × All (λ word. word % 2 ≡ 1) waited × (l.pass.looks ≡ l.fn.pass.looks ++ waited);
 }
