@@ -12,6 +12,7 @@ slots_of true = (0, None) ∷ []
 slots_of false = []
 
 module _ {E : Type 0} where
+  -- what contracts see of a pass with this view
   abbrev pub knowledge : TableId → ℕ → View E → Knowledge E
   knowledge table caller v = record { lock = record { table = table; callers = v.callers }; caller = caller; read = v.read; front = v.front; own = v.own; looks = v.looks; known = v.known; has_turn = v.has_turn }
 
@@ -24,6 +25,7 @@ module _ {E : Type 0} where
     pub below : caller < me.0.callers
     pub behind : length me.0.read ≤ me.0.front
 
+  -- what contracts see of a note with this view
   abbrev pub noted_of : TableId → View E → Noted E
   noted_of table v = record { lock = record { table = table; callers = v.callers }; read = v.read; front = v.front; known = v.known }
 

@@ -1,5 +1,15 @@
 -- The rule that every step at the lock's table keeps, and the steps by name.
--- The table has one word, which is twice the length of the history, plus 1 while the turn is held, and one slot, which has the value.
+-- The table has one word, which is twice the length of the history, plus 1 while the turn is held, and one slot, which has the value. A view changes only at a step on the word.
+-- There are nine kinds of step:
+--     a load                                Looks
+--     a fetch_or of 1 at an even word       Takes
+--     a fetch_or of 1 at an odd word        FindsHeld
+--     an exchange that empties the slot     Empties
+--     an exchange that fills it             Fills
+--     the swap that gives the turn back     Released, which asks Ready
+--     a pass is made                        counted, next_pass
+--     a note is made                        noted
+--     two views are joined                  joined, spent
 use Rattle.std.specs.Prelude.{◌≡◌, ◌≢◌, ◌⊎◌, ℕ, ◌+◌, ◌*◌, ◌/◌, ◌%◌, ◌<◌, ◌≤◌, true, false, List, [], ◌∷◌, ◌++◌, length, drop, max, All, Contains, Option, Some, None}
 use mathlib.Core.Option.{none, some}
 use mathlib.Core.List.{IsPrefix}
@@ -95,15 +105,15 @@ module _ {E : Type 0} where
 
   -- the view after the turn was taken, at a value of this list
   abbrev pub taken : List E → View E → View E
-  taken list v = record { role = v.role; callers = v.callers; read = list; front = length list; own = v.own; looks = v.looks ++ (2 * length list) ∷ []; known = v.known; closed = v.closed; has_turn = true }
+  taken list v = record v { read = list; front = length list; looks = v.looks ++ (2 * length list) ∷ []; has_turn = true }
 
   -- the view, which has not the turn, after it found this word
   abbrev pub looked : ℕ → View E → View E
-  looked found v = record { role = v.role; callers = v.callers; read = v.read; front = found / 2; own = v.own; looks = v.looks ++ found ∷ []; known = v.known; closed = v.closed; has_turn = v.has_turn }
+  looked found v = record v { front = found / 2; looks = v.looks ++ found ∷ [] }
 
   -- the view after the turn was given back, with a value of this list
   abbrev pub released : List E → View E → View E
-  released list v = record { role = v.role; callers = v.callers; read = list; front = length list; own = v.own ++ drop (length v.read) list; looks = v.looks; known = v.known; closed = v.closed; has_turn = false }
+  released list v = record v { read = list; front = length list; own = v.own ++ drop (length v.read) list; has_turn = false }
 
 -- an even word was found: the seat has the turn and the slot, and the value has all that was seen
 pub record Takes {V E : Type 0} (entries : V → List E) (members : V → ℕ) (author : E → ℕ) (lawful : ℕ → List E → Type 0) (me : Me (Option V) (View E)) (found : ℕ) (after : Me (Option V) (View E)) : Type 0 where
@@ -155,12 +165,14 @@ pub record Ready {V E : Type 0} (entries : V → List E) (members : V → ℕ) (
   pub goes : GoesOnBy author caller me.0.read (entries value)
   pub twice : word ≡ 2 * length (entries value)
 
+-- the maker counts one pass more
 abbrev pub count_up : Role → Role
 count_up (Maker n) = Maker (n + 1)
 count_up (Caller k) = Caller k
 count_up Note = Note
 count_up Spent = Spent
 
+-- the next pass has the number that the maker counted to
 abbrev pub next_of : Role → Role
 next_of (Maker n) = Caller n
 next_of (Caller k) = Spent
@@ -177,7 +189,7 @@ closes_of Spent own closed = closed
 module _ {E : Type 0} where
   -- the maker's view after it made a pass
   abbrev pub counted : View E → View E
-  counted v = record { role = count_up v.role; callers = v.callers; read = v.read; front = v.front; own = v.own; looks = v.looks; known = v.known; closed = v.closed; has_turn = v.has_turn }
+  counted v = record v { role = count_up v.role }
 
   -- the view of the pass that the maker makes next
   abbrev pub next_pass : View E → View E
@@ -185,20 +197,15 @@ module _ {E : Type 0} where
 
   -- the view of a new note
   abbrev pub noted : View E → View E
-  noted v = record { role = Note; callers = v.callers; read = v.read; front = v.front; own = []; looks = []; known = v.known; closed = []; has_turn = false }
+  noted v = record v { role = Note; own = []; looks = []; closed = []; has_turn = false }
 
   -- the view after it took in the other
   abbrev pub joined : View E → View E → View E
-  joined v u = record {
-    role = v.role;
-    callers = v.callers;
+  joined v u = record v {
     read = longer v.read u.read;
     front = max v.front u.front;
-    own = v.own;
-    looks = v.looks;
     known = (v.known ++ u.known) ++ v.read ∷ u.read ∷ [];
     closed = v.closed ++ closes_of u.role u.own u.closed;
-    has_turn = v.has_turn;
   }
 
   -- the view that was taken in

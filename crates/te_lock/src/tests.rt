@@ -207,20 +207,21 @@ impl Kept for Tally {
     }
 }
 
-// The front that another thread sees with this pass, which goes there and comes back.
+// The front that another thread sees with this pass, which goes there and comes back with a note.
 fn front_elsewhere<V: Kept + Send, R: Threads + Sync>(
     rt: &R,
     turn: &Turn<V>,
     mut pass: Pass<V>,
-) -> (u64, Pass<V>)
+) -> (u64, Pass<V>, Note<V>)
     requires here { pass.lock ≡ turn.now }
     requires idle { pass.has_turn ≡ false }
 {
-    let there = move || -> (u64, Pass<V>)
+    let there = move || -> (u64, Pass<V>, Note<V>)
         requires { (pass.lock ≡ turn.now) × (pass.has_turn ≡ false) }
     {
         let front = turn.front(&mut pass);
-        (front, pass)
+        let note = turn.split(&mut pass);
+        (front, pass, note)
     };
     thread::join(rt, there, || ()).0
 }
@@ -241,7 +242,7 @@ fn a_pass_goes_where_its_value_may(rt: HostRuntime) -> Result<(), Fail> {
         return Err("one entry".into());
     }
     turn.leave(&mut pass, tally);
-    let (front, pass) = front_elsewhere(&rt, &turn, pass);
+    let (front, pass, _note) = front_elsewhere(&rt, &turn, pass);
     assert!(rt; front == 1 && Turn::caller(&pass) == 0);
     Ok(())
 }
