@@ -16,7 +16,8 @@ use std::sync::Wait;
 use std::thread;
 use te_terms::NoMemory;
 
-/// The lock: one value, one turn, and one history of what was added to it.
+/// The lock: one value, one turn, and one history of what was added to it. The notion is this
+/// project's own.
 ///
 /// Contracts see it as a `Lock`: which lock it is, and its number of callers.
 #[derive(Drop)]
@@ -47,6 +48,7 @@ impl<V: Kept> Turn<V> {
         ensures callers { IfOk result (λ made. made.0.callers ≡ callers) }
         ensures passes { IfOk result (λ made. made.1.items ≡ new_passes made.0 callers) }
     {
+        // This tells that the empty list meets the law.
         let _ = value.length();
         let mut slots = Vec::new(alloc);
         slots.push(Some(value))?;
@@ -131,7 +133,7 @@ impl<V: Kept> Turn<V> {
 
     /// Gives the turn back, with the value that the lock keeps from now on. What stands in its list
     /// beyond what the pass has read are new entries of this caller; they join what the pass has
-    /// read and its own entries. It waits for nobody.
+    /// read and its own entries. The list has fewer than 2^62 entries. It waits for nobody.
     pub fn leave(&self, pass: &mut Pass<V>, value: V)
         requires here { pass.old.lock ≡ self.now }
         requires turn { pass.old.has_turn ≡ true }
