@@ -3,4 +3,8 @@ pub mod RowsTerms
 pub mod RowsExchange
 pub mod RowsFilter
 pub mod RowsCaughtTrap
+pub mod RowsRing
+pub mod RowsRaises
 mod ReportsWorked
+mod PlaysWorked
+mod CertsWorked
