@@ -5,6 +5,8 @@ pub mod RowsFilter
 pub mod RowsCaughtTrap
 pub mod RowsRing
 pub mod RowsRaises
+pub mod NoCommit
+pub mod HistoriesWorked
 mod ReportsWorked
 mod PlaysWorked
 mod CertsWorked
