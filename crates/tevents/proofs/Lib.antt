@@ -7,6 +7,10 @@ pub mod RowsRing
 pub mod RowsRaises
 pub mod NoCommit
 pub mod HistoriesWorked
+pub mod FirstRound
 mod ReportsWorked
 mod PlaysWorked
 mod CertsWorked
+mod RoundsWorked
+mod BlocksRefused
+mod RoundEndsRefused
