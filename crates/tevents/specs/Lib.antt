@@ -6,3 +6,5 @@ pub mod OfScript
 pub mod Report
 pub mod Rounds
 pub mod Boards
+pub mod Groups
+pub mod Seats

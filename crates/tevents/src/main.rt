@@ -6,5 +6,7 @@ mod cert;
 mod history;
 mod kind;
 mod report;
+mod search;
+mod seat;
 
 fn main() {}

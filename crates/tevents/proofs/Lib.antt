@@ -1,0 +1,3 @@
+pub mod StanceLemmas
+pub mod WaitingKinds
+pub mod SmallPlays

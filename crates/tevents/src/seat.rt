@@ -1,0 +1,72 @@
+ghost use Rattle.std.specs.Prelude.{◌≡◌, ◌≢◌, ℕ, List, IfSome, IfNone};
+ghost use Rattle.te_terms.specs.declared.value.Atom.{Atom};
+ghost use Rattle.tevents.specs.declared.seat.Stance.TheVariants.{Parked};
+ghost use Rattle.tevents.specs.declared.kind.Kind.TheVariants.{Send, Recv};
+
+use crate::kind::Kind;
+use te_terms::{Outcome, Value};
+
+/// Where a caller stands, with what its next step needs of its event or outcome.
+#[derive(Clone, Copy)]
+pub(crate) enum Stance {
+    Idle,
+    Parked(u32, Kind),
+    Given(u32, Outcome),
+    Ended,
+}
+
+impl Stance {
+    /// The caller's ticket and value, where its parked event sends on the channel.
+    pub(crate) fn sends_on(&self, thread: u32, channel: u32) -> Option<(Party, Value)>
+        ensures some { IfSome result (λ found. (found.0.thread ≡ thread) × (self.now ≡ Parked found.0.ticket (Send channel found.1))) }
+        ensures none { IfNone result ((ticket : ℕ) (value : List Atom) → self.now ≢ Parked ticket (Send channel value)) }
+    {
+        let Stance::Parked(ticket, kind) = self else {
+            return None;
+        };
+        let Kind::Send(on, value) = kind else {
+            return None;
+        };
+        let party = Party {
+            thread,
+            ticket: *ticket,
+        };
+        if *on == channel {
+            Some((party, *value))
+        } else {
+            None
+        }
+    }
+
+    /// The caller's ticket, where its parked event receives on the channel.
+    pub(crate) fn receives_on(&self, thread: u32, channel: u32) -> Option<Party>
+        ensures some { IfSome result (λ found. (found.thread ≡ thread) × (self.now ≡ Parked found.ticket (Recv channel))) }
+        ensures none { IfNone result ((ticket : ℕ) → self.now ≢ Parked ticket (Recv channel)) }
+    {
+        let Stance::Parked(ticket, kind) = self else {
+            return None;
+        };
+        let Kind::Recv(on) = kind else {
+            return None;
+        };
+        let party = Party {
+            thread,
+            ticket: *ticket,
+        };
+        if *on == channel { Some(party) } else { None }
+    }
+}
+
+/// A parked caller and its ticket.
+#[derive(Clone, Copy)]
+pub(crate) struct Party {
+    pub thread: u32,
+    pub ticket: u32,
+}
+
+/// A caller on a board: how often it has posted, and where it stands.
+#[derive(Clone, Copy)]
+pub(crate) struct Seat {
+    pub posts: u32,
+    pub stance: Stance,
+}
