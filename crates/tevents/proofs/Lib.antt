@@ -1,3 +1,4 @@
 pub mod StanceLemmas
 pub mod WaitingKinds
 pub mod SmallPlays
+pub mod NoneCommits
