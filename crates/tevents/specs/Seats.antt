@@ -1,6 +1,11 @@
 -- What a board keeps of its callers, and what the search over it tells. No contract outside the board cites this module.
-use Rattle.std.specs.Prelude.{◌≡◌, ℕ, ◌<◌, ◌≤◌, Bool, List, length, Option, Some, None, slice_get}
+use Rattle.std.specs.Prelude.{◌≡◌, ℕ, ◌<◌, ◌≤◌, List, length, Option, Some, None, slice_get, slice_set}
 use Rattle.te_terms.specs.declared.value.Atom.{Atom}
+use Rattle.te_terms.specs.Terms.{Term}
+use Rattle.tevents.specs.declared.board.Place.{Place}
+use Rattle.tevents.specs.declared.board.Place.TheVariants as places
+use Rattle.tevents.specs.declared.kind.Kind.{Kind}
+use Rattle.tevents.specs.declared.seat.Party.{Party}
 use Rattle.tevents.specs.declared.history.Entry.{Entry}
 use Rattle.tevents.specs.declared.kind.Kind.TheVariants as kinds
 use Rattle.tevents.specs.declared.seat.Stance.{Stance}
@@ -8,8 +13,8 @@ use Rattle.tevents.specs.declared.seat.Stance.TheVariants as stances
 use Rattle.tevents.specs.declared.seat.Seat.{Seat}
 use Rattle.tevents.specs.declared.search.Found.{Found}
 use Rattle.tevents.specs.declared.search.Found.TheVariants as founds
-use Rattle.tevents.specs.State.{Standing, idle, parked, given, ended, state, posts_by}
-use Rattle.tevents.specs.Follows.{IsLegal}
+use Rattle.tevents.specs.State.{Standing, idle, parked, given, ended, State, state, posts_by}
+use Rattle.tevents.specs.Follows.{Stands, IsLegal}
 use Rattle.tevents.specs.Boards.{IsOfKind}
 
 -- ---- seats
@@ -29,11 +34,30 @@ SeatShows posts None None = Unit {0}
 SeatShows posts _ _ = ⊥
 
 -- the history is legal, and each seat shows its caller after it
-pub record IsKept (history : List Entry) (seats : List Seat) (stuck : Bool) : Type 0 where
-  pub few : length seats ≤ 64
-  pub legal : IsLegal (length seats) history
-  pub stuck_is : (state (length seats) history).stuck ≡ stuck
-  pub shows : (t : ℕ) → SeatShows (posts_by t history) (slice_get seats t) (slice_get (state (length seats) history).callers t)
+pub record IsKept (callers : ℕ) (history : List Entry) (seats : List Seat) : Type 0 where
+  pub few : callers ≤ 64
+  pub count : length seats ≡ callers
+  pub legal : IsLegal callers history
+  pub shows : (t : ℕ) → SeatShows (posts_by t history) (slice_get seats t) (slice_get (state callers history).callers t)
+
+-- a caller takes another stance
+pub record Restands (old new : List Seat) (by : ℕ) (stance : Stance) : Type 0 where
+  pub seat : Seat
+  pub was : slice_get old by ≡ Some seat
+  pub is : new ≡ slice_set old by (record seat { stance = stance })
+
+-- a caller is parked under its ticket, with an event of this kind
+pub record IsParkedAs (s : State) (at : Party) (kind : Kind) : Type 0 where
+  pub event : Term
+  pub stands : Stands s at.thread (parked at.ticket event)
+  pub is_so : IsOfKind event kind
+
+-- the place that a stance shows
+abbrev pub place_of : Stance → Place
+place_of stances.Idle = places.Idle
+place_of (stances.Parked ticket kind) = places.Parked
+place_of (stances.Given ticket outcome) = places.Given
+place_of stances.Ended = places.Ended
 
 -- ---- what a search finds
 

@@ -3,6 +3,7 @@
 
 mod board;
 mod cert;
+mod group;
 mod history;
 mod kind;
 mod report;

@@ -8,13 +8,6 @@ use crate::kind::Kind;
 use crate::seat::{Party, Seat, Stance};
 use te_terms::Value;
 
-/// The threads of a group that has committed: one alone, or two, the lower first.
-#[derive(Clone, Copy)]
-pub(crate) enum Group {
-    One(u32),
-    Two(u32, u32),
-}
-
 /// What can commit: a caller whose event has a value, or a sender of a value and a receiver on its channel.
 #[derive(Clone, Copy)]
 pub(crate) enum Found {

@@ -1,8 +1,10 @@
-ghost use Rattle.std.specs.Prelude.{◌≡◌, ◌≢◌, ℕ, List, IfSome, IfNone};
+ghost use Rattle.std.specs.Prelude.{◌≡◌, ◌≢◌, ◌<◌, ℕ, List, length, IfSome, IfNone};
 ghost use Rattle.te_terms.specs.declared.value.Atom.{Atom};
-ghost use Rattle.tevents.specs.declared.seat.Stance.TheVariants.{Parked};
+ghost use Rattle.tevents.specs.declared.seat.Stance.TheVariants.{Parked, Given};
 ghost use Rattle.tevents.specs.declared.kind.Kind.TheVariants.{Send, Recv};
+ghost use Rattle.tevents.specs.Seats.{HasStance, Restands, place_of};
 
+use crate::board::Place;
 use crate::kind::Kind;
 use te_terms::{Outcome, Value};
 
@@ -16,6 +18,28 @@ pub(crate) enum Stance {
 }
 
 impl Stance {
+    pub(crate) fn place(&self) -> Place
+        ensures { result ≡ place_of self.now }
+    {
+        match self {
+            Stance::Idle => Place::Idle,
+            Stance::Parked(_, _) => Place::Parked,
+            Stance::Given(_, _) => Place::Given,
+            Stance::Ended => Place::Ended,
+        }
+    }
+
+    /// The ticket and the outcome of a caller that has been given one.
+    pub(crate) fn given(&self) -> (u32, Outcome)
+        requires { (ticket : ℕ) × (outcome : _) × (self.now ≡ Given ticket outcome) }
+        ensures { self.now ≡ Given result.0 result.1 }
+    {
+        match self {
+            Stance::Given(ticket, outcome) => (*ticket, *outcome),
+            _ => unreachable!(),
+        }
+    }
+
     /// The caller's ticket and value, where its parked event sends on the channel.
     pub(crate) fn sends_on(&self, thread: u32, channel: u32) -> Option<(Party, Value)>
         ensures some { IfSome result (λ found. (found.0.thread ≡ thread) × (self.now ≡ Parked found.0.ticket (Send channel found.1))) }
@@ -69,4 +93,12 @@ pub(crate) struct Party {
 pub(crate) struct Seat {
     pub posts: u32,
     pub stance: Stance,
+}
+
+/// Gives a caller another stance.
+pub(crate) fn restand(seats: &mut [Seat], by: u32, stance: Stance)
+    requires { by < length seats.old }
+    ensures { Restands seats.old seats.new by stance }
+{
+    seats[by as usize].stance = stance;
 }

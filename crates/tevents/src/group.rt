@@ -1,0 +1,68 @@
+ghost use Rattle.std.specs.Prelude.{◌≡◌, [], ◌∷◌, IfOk};
+ghost use Rattle.tevents.specs.declared.history.Entry.TheVariants.{Commit};
+ghost use Rattle.tevents.specs.Groups.{as_member, cert_of_one, cert_of_two};
+
+use crate::cert::{Cert, Meeting, Member};
+use crate::history::Entry;
+use crate::seat::Party;
+use std::alloc::Global;
+use te_terms::{NoMemory, Outcome, Rows};
+
+/// The threads of a group that has committed: one alone, or two, the lower first.
+#[derive(Clone, Copy)]
+pub(crate) enum Group {
+    One(u32),
+    Two(u32, u32),
+}
+
+fn member(alloc: Global, party: Party) -> Member
+    ensures { result ≡ as_member party }
+{
+    Member {
+        thread: party.thread,
+        ticket: party.ticket,
+        choices: Rows::new(alloc),
+    }
+}
+
+/// The commit of one member, which meets nobody.
+pub(crate) fn commit_of_one(alloc: Global, at: Party, outcome: Outcome) -> Result<Entry, NoMemory>
+    ensures { IfOk result (λ entry. entry ≡ Commit at.thread (cert_of_one at) (outcome ∷ [])) }
+{
+    let mut members = Rows::new(alloc);
+    members.push(member(alloc, at))?;
+    let mut outcomes = Rows::new(alloc);
+    outcomes.push(outcome)?;
+    let meets = Rows::new(alloc);
+    let cert = Cert { members, meets };
+    Ok(Entry::Commit {
+        by: at.thread,
+        cert,
+        outcomes,
+    })
+}
+
+/// The commit of two members by the lower, which meet once.
+pub(crate) fn commit_of_two(
+    alloc: Global,
+    low: (Party, Outcome),
+    high: (Party, Outcome),
+    meeting: Meeting,
+) -> Result<Entry, NoMemory>
+    ensures { IfOk result (λ entry. entry ≡ Commit low.0.thread (cert_of_two low.0 high.0 meeting) (low.1 ∷ high.1 ∷ [])) }
+{
+    let mut members = Rows::new(alloc);
+    members.push(member(alloc, low.0))?;
+    members.push(member(alloc, high.0))?;
+    let mut outcomes = Rows::new(alloc);
+    outcomes.push(low.1)?;
+    outcomes.push(high.1)?;
+    let mut meets = Rows::new(alloc);
+    meets.push(meeting)?;
+    let cert = Cert { members, meets };
+    Ok(Entry::Commit {
+        by: low.0.thread,
+        cert,
+        outcomes,
+    })
+}
