@@ -3,3 +3,5 @@ pub mod Evaluating
 pub mod TermLemmas
 pub mod ChildLemmas
 pub mod SizeLemmas
+pub mod AdoptLemmas
+pub mod KeptLemmas

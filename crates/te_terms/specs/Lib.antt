@@ -8,3 +8,4 @@ pub mod Codes
 pub mod Stored
 pub mod Shape
 pub mod Kept
+pub mod Made

@@ -92,7 +92,11 @@ impl Value {
     pub fn get(&self, d: usize) -> Option<Atom>
         ensures { result ≡ slice_get self.now d }
     {
-        if d < self.len as usize { Some(self.atoms[d]) } else { None }
+        if d < self.len as usize {
+            Some(self.atoms[d])
+        } else {
+            None
+        }
     }
 
     /// Puts one more atom behind the others.
