@@ -6,8 +6,8 @@ use Rattle.std.proofs.lemmas.Option.{none-some, same_Some}
 use Rattle.te_terms.specs.declared.event.Outcome.{Outcome}
 use Rattle.te_terms.specs.declared.event.Parked.{Parked}
 use Rattle.te_terms.specs.Terms.{Term}
-use Rattle.te_terms.specs.Steps.{Member, quiet_step, outcome_of}
-use Rattle.te_terms.specs.Joint.{choice, meeting, Action, quiet, labelled, Message, after_choice, sending, receiving, member_of, with_member, with_term, handed, meeting_of, quiet_joint, choice_joint, meeting_joint, joint_step, after, outcomes_of, and_outcome, part, as_group, CanCommit}
+use Rattle.te_terms.specs.Steps.{Member, quiet_step}
+use Rattle.te_terms.specs.Joint.{choice, meeting, Action, quiet, labelled, Message, after_choice, sending, receiving, member_of, with_member, with_term, handed, meeting_of, joint_step, after, outcomes_of, and_outcome, part, as_group, CanCommit}
 use Rattle.tevents.specs.State.{Standing, idle, parked, given, ended, parked_from, parked_by}
 use Rattle.tevents.proofs.WaitingKinds.{Waits}
 

@@ -1,7 +1,6 @@
 -- What is known of the first callers, once one more has been looked at.
 use Rattle.std.proofs.Common.{◌≡◌, ◌≢◌, ℕ, ◌<◌, ◌+◌, List, length, get_or, Option, Some, None, IfNone, refl, ap, sym, ◌∙◌, arith, below_more}
 use Rattle.std.proofs.lemmas.Option.{same_Some, slice_get_read}
-use Rattle.std.specs.List.{slice_get}
 use Rattle.te_terms.specs.declared.value.Atom.{Atom}
 use Rattle.tevents.specs.declared.kind.Kind.TheVariants.{Always, Send, Recv}
 use Rattle.tevents.specs.declared.seat.Stance.{Stance}

@@ -1,9 +1,9 @@
 -- What a send and a receive whose channel and value are known can do alone: nothing.
-use Rattle.std.proofs.Common.{◌≡◌, ◌≢◌, ℕ, Bool, true, false, List, Option, Some, None, Ok, refl, ap, sym, ◌∙◌, subst}
+use Rattle.std.proofs.Common.{◌≡◌, ◌≢◌, ℕ, Bool, true, false, List, Some, None, Ok, refl, ap, sym, ◌∙◌, subst}
 use Rattle.std.proofs.lemmas.Option.{none-some, same_Some}
 use Rattle.te_terms.specs.declared.value.Atom.{Atom}
 use Rattle.te_terms.specs.Expressions.{Primitive, Expression, value_of, channel_value}
-use Rattle.te_terms.specs.Terms.{Term, always, send, recv}
+use Rattle.te_terms.specs.Terms.{Term, send, recv}
 use Rattle.te_terms.specs.Steps.{Member, quiet_step, outcome_of}
 use Rattle.te_terms.specs.Joint.{Message, after_choice, sending, receiving}
 use Rattle.tevents.specs.declared.kind.Kind.{Kind}

@@ -8,3 +8,5 @@ pub mod Rounds
 pub mod Boards
 pub mod Groups
 pub mod Seats
+pub mod Leaves
+pub mod LogCode

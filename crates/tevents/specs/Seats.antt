@@ -52,6 +52,10 @@ pub record IsParkedAs (s : State) (at : Party) (kind : Kind) : Type 0 where
   pub stands : Stands s at.thread (parked at.ticket event)
   pub is_so : IsOfKind event kind
 
+-- a caller is parked under its ticket
+abbrev pub IsParked : State → Party → Type 0
+IsParked s at = (event : Term) × Stands s at.thread (parked at.ticket event)
+
 -- the place that a stance shows
 abbrev pub place_of : Stance → Place
 place_of stances.Idle = places.Idle

@@ -26,13 +26,13 @@ fn member(alloc: Global, party: Party) -> Member
 }
 
 /// The commit of one member, which meets nobody.
-pub(crate) fn commit_of_one(alloc: Global, at: Party, outcome: Outcome) -> Result<Entry, NoMemory>
-    ensures { IfOk result (λ entry. entry ≡ Commit at.thread (cert_of_one at) (outcome ∷ [])) }
+pub(crate) fn commit_of_one(alloc: Global, at: Party, outcome: &Outcome) -> Result<Entry, NoMemory>
+    ensures { IfOk result (λ entry. entry ≡ Commit at.thread (cert_of_one at) (outcome.now ∷ [])) }
 {
     let mut members = Rows::new(alloc);
     members.push(member(alloc, at))?;
     let mut outcomes = Rows::new(alloc);
-    outcomes.push(outcome)?;
+    outcomes.push(*outcome)?;
     let meets = Rows::new(alloc);
     let cert = Cert { members, meets };
     Ok(Entry::Commit {
@@ -45,23 +45,25 @@ pub(crate) fn commit_of_one(alloc: Global, at: Party, outcome: Outcome) -> Resul
 /// The commit of two members by the lower, which meet once.
 pub(crate) fn commit_of_two(
     alloc: Global,
-    low: (Party, Outcome),
-    high: (Party, Outcome),
+    low: Party,
+    low_gets: &Outcome,
+    high: Party,
+    high_gets: &Outcome,
     meeting: Meeting,
 ) -> Result<Entry, NoMemory>
-    ensures { IfOk result (λ entry. entry ≡ Commit low.0.thread (cert_of_two low.0 high.0 meeting) (low.1 ∷ high.1 ∷ [])) }
+    ensures { IfOk result (λ entry. entry ≡ Commit low.thread (cert_of_two low high meeting) (low_gets.now ∷ high_gets.now ∷ [])) }
 {
     let mut members = Rows::new(alloc);
-    members.push(member(alloc, low.0))?;
-    members.push(member(alloc, high.0))?;
+    members.push(member(alloc, low))?;
+    members.push(member(alloc, high))?;
     let mut outcomes = Rows::new(alloc);
-    outcomes.push(low.1)?;
-    outcomes.push(high.1)?;
+    outcomes.push(*low_gets)?;
+    outcomes.push(*high_gets)?;
     let mut meets = Rows::new(alloc);
     meets.push(meeting)?;
     let cert = Cert { members, meets };
     Ok(Entry::Commit {
-        by: low.0.thread,
+        by: low.thread,
         cert,
         outcomes,
     })

@@ -1,12 +1,13 @@
-ghost use Rattle.std.specs.Prelude.{◌≡◌, ◌≢◌, ◌<◌, ℕ, List, length, IfSome, IfNone};
+ghost use Rattle.std.specs.Prelude.{◌≡◌, ◌≢◌, ℕ, List, replicate, IfSome, IfNone, IfOk};
 ghost use Rattle.te_terms.specs.declared.value.Atom.{Atom};
-ghost use Rattle.tevents.specs.declared.seat.Stance.TheVariants.{Parked, Given};
+ghost use Rattle.tevents.specs.declared.seat.Stance.TheVariants.{Idle, Parked, Given};
 ghost use Rattle.tevents.specs.declared.kind.Kind.TheVariants.{Send, Recv};
-ghost use Rattle.tevents.specs.Seats.{HasStance, Restands, place_of};
+ghost use Rattle.tevents.specs.Seats.{place_of};
 
 use crate::board::Place;
 use crate::kind::Kind;
-use te_terms::{Outcome, Value};
+use std::alloc::Global;
+use te_terms::{NoMemory, Outcome, Value};
 
 /// Where a caller stands, with what its next step needs of its event or outcome.
 #[derive(Clone, Copy)]
@@ -95,10 +96,17 @@ pub(crate) struct Seat {
     pub stance: Stance,
 }
 
-/// Gives a caller another stance.
-pub(crate) fn restand(seats: &mut [Seat], by: u32, stance: Stance)
-    requires { by < length seats.old }
-    ensures { Restands seats.old seats.new by stance }
+/// So many callers that stand idle and have never posted.
+pub(crate) fn idle_seats(alloc: Global, callers: u32) -> Result<Vec<Seat>, NoMemory>
+    ensures { IfOk result (λ seats. seats.items ≡ replicate callers (record { posts = 0; stance = Idle })) }
 {
-    seats[by as usize].stance = stance;
+    // The checker knows the types within a stance only where the body names them.
+    let _kind: Option<Kind> = None;
+    let _outcome: Option<Outcome> = None;
+    let seat = Seat {
+        posts: 0,
+        stance: Stance::Idle,
+    };
+    let seats = vec![in alloc; seat; callers as usize]?;
+    Ok(seats)
 }
