@@ -14,3 +14,14 @@ mod CertsWorked
 mod RoundsWorked
 mod BlocksRefused
 mod RoundEndsRefused
+pub mod StanceLemmas
+pub mod WaitingKinds
+pub mod SmallPlays
+pub mod NoneCommits
+pub mod AfterEntry
+pub mod SeatLemmas
+pub mod LeafLemmas
+pub mod KeptLemmas
+pub mod ViewLemmas
+pub mod KeptCommits
+pub mod NoneFound

@@ -6,3 +6,7 @@ pub mod OfScript
 pub mod Report
 pub mod Rounds
 pub mod Boards
+pub mod Groups
+pub mod Seats
+pub mod Leaves
+pub mod LogCode

@@ -3,8 +3,11 @@
 
 mod board;
 mod cert;
+mod group;
 mod history;
 mod kind;
 mod report;
+mod search;
+mod seat;
 
 fn main() {}

@@ -1,0 +1,9 @@
+-- How the value of a board is stored. No contract cites this module.
+use Rattle.std.specs.Prelude.{ℕ, List, refl}
+use Rattle.std.specs.Coded.{Coded, code_by, coded×, coded_ℕ, coded_list}
+use Rattle.tevents.specs.declared.history.Entry.{Entry}
+use Rattle.tevents.specs.contracts.history.Entry as entry
+use Rattle.tevents.specs.Boards.{Log}
+
+abbrev pub log_code : Coded Log
+log_code = code_by (ℕ × List Entry) (coded× coded_ℕ (coded_list entry.the_row.coded)) (λ l. (l.callers, l.history)) (λ p. record { callers = p.0; history = p.1 }) (λ l. refl)
