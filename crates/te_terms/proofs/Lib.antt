@@ -3,3 +3,7 @@ pub mod Evaluating
 pub mod TermLemmas
 pub mod ChildLemmas
 pub mod SizeLemmas
+pub mod AdoptLemmas
+pub mod KeptLemmas
+pub mod SameLemmas
+pub mod CompareLemmas

@@ -8,3 +8,5 @@ pub mod Codes
 pub mod Stored
 pub mod Shape
 pub mod Kept
+pub mod Made
+pub mod Sameness

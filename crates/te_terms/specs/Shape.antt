@@ -1,9 +1,9 @@
 -- The shape of a code of nodes, and the sizes of terms. All limits are this project's own.
-use Rattle.std.specs.Prelude.{◌≡◌, ℕ, suc, ◌+◌, ◌<◌, ◌≤◌, max, List, [], ◌∷◌, ◌++◌, length, Option, Some, None, slice_get, ◌==◌, cond}
-use Rattle.std.specs.List.{sum_by, count_by, All, AllByRecursion}
+use Rattle.std.specs.Prelude.{◌≡◌, ℕ, ◌+◌, ◌<◌, ◌≤◌, max, List, [], ◌∷◌, ◌++◌, length, Some, slice_get, ◌==◌}
+use Rattle.std.specs.List.{sum_by, count_by, AllByRecursion}
 use Rattle.te_terms.specs.declared.code.Node.{Node}
 use Rattle.te_terms.specs.declared.code.Node.TheVariants as nodes
-use Rattle.te_terms.specs.Terms.{Term, always, never, throw, send, recv, and_then, choose, catch, when}
+use Rattle.te_terms.specs.Terms.{Term, send, recv, and_then, choose, catch, when}
 use Rattle.te_terms.specs.Codes.{over, term_at, term_under}
 
 -- ---- sizes of terms

@@ -1,12 +1,15 @@
-ghost use Rattle.std.specs.Prelude.{◌≡◌, ◌≢◌, ◌↔◌, ◌<◌, ◌≤◌, ℕ, List, [], ◌∷◌, ◌++◌, length, slice_get, IfOk, OnErr, IfSome, IsTrue, Err};
+ghost use Rattle.std.specs.Prelude.{◌≡◌, ◌≢◌, ◌↔◌, ◌<◌, ◌≤◌, ℕ, List, [], ◌∷◌, ◌++◌, length, slice_get, IfOk, IfErr, OnErr, IfSome, IsTrue, Err};
+ghost use Rattle.std.specs.Option.{ForSome};
 ghost use Rattle.te_terms.specs.declared.code.Node.{Node};
 ghost use Rattle.te_terms.specs.declared.code.CodeFault.TheVariants as faults;
+ghost use Rattle.te_terms.specs.Codes.{term_under};
 ghost use Rattle.te_terms.specs.Shape.{children, height, weight, times_named, NamesEarlier, IsForest, HasFreeChildren, term_over};
-ghost use Rattle.te_terms.specs.Kept.{Tells, IsKept, IsFree, listed, own_weight};
+ghost use Rattle.te_terms.specs.Kept.{Tells, TellsNew, IsKept, IsFree, listed, own_weight, adopted};
 
 use crate::expr::{Cond, Expr, Operand};
 use std::alloc::Global;
 use std::marker::Model;
+use std::slice;
 
 /// One node of an event, with its children by their numbers.
 #[derive(Clone, Copy, Debug, PartialEq, Eq)]
@@ -31,12 +34,15 @@ pub enum Node {
 }
 
 impl Node {
-    fn children(&self) -> Option<(u32, u32)>
+    pub(crate) fn children(&self) -> Option<(u32, u32)>
         ensures { listed result ≡ children self.now }
     {
         match self {
-            Node::Then(a, b) | Node::Choose(a, b) | Node::Catch(a, b) | Node::If(_, a, b) => Some((*a, *b)),
-            Node::Always(_) | Node::Never | Node::Throw(_) | Node::Send(_, _) | Node::Recv(_) => None,
+            Node::Then(a, b) | Node::Choose(a, b) | Node::Catch(a, b) | Node::If(_, a, b) => Some((
+                *a, *b,
+            )),
+            Node::Always(_) | Node::Never | Node::Throw(_) | Node::Send(_, _) | Node::Recv(_) =>
+                None,
         }
     }
 
@@ -64,7 +70,7 @@ pub enum CodeFault {
 }
 
 // What is kept of a node: the height and the weight of the term under it, and whether it has a parent.
-#[derive(Clone, Copy)]
+#[derive(Clone, Copy, Drop)]
 struct Mark {
     height: u32,
     weight: u32,
@@ -114,6 +120,7 @@ impl EventCode {
     pub fn node(&self, i: u32) -> Option<Node>
         ensures value { result ≡ slice_get self.now i }
         ensures earlier { IfSome result (λ node. NamesEarlier i node) }
+        ensures forest { IsForest self.now }
     {
         self.nodes.get(i as usize).copied()
     }
@@ -140,6 +147,14 @@ impl EventCode {
             None => true,
             Some((a, b)) => self.are_free(a, b),
         }
+    }
+
+    // The weight of the term under node `i`.
+    pub(crate) fn weight(&self, i: u32) -> u32
+        requires { i < length self.now }
+        ensures { result ≡ weight (term_under self.now i) }
+    {
+        self.mark(i).weight
     }
 
     fn mark(&self, i: u32) -> Mark
@@ -169,5 +184,69 @@ impl EventCode {
             None => node.own_weight(),
             Some((a, b)) => node.own_weight() + (self.mark(a).weight + self.mark(b).weight),
         }
+    }
+
+    // Puts a node behind the others, and marks it and its children.
+    fn append(&mut self, node: Node, mark: Mark) -> Result<u32, CodeFault>
+        requires few { length self.old < 4096 }
+        requires free { HasFreeChildren self.old node }
+        requires low { height (term_over self.old node) ≤ 32 }
+        requires told { TellsNew self.old node mark }
+        ensures ok { IfOk result (λ number. (number ≡ length self.old) × (self.new ≡ self.old ++ node ∷ [])) }
+        ensures memory { IfErr result (λ e. e ≡ faults.Memory) }
+        ensures err { OnErr result (self.new ≡ self.old) }
+    {
+        let number = self.nodes.len() as u32;
+        let children = node.children();
+        let Ok(()) = self.marks.reserve(1) else {
+            return Err(CodeFault::Memory);
+        };
+        // By reference: the prover takes no enum that holds another one with a model through `Vec::push`.
+        let Ok(()) = self.nodes.extend_from_slice(slice::from_ref(&node)) else {
+            return Err(CodeFault::Memory);
+        };
+        self.marks.push_reserved(mark);
+        adopt(&mut self.marks, children);
+        Ok(number)
+    }
+
+    /// Puts a node behind the others, and answers its number. It refuses, in this order, `Child` where a
+    /// named child is no earlier node, has a parent already or is named twice, `Full` where there are
+    /// 4,096 nodes, `Depth` where the node's height would pass 32 (a leaf has height 1), and `Memory`.
+    /// After a refusal the code is as before.
+    pub fn push(&mut self, node: Node) -> Result<u32, CodeFault>
+        ensures ok { IfOk result (λ number. (number ≡ length self.old) × (self.new ≡ self.old ++ node ∷ [])) }
+        ensures child { (result ≡ Err faults.Child) ↔ ¬ HasFreeChildren self.old node }
+        ensures full { (result ≡ Err faults.Full) ↔ (HasFreeChildren self.old node × (4096 ≤ length self.old)) }
+        ensures depth { (result ≡ Err faults.Depth) ↔ (HasFreeChildren self.old node × (length self.old < 4096) × (32 < height (term_over self.old node))) }
+        ensures err { OnErr result (self.new ≡ self.old) }
+    {
+        if !self.takes_children(&node) {
+            return Err(CodeFault::Child);
+        }
+        if self.nodes.len() >= 4096 {
+            return Err(CodeFault::Full);
+        }
+        let height = self.height_over(&node);
+        if height > 32 {
+            return Err(CodeFault::Depth);
+        }
+        let mark = Mark {
+            height,
+            weight: self.weight_over(&node),
+            is_child: false,
+        };
+        self.append(node, mark)
+    }
+}
+
+// Notes that these two have a parent.
+fn adopt(marks: &mut Vec<Mark>, children: Option<(u32, u32)>)
+    requires { ForSome children (λ p. (p.0 < length marks.old.items) × (p.1 < length marks.old.items)) }
+    ensures { marks.new.items ≡ adopted (listed children) marks.old.items }
+{
+    if let Some((a, b)) = children {
+        marks[a as usize].is_child = true;
+        marks[b as usize].is_child = true;
     }
 }

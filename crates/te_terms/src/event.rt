@@ -1,10 +1,18 @@
+ghost use Rattle.std.specs.Prelude.{◌≡◌, ◌↔◌, ◌<◌, ◌≤◌, length, IfSome, IsNone, IfOk, IsTrue};
+ghost use Rattle.te_terms.specs.Terms.{closed};
+ghost use Rattle.te_terms.specs.Codes.{term_under};
+ghost use Rattle.te_terms.specs.Shape.{weight};
+ghost use Rattle.te_terms.specs.Made.{IsMadeOf, HasCode, HasRoot, HasRegisters};
+
 use crate::code::EventCode;
+use crate::memory::NoMemory;
+use crate::same::same_under;
 use crate::value::Value;
 use std::marker::Model;
 use std::sync::Arc;
 
 /// What a group leaves a member with: a value that it gives or raises.
-#[derive(Clone, Copy)]
+#[derive(Clone, Copy, Debug, PartialEq, Eq)]
 pub enum Outcome {
     Gives(Value),
     Raises(Value),
@@ -29,6 +37,90 @@ impl Model for Event {
     ghost coded = { coded_term };
 
     ghost view = { λ e. closed e.regs (term_under e.code.value e.root) };
+
+    ghost use Rattle.std.specs.Prelude.{◌<◌, length};
+
+    ghost invariant = { λ e. e.root < length e.code.value };
+}
+
+impl Event {
+    /// The event under node `root` of the code, with these values of the registers; `None` exactly where
+    /// there is no such node.
+    pub fn new(code: Arc<EventCode>, root: u32, regs: [Value; 8]) -> Option<Event>
+        ensures some { IfSome result (λ event. event ≡ closed regs (term_under code.value root)) }
+        ensures none { IsNone result ↔ (length code.value ≤ root) }
+    {
+        if root >= code.len() {
+            return None;
+        }
+        Some(Event { code, root, regs })
+    }
+
+    /// The code, the root and the registers, which together make the event's term. It is public for the
+    /// crates above alone, since a term tells of the three only together.
+    #[doc(hidden)]
+    pub fn parts(&self) -> (&Arc<EventCode>, u32, &[Value; 8])
+        ensures { IsMadeOf result.0.now.value result.1 result.2.now self.now }
+    {
+        (&self.code, self.root, &self.regs)
+    }
+
+    /// The code that the event was made of: with the event's root and registers it makes the term.
+    pub fn code(&self) -> &Arc<EventCode>
+        ensures { HasCode result.now.value self.now }
+    {
+        &self.code
+    }
+
+    /// The number of the node under which the event's term stands.
+    pub fn root(&self) -> u32
+        ensures { HasRoot result self.now }
+    {
+        self.root
+    }
+
+    /// The values of the registers, from register 0 on.
+    pub fn regs(&self) -> &[Value; 8]
+        ensures { HasRegisters result.now self.now }
+    {
+        &self.regs
+    }
+
+    /// The number of choose, send and receive nodes under the root.
+    pub fn weight(&self) -> u32
+        ensures { result ≡ weight self.now }
+    {
+        self.code.weight(self.root)
+    }
+
+    /// Whether both are the same term, whatever the numbers of their nodes, over the values of their
+    /// registers. It takes no memory.
+    pub fn same(&self, other: &Event) -> bool
+        ensures { IsTrue result ↔ (self.now ≡ other.now) }
+    {
+        same_under(
+            &self.code,
+            self.root,
+            &self.regs,
+            &other.code,
+            other.root,
+            &other.regs,
+        )
+    }
+
+    /// The same event once more; the code is shared.
+    pub fn copy(&self) -> Result<Event, NoMemory>
+        ensures { IfOk result (λ event. event ≡ self.now) }
+    {
+        let Ok(code) = Arc::try_clone(&self.code) else {
+            return Err(NoMemory);
+        };
+        Ok(Event {
+            code,
+            root: self.root,
+            regs: self.regs,
+        })
+    }
 }
 
 /// An event on which a thread synchronises, under its ticket.

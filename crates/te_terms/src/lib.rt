@@ -7,6 +7,7 @@ mod expr;
 mod memory;
 mod name;
 mod rows;
+mod same;
 mod value;
 
 pub use code::{CodeFault, EventCode, Node};

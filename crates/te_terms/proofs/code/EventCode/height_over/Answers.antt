@@ -1,6 +1,6 @@
-use Rattle.std.proofs.Common.{sym, ◌∙◌, arith}
+use Rattle.std.proofs.Common.{sym, arith}
 use Rattle.te_terms.proofs.ChildLemmas.{first_free, second_free}
-use Rattle.te_terms.proofs.SizeLemmas.{height_two, height_leaf}
+use Rattle.te_terms.proofs.SizeLemmas.{height_two}
 use Rattle.te_terms.proofs.code.EventCode.height_over.Goals as goal
 
 pub mark-requires : goal.mark-requires

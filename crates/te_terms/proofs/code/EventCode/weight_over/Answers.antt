@@ -1,6 +1,6 @@
-use Rattle.std.proofs.Common.{sym, ◌∙◌, arith}
+use Rattle.std.proofs.Common.{sym, arith}
 use Rattle.te_terms.proofs.ChildLemmas.{first_free, second_free}
-use Rattle.te_terms.proofs.SizeLemmas.{weight_two, weight_leaf, weight_fits}
+use Rattle.te_terms.proofs.SizeLemmas.{weight_two, weight_fits}
 use Rattle.te_terms.proofs.code.EventCode.weight_over.Goals as goal
 
 pub mark-requires : goal.mark-requires
