@@ -1,5 +1,5 @@
 -- How the kinds of bytes exclude one another.
-use Rattle.std.proofs.Common.{◌≡◌, ℕ, ◌<◌, ◌≤◌, Bool, true, false, nat_eq, arith}
+use Rattle.std.proofs.Common.{◌≡◌, ℕ, true, false, nat_eq, arith}
 use Rattle.std.proofs.lemmas.Bool.Decides.{nat_tests}
 use Rattle.std.specs.Char.{is_ascii_alphabetic, is_ascii_digit}
 use Rattle.te_reader.specs.Tokens.{is_word_byte, is_blank}

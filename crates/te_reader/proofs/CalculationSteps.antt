@@ -1,6 +1,6 @@
 -- One turn of the loop over a tuple's calculations.
-use Rattle.std.proofs.Common.{◌≡◌, ℕ, suc, ◌+◌, ◌-◌, ◌<◌, List, [], ◌∷◌, ◌++◌, length, refl, sym, ◌∙◌, ap, append_assoc, arith}
-use Rattle.std.specs.Prelude.{Option, Some, None}
+use Rattle.std.proofs.Common.{◌≡◌, ℕ, suc, ◌+◌, ◌-◌, ◌<◌, List, [], ◌∷◌, ◌++◌, refl, sym, ◌∙◌, ap, append_assoc, arith}
+use Rattle.std.specs.Prelude.{Some, None}
 use Rattle.te_terms.specs.Expressions.{Primitive, Calculation, one}
 use Rattle.te_reader.specs.declared.token.Sign.TheVariants as signs
 use Rattle.te_reader.specs.Tokens.{Token}
@@ -34,9 +34,9 @@ module _ (most i : ℕ) (done : List Calculation) (channels : List (List ℕ)) (
     more_primitives next e f =
         let start : behind done (read_calculations (suc (most - (i + 1))) channels ts) ≡ behind (done ++ one p ∷ []) (read_calculations (most - (i + 1)) channels next) = rw (read, e, f) (by (read_calculations (most - (i + 1)) channels next)) in
         sym start ∙ opened most i done channels ts all lt kept where
-      by : (o : Read (List Calculation)) → behind done (o >>= λ cs. Some (one p ∷ cs.0, cs.1)) ≡ behind (done ++ one p ∷ []) o
-      by None = refl
-      by (Some r) = ap (λ xs. Some (xs, r.1)) (sym (append_assoc done (one p ∷ []) r.0))
+          by : (o : Read (List Calculation)) → behind done (o >>= λ cs. Some (one p ∷ cs.0, cs.1)) ≡ behind (done ++ one p ∷ []) o
+          by None = refl
+          by (Some r) = ap (λ xs. Some (xs, r.1)) (sym (append_assoc done (one p ∷ []) r.0))
 
 pub no_more : (done : List Calculation) (channels : List (List ℕ)) (ts : List Token) (all : Read (List Calculation)) (left : ℕ) → left ≡ 0 → behind done (read_calculations left channels ts) ≡ all → all ≡ None
 unfolding read_calculations

@@ -88,6 +88,7 @@ both_same {A = A} {B = B} p q e = (ap (first p.0) e, ap (second p.1) e) where
   first : A → Option (A × B) → A
   first d None = d
   first d (Some r) = r.0
+
   second : B → Option (A × B) → B
   second d None = d
   second d (Some r) = r.1

@@ -1,13 +1,12 @@
 -- A text that is lexed to its end spells the tokens, and a text that spells some tokens is lexed as these.
-use Rattle.std.proofs.Common.{◌≡◌, ◌≢◌, ℕ, zero, suc, pred, ◌+◌, ◌<◌, ◌≤◌, Bool, true, false, nat_eq, List, [], ◌∷◌, ◌++◌, length, drop, refl, sym, ◌∙◌, ap, subst, arith, append_assoc, inl, inr}
-use Rattle.std.specs.Prelude.{Option, Some, None, ◌⊎◌, ◌==◌, if◌then◌else◌}
-use Rattle.std.proofs.lemmas.Bool.{eqb-true, eqb-false, ne_eqb}
+use Rattle.std.proofs.Common.{◌≡◌, ◌≢◌, ℕ, zero, suc, pred, ◌<◌, Bool, true, false, List, [], ◌∷◌, ◌++◌, length, drop, refl, sym, ◌∙◌, ap, subst, arith, inl, inr}
+use Rattle.std.specs.Prelude.{◌==◌, if◌then◌else◌}
+use Rattle.std.proofs.lemmas.Bool.{eqb-true, eqb-false}
 use Rattle.te_reader.specs.declared.token.Sign.TheVariants as signs
-use Rattle.te_reader.specs.Tokens.{Token, integer, sign, spelling, IsToken, Between, in_blanks, in_comment, is_blank, IsGap, IsLastGap, IsLongest, BeginsWith, Spells}
+use Rattle.te_reader.specs.Tokens.{Token, integer, sign, spelling, IsToken, Between, in_blanks, in_comment, is_blank, IsGap, IsLongest, Spells}
 use Rattle.std.specs.Char.{is_ascii_alphabetic, is_ascii_digit}
-use Rattle.te_reader.specs.Lexed.{Stream, Piece, gap, found, other, less_sign, minus_sign, one_sign, run, token_at, piece_at, place_after, bytes_after, before, lexed_behind, lexed}
-use Rattle.te_reader.proofs.TokenSteps.{behind_drops}
-use Rattle.te_reader.proofs.LongestTokens.{limit, Found, token_found, longest_found}
+use Rattle.te_reader.specs.Lexed.{Piece, gap, found, other, less_sign, minus_sign, one_sign, run, token_at, piece_at, place_after, bytes_after, before, lexed_behind, lexed}
+use Rattle.te_reader.proofs.LongestTokens.{limit, token_found, longest_found}
 
 -- the same, from a place that may stand in a comment
 pub record BeginsFrom (place : Between) (t : Token) (rest : List ℕ) (text : List ℕ) : Type 0 where
@@ -61,7 +60,7 @@ token_no_gap : (next : Between) (b : ℕ) (bs : List ℕ) → token_at b bs ≡ 
 token_no_gap next b bs =
     neither next (is_ascii_alphabetic b) _ _ (λ e. cc)
     (neither next (is_ascii_digit b) _ _ (λ e. cc)
-        (neither next (b == 60) _ _ (less_no_gap next bs) (neither next (b == 45) _ _ (minus_no_gap next bs) (neither next (b == 95) _ _ (λ e. cc) (sign_no_gap next b)))))
+    (neither next (b == 60) _ _ (less_no_gap next bs) (neither next (b == 45) _ _ (minus_no_gap next bs) (neither next (b == 95) _ _ (λ e. cc) (sign_no_gap next b)))))
 
 steps_of : (place next : Between) (b : ℕ) (bs : List ℕ) → piece_at place b bs ≡ gap next → Steps place b next
 steps_of in_comment next b bs e = by (b == 10) (eqb-true b 10) (eqb-false b 10) e where
@@ -72,6 +71,7 @@ steps_of in_blanks next b bs e = blank (is_blank b) refl e where
   hash : (v : Bool) → (v ≡ true → b ≡ 35) → (if v then gap in_comment else token_at b bs) ≡ gap next → Steps in_blanks b next
   hash true same e = let n : in_comment ≡ next = cc in subst (λ (x : Between). Steps in_blanks b x) n (λ g h. inr (same refl, h))
   hash false same e = absurd (token_no_gap next b bs e)
+
   blank : (v : Bool) → is_blank b ≡ v → (if v then gap in_blanks else (if b == 35 then gap in_comment else token_at b bs)) ≡ gap next → Steps in_blanks b next
   blank true f e = let n : in_blanks ≡ next = cc in subst (λ (x : Between). Steps in_blanks b x) n (λ g h. inl (f, h))
   blank false f e = hash (b == 35) (eqb-true b 35) e
@@ -86,6 +86,7 @@ token_of in_blanks b bs t e = blank (is_blank b) e where
   hash : (v : Bool) → (if v then gap in_comment else token_at b bs) ≡ found t → (in_blanks ≡ in_blanks) × (token_at b bs ≡ found t)
   hash true e = absurd cc
   hash false e = (refl, e)
+
   blank : (v : Bool) → (if v then gap in_blanks else (if b == 35 then gap in_comment else token_at b bs)) ≡ found t → (in_blanks ≡ in_blanks) × (token_at b bs ≡ found t)
   blank true e = absurd cc
   blank false e = hash (b == 35) e
@@ -102,11 +103,10 @@ token_before : (b : ℕ) (bs : List ℕ) (t : Token) (ts : List Token) → token
 token_before b bs t ts e h =
     let f = token_found b bs t e in
     let rest_is : drop (limit b bs) bs ≡ drop (pred (length (spelling t))) bs = ap (λ n. drop (pred n) bs) (sym f.long) in
-    let split : b ∷ bs ≡ spelling t ++ drop (pred (length (spelling t))) bs = f.split ∙ ap (λ x. spelling t ++ x) rest_is in
-    (
-        drop (pred (length (spelling t))) bs,
-        record { gap = []; is_split = split; is_gap = tt; is_token = f.is_token; is_longest = rw (← split) (longest_found b bs t e) },
-        spells_from_blanks ts (drop (pred (length (spelling t))) bs) h
+    let split : b ∷ bs ≡ spelling t ++ drop (pred (length (spelling t))) bs = f.split ∙ ap (λ x. spelling t ++ x) rest_is in (
+      drop (pred (length (spelling t))) bs,
+      record { gap = []; is_split = split; is_gap = tt; is_token = f.is_token; is_longest = rw (← split) (longest_found b bs t e) },
+      spells_from_blanks ts (drop (pred (length (spelling t))) bs) h,
     )
 
 ends_gap : (place : Between) → IsGap place (10 ∷ [])

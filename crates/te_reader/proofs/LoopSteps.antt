@@ -1,6 +1,6 @@
 -- One turn of the loops over channels, statements and threads.
 use Rattle.std.proofs.Common.{◌≡◌, ℕ, zero, suc, ◌+◌, ◌-◌, ◌<◌, ◌≤◌, List, [], ◌∷◌, ◌++◌, length, refl, sym, ◌∙◌, ap, append_assoc, arith, length-append}
-use Rattle.std.specs.Prelude.{Option, Some, None}
+use Rattle.std.specs.Prelude.{Some, None}
 use Rattle.std.proofs.lemmas.List.{append-nil}
 use Rattle.te_script.specs.Scripts.{Statement, Thread}
 use Rattle.te_reader.specs.declared.token.Word.TheVariants as words
@@ -9,7 +9,7 @@ use Rattle.te_reader.specs.Tokens.{Token}
 use Rattle.te_reader.specs.Heads.{word_first, sign_first, name_first}
 use Rattle.te_reader.specs.Reads.{Read, Body, ◌>>=◌, declared_in, read_names, read_statement, read_body, read_new_thread, read_threads}
 use Rattle.te_reader.specs.Behind.{behind, behind_body}
-use Rattle.te_reader.proofs.NameLemmas.{IsDeclared, declared}
+use Rattle.te_reader.proofs.NameLemmas.{declared}
 
 -- a turn is one of those that are left
 pub one_turn : (most i : ℕ) → i < most → most - i ≡ suc (most - (i + 1))
@@ -69,9 +69,9 @@ module _ (most i : ℕ) (done : List Statement) (channels registers : List (List
       more_statements s more rest e =
           let start : behind_body done (read_body (suc (most - (i + 1))) channels registers ts) ≡ behind_body (done ++ s ∷ []) (read_body (most - (i + 1)) channels more rest) = rw (open_yet, e) (by (read_body (most - (i + 1)) channels more rest)) in
           sym start ∙ body_opened most i done channels registers ts all lt kept where
-        by : (o : Read Body) → behind_body done (o >>= λ body. Some (record { statements = s ∷ body.0.statements; registers = body.0.registers }, body.1)) ≡ behind_body (done ++ s ∷ []) o
-        by None = refl
-        by (Some b) = ap (λ xs. Some (record { statements = xs; registers = b.0.registers }, b.1)) (sym (append_assoc done (s ∷ []) b.0.statements))
+            by : (o : Read Body) → behind_body done (o >>= λ body. Some (record { statements = s ∷ body.0.statements; registers = body.0.registers }, body.1)) ≡ behind_body (done ++ s ∷ []) o
+            by None = refl
+            by (Some b) = ap (λ xs. Some (record { statements = xs; registers = b.0.registers }, b.1)) (sym (append_assoc done (s ∷ []) b.0.statements))
 
 -- ---- threads
 
@@ -103,6 +103,6 @@ module _ (most i : ℕ) (done : List Thread) (channels names : List (List ℕ)) 
       more_threads t more rest e =
           let start : behind done (read_threads (suc (most - (i + 1))) channels names ts) ≡ behind (done ++ t ∷ []) (read_threads (most - (i + 1)) channels more rest) = rw (begins, e) (by (read_threads (most - (i + 1)) channels more rest)) in
           sym start ∙ threads_opened most i done channels names ts all lt kept where
-        by : (o : Read (List Thread)) → behind done (o >>= λ later. Some (t ∷ later.0, later.1)) ≡ behind (done ++ t ∷ []) o
-        by None = refl
-        by (Some r) = ap (λ xs. Some (xs, r.1)) (sym (append_assoc done (t ∷ []) r.0))
+            by : (o : Read (List Thread)) → behind done (o >>= λ later. Some (t ∷ later.0, later.1)) ≡ behind (done ++ t ∷ []) o
+            by None = refl
+            by (Some r) = ap (λ xs. Some (xs, r.1)) (sym (append_assoc done (t ∷ []) r.0))

@@ -1,8 +1,8 @@
 -- Names in a list: where they are, and what a declaration adds.
-use Rattle.std.proofs.Common.{◌≡◌, ◌≢◌, ℕ, zero, suc, ◌+◌, ◌<◌, ◌≤◌, Bool, true, false, cond, not, nat_lt, List, [], ◌∷◌, ◌++◌, length, refl, sym, ◌∙◌, ap, arith, length-append}
-use Rattle.std.specs.Prelude.{Option, Some, None, slice_get, nat_le, ◌&&◌, if◌then◌else◌}
+use Rattle.std.proofs.Common.{◌≡◌, ℕ, suc, ◌+◌, ◌<◌, Bool, true, false, cond, not, nat_lt, List, [], ◌∷◌, ◌++◌, length, refl, sym, ◌∙◌, ap, arith}
+use Rattle.std.specs.Prelude.{Option, Some, None, nat_le, ◌&&◌, if◌then◌else◌}
 use Rattle.std.specs.Option.{option_map}
-use Rattle.std.specs.List.{AllByRecursion, position, prefix_len}
+use Rattle.std.specs.List.{prefix_len}
 use Rattle.std.specs.Str.{bytes_eq}
 use Rattle.std.proofs.lemmas.Bool.Decides.{nat_tests}
 use Rattle.std.proofs.lemmas.Slice.Eq.{bytes_eq-Decides}
@@ -30,9 +30,11 @@ unfolding place_of
 place_cons x xs n = by (bytes_eq x n) where
   test : List ℕ → Bool
   test y = not (bytes_eq y n)
+
   ahead : (k : ℕ) → (b : Bool) → nat_lt k (length xs) ≡ b → cond (nat_lt (1 + k) (suc (length xs))) (Some (1 + k)) None ≡ option_map suc (cond (nat_lt k (length xs)) (Some k) None)
   ahead k true e = let up : nat_lt (1 + k) (suc (length xs)) ≡ true = grind (arith, nat_tests) in let one : 1 + k ≡ suc k = omega arith in rw (up, e, one) refl
   ahead k false e = let up : nat_lt (1 + k) (suc (length xs)) ≡ false = grind (arith, nat_tests) in rw (up, e) refl
+
   by : (b : Bool) → cond (nat_lt (cond (not b) (1 + prefix_len test xs) 0) (suc (length xs))) (Some (cond (not b) (1 + prefix_len test xs) 0)) None ≡ (if b then Some 0 else option_map suc (cond (nat_lt (prefix_len test xs) (length xs)) (Some (prefix_len test xs)) None))
   by true = let up : nat_lt 0 (suc (length xs)) ≡ true = grind (arith, nat_tests) in rw up refl
   by false = ahead (prefix_len test xs) _ refl

@@ -1,6 +1,6 @@
 -- A refusal of a part is one of the whole.
-use Rattle.std.proofs.Common.{◌≡◌, ap, sym, ◌∙◌}
-use Rattle.std.specs.Prelude.{ℕ, List, Option, None, Result, Err}
+use Rattle.std.proofs.Common.{◌≡◌}
+use Rattle.std.specs.Prelude.{ℕ, List, Option, None, Err}
 use Rattle.te_reader.specs.declared.fault.ScriptFault.{ScriptFault}
 use Rattle.te_reader.specs.declared.fault.ScriptFault.TheVariants as faults
 use Rattle.te_reader.specs.Lexed.{Stream}

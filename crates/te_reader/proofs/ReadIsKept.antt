@@ -1,12 +1,12 @@
 -- What was read of statements, threads and channels is spelled by the tokens, keeps the limits and the rules on names, and is of the first form.
-use Rattle.std.proofs.Common.{◌≡◌, ◌≢◌, ℕ, zero, suc, ◌+◌, ◌<◌, ◌≤◌, Bool, true, false, nat_lt, List, [], ◌∷◌, ◌++◌, length, map, take, refl, sym, ◌∙◌, ap, subst, append_assoc, length-append, arith}
-use Rattle.std.specs.Prelude.{Option, Some, None, nat_le, if◌then◌else◌}
+use Rattle.std.proofs.Common.{◌≡◌, ℕ, zero, suc, ◌<◌, ◌≤◌, true, false, nat_lt, List, [], ◌∷◌, ◌++◌, length, take, refl, sym, ◌∙◌, ap, subst, append_assoc, length-append, arith}
+use Rattle.std.specs.Prelude.{Option, Some, None, nat_le}
 use Rattle.std.specs.List.{AllByRecursion}
 use Rattle.std.proofs.lemmas.List.{append-nil}
 use Rattle.std.proofs.lemmas.Bool.Decides.{nat_tests}
 use Rattle.te_terms.specs.Expressions.{Expression}
 use Rattle.te_terms.specs.Terms.{Term}
-use Rattle.te_script.specs.Scripts.{Statement, sync, emit, Thread, Program, with_register, AreStatements, IsWithin, nodes, height, AreDistinct, AreApart, IsThread, thread_names, IsProgram}
+use Rattle.te_script.specs.Scripts.{Statement, sync, emit, Thread, Program, with_register, AreStatements, AreDistinct, AreApart, IsThread, thread_names, IsProgram}
 use Rattle.te_reader.specs.declared.token.Word.TheVariants as words
 use Rattle.te_reader.specs.declared.token.Sign.TheVariants as signs
 use Rattle.te_reader.specs.Tokens as tokens
@@ -17,8 +17,8 @@ use Rattle.te_reader.specs.FirstForm.{IsPlainStatement, First}
 use Rattle.te_reader.specs.Reads.{Read, ◌>>=◌, checked, if_absent, place_of, declared_in, old_or_new, register_of, read_expression, read_event, read_sync, read_emit, emit_or_sync, read_statement, Body, brace_or_more, read_body, named_body, read_thread, read_new_thread, end_or_thread, read_threads, semicolon_or_name, read_names, if_some, none_or_channels, read_channels, read_program}
 use Rattle.te_reader.proofs.NameLemmas.{bind_some, checked_some, absent_some, place_is, place_none, declared}
 use Rattle.te_reader.proofs.HeadLemmas.{both_same, name_is, word_is, sign_is}
-use Rattle.te_reader.proofs.ListsKept.{all_push, distinct_push, at_more, at_last, short_at, taken, Grows, stays, goes_on, grows_one}
-use Rattle.te_reader.proofs.ReadIsSpelled.{names_of, scope_of, ReadExpression, expression_read, ReadEvent, event_read}
+use Rattle.te_reader.proofs.ListsKept.{distinct_push, at_more, at_last, short_at, taken, Grows, stays, goes_on, grows_one}
+use Rattle.te_reader.proofs.ReadIsSpelled.{names_of, ReadExpression, expression_read, ReadEvent, event_read}
 
 -- ---- registers
 
@@ -34,25 +34,25 @@ unfolding register_of
 register_read channels registers n r more e =
     let a = bind_some (if_absent (place_of channels n)) _ _ e in
     by (place_none channels n (absent_some _ _ a.1)) (place_of registers n) refl a.2 where
-  by : IsNew n channels → (o : Option ℕ) → place_of registers n ≡ o → old_or_new registers n o ≡ Some (r, more) → ReadRegister channels registers n r more
-  by no_channel (Some old) f e =
-      let same = both_same _ _ e in
-      let at = place_is registers n old f in
-      let before : nat_lt old (length registers) ≡ true = grind (arith, nat_tests, at.1) in
-      let good : ReadRegister channels registers n old registers = record { grows = stays channels registers; at = at.0; known = omega (arith, at.1); written = rw before refl } in
-      subst (λ (x : List (List ℕ)). ReadRegister channels registers n r x) same.1 (subst (λ (x : ℕ). ReadRegister channels registers n x registers) same.0 good)
-  by no_channel None f e =
-      let a = bind_some (declared_in 8 registers n) _ _ e in
-      let same = both_same _ _ a.2 in
-      let d = declared 8 registers n a.0 a.1 in
-      let not_before : nat_lt (length registers) (length registers) ≡ false = grind (arith, nat_tests) in
-      let good : ReadRegister channels registers n (length registers) (registers ++ n ∷ []) = record {
-        grows = grows_one channels registers n d.room d.short d.new no_channel;
-        at = at_last registers n;
-        known = omega arith;
-        written = rw not_before (omega (arith, length-append registers (n ∷ [])));
-      } in
-      subst (λ (x : List (List ℕ)). ReadRegister channels registers n r x) (sym d.appended ∙ same.1) (subst (λ (x : ℕ). ReadRegister channels registers n x (registers ++ n ∷ [])) same.0 good)
+      by : IsNew n channels → (o : Option ℕ) → place_of registers n ≡ o → old_or_new registers n o ≡ Some (r, more) → ReadRegister channels registers n r more
+      by no_channel (Some old) f e =
+          let same = both_same _ _ e in
+          let at = place_is registers n old f in
+          let before : nat_lt old (length registers) ≡ true = grind (arith, nat_tests, at.1) in
+          let good : ReadRegister channels registers n old registers = record { grows = stays channels registers; at = at.0; known = omega (arith, at.1); written = rw before refl } in
+          subst (λ (x : List (List ℕ)). ReadRegister channels registers n r x) same.1 (subst (λ (x : ℕ). ReadRegister channels registers n x registers) same.0 good)
+      by no_channel None f e =
+          let a = bind_some (declared_in 8 registers n) _ _ e in
+          let same = both_same _ _ a.2 in
+          let d = declared 8 registers n a.0 a.1 in
+          let not_before : nat_lt (length registers) (length registers) ≡ false = grind (arith, nat_tests) in
+          let good : ReadRegister channels registers n (length registers) (registers ++ n ∷ []) = record {
+            grows = grows_one channels registers n d.room d.short d.new no_channel;
+            at = at_last registers n;
+            known = omega arith;
+            written = rw not_before (omega (arith, length-append registers (n ∷ [])));
+          } in
+          subst (λ (x : List (List ℕ)). ReadRegister channels registers n r x) (sym d.appended ∙ same.1) (subst (λ (x : ℕ). ReadRegister channels registers n x (registers ++ n ∷ [])) same.0 good)
 
 -- ---- statements
 
@@ -84,9 +84,9 @@ module _ (m : ℕ) (channels : List (List ℕ)) (many : length channels ≤ m) w
         most = omega (arith, later.most);
         in_order = (value.scoped, later.in_order);
         spelled = λ short. let l = later.spelled short in (
-            l.0,
-            (inside, begins, (a.0.1, subst (λ (rs : List (List ℕ)). spells_expression true (names_of channels rs) x inside a.0.1) (sym names) value.spelled, (after, sign_is signs.Semicolon a.0.1 after (b.1 ∙ ap Some same.1), l.1))),
-            l.2
+          l.0,
+          (inside, begins, (a.0.1, subst (λ (rs : List (List ℕ)). spells_expression true (names_of channels rs) x inside a.0.1) (sym names) value.spelled, (after, sign_is signs.Semicolon a.0.1 after (b.1 ∙ ap Some same.1), l.1))),
+          l.2,
         );
         plain = (value.plain, later.plain);
       }
@@ -111,27 +111,31 @@ module _ (m : ℕ) (channels : List (List ℕ)) (many : length channels ≤ m) w
         most = omega (arith, later.most);
         in_order = (reg.known, event.scoped, record { nodes = omega (arith, event.leaf.0); height = omega (arith, event.leaf.1) }, rw reg.written later.in_order);
         spelled = λ short. let l = later.spelled (reg.grows.short short) in (
-            l.0,
+          l.0,
+          (
+            n,
             (
-                n,
+              (at, short_at more r n (reg.grows.short short) reg.at),
+              (
+                inside,
+                begins,
                 (
-                    (at, short_at more r n (reg.grows.short short) reg.at),
+                  a.0,
+                  sign_is signs.Arrow inside a.0 a.1,
+                  (
+                    b.0,
+                    word_is words.Sync a.0 b.0 b.1,
                     (
-                        inside, begins,
-                        (
-                            a.0, sign_is signs.Arrow inside a.0 a.1,
-                            (
-                                b.0, word_is words.Sync a.0 b.0 b.1,
-                                (
-                                    c.0.1, subst (λ (rs : List (List ℕ)). spells_event true alone (names_of channels rs) t b.0 c.0.1) (sym names) event.spelled,
-                                    (after, sign_is signs.Semicolon c.0.1 after (d.1 ∙ ap Some same.1), rw reg.written l.1)
-                                )
-                            )
-                        )
-                    )
-                )
+                      c.0.1,
+                      subst (λ (rs : List (List ℕ)). spells_event true alone (names_of channels rs) t b.0 c.0.1) (sym names) event.spelled,
+                      (after, sign_is signs.Semicolon c.0.1 after (d.1 ∙ ap Some same.1), rw reg.written l.1),
+                    ),
+                  ),
+                ),
+              ),
             ),
-            l.2
+          ),
+          l.2,
         );
         plain = (event.plain, later.plain);
       }
@@ -156,6 +160,7 @@ module _ (m : ℕ) (channels : List (List ℕ)) (many : length channels ≤ m) w
   statement_before left registers more s body ts after rest e later = by (word_first words.Emit ts) refl e where
     put : (s' : Statement) → s' ≡ s → ReadBody (suc left) registers (record body { statements = s' ∷ body.statements }) ts rest → ReadBody (suc left) registers (record body { statements = s ∷ body.statements }) ts rest
     put s' same h = subst (λ (x : Statement). ReadBody (suc left) registers (record body { statements = x ∷ body.statements }) ts rest) same h
+
     by : (o : Option (List Token)) → word_first words.Emit ts ≡ o → emit_or_sync channels registers ts o ≡ Some ((s, more), after) → ReadBody (suc left) registers (record body { statements = s ∷ body.statements }) ts rest
     by (Some inside) f e =
         let a = bind_some (read_emit channels registers inside) _ _ e in
@@ -182,7 +187,7 @@ module _ (m : ℕ) (channels : List (List ℕ)) (many : length channels ≤ m) w
     by : ((more : List (List ℕ)) (b : Body) (us last : List Token) → read_body left channels more us ≡ Some (b, last) → ReadBody left more b us last) → (o : Option (List Token)) → sign_first signs.CloseBrace ts ≡ o
         → brace_or_more registers
         (Some
-            (read_statement channels registers ts >>= λ s. read_body left channels s.0.1 s.1 >>= λ b. Some (record { statements = s.0.0 ∷ b.0.statements; registers = b.0.registers }, b.1)))
+        (read_statement channels registers ts >>= λ s. read_body left channels s.0.1 s.1 >>= λ b. Some (record { statements = s.0.0 ∷ b.0.statements; registers = b.0.registers }, b.1)))
         o ≡ Some (body, rest) → ReadBody (suc left) registers body ts rest
     by later (Some last) f e = ended (suc left) registers body ts rest last f e
     by later None f e =
@@ -218,13 +223,13 @@ module _ (m : ℕ) (channels : List (List ℕ)) (many : length channels ≤ m) w
       let c = bind_some (sign_first signs.OpenBrace a.0.1) _ _ b.2 in
       let fits = checked_some _ _ b.1 in
       by a.0.0 (grind (arith, nat_tests, fits)) a.0.1 (name_is ts a.0.0 a.0.1 a.1) c.0 (sign_is signs.OpenBrace a.0.1 c.0 c.1) (read_body 1024 channels [] c.0) refl c.2 where
-    by : (n : List ℕ) → IsShort n → (inside : List Token) → ts ≡ tokens.name n ∷ inside → (within : List Token) → inside ≡ sign signs.OpenBrace ∷ within → (o : Read Body) → read_body 1024 channels [] within ≡ o → named_body n o ≡ Some (t, rest) → ReadThread t ts rest
-    by n short inside named within opened None f e = absurd cc
-    by n short inside named within opened (Some b) f e =
-        let same = both_same _ _ e in
-        let body = body_read 1024 [] b.0 within b.1 f in
-        let whole = thread_of_body n b.0 ts inside within b.1 short named opened body in
-        subst (λ (last : List Token). ReadThread t ts last) same.1 (subst (λ (x : Thread). ReadThread x ts b.1) same.0 whole)
+        by : (n : List ℕ) → IsShort n → (inside : List Token) → ts ≡ tokens.name n ∷ inside → (within : List Token) → inside ≡ sign signs.OpenBrace ∷ within → (o : Read Body) → read_body 1024 channels [] within ≡ o → named_body n o ≡ Some (t, rest) → ReadThread t ts rest
+        by n short inside named within opened None f e = absurd cc
+        by n short inside named within opened (Some b) f e =
+            let same = both_same _ _ e in
+            let body = body_read 1024 [] b.0 within b.1 f in
+            let whole = thread_of_body n b.0 ts inside within b.1 short named opened body in
+            subst (λ (last : List Token). ReadThread t ts last) same.1 (subst (λ (x : Thread). ReadThread x ts b.1) same.0 whole)
 
   -- threads that were read
   pub record ReadThreads (left : ℕ) (names : List (List ℕ)) (threads : List Thread) (ts rest : List Token) : Type 0 where

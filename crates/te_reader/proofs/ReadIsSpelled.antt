@@ -1,5 +1,5 @@
 -- What was read of expressions and events is spelled by the tokens, has its names in scope, and is of the first form.
-use Rattle.std.proofs.Common.{◌≡◌, ◌≢◌, ℕ, zero, suc, ◌+◌, ◌<◌, ◌≤◌, Bool, true, false, List, [], ◌∷◌, ◌++◌, length, refl, sym, ◌∙◌, ap, subst, arith}
+use Rattle.std.proofs.Common.{◌≡◌, ℕ, zero, suc, ◌<◌, ◌≤◌, Bool, true, false, List, [], ◌∷◌, length, refl, sym, ◌∙◌, ap, subst, arith}
 use Rattle.std.specs.Prelude.{Option, Some, None, ℤ, if◌then◌else◌}
 use Rattle.std.specs.List.{AllByRecursion}
 use Rattle.te_terms.specs.Values.{fits_i64}
@@ -8,12 +8,12 @@ use Rattle.te_terms.specs.Terms.{Term, always, send, recv}
 use Rattle.te_script.specs.Scripts.{Scope, IsPrimitive, IsCalculation, IsExpression, IsEvent, nodes, height}
 use Rattle.te_reader.specs.declared.token.Word.TheVariants as words
 use Rattle.te_reader.specs.declared.token.Sign.TheVariants as signs
-use Rattle.te_reader.specs.Tokens.{Token, word, name, integer, sign}
+use Rattle.te_reader.specs.Tokens.{Token, sign}
 use Rattle.te_reader.specs.Heads.{word_first, sign_first, name_first, integer_first}
 use Rattle.te_reader.specs.Integers.{integer_value}
-use Rattle.te_reader.specs.Grammar.{Names, is, ◌⨟◌, spells_primitive, spells_inside, spells_further, spells_expression, spells_event, alone}
+use Rattle.te_reader.specs.Grammar.{Names, spells_primitive, spells_inside, spells_further, spells_expression, spells_event, alone}
 use Rattle.te_reader.specs.FirstForm.{IsPlain, IsPlainExpression, IsPlainEvent}
-use Rattle.te_reader.specs.Reads.{Read, ◌>>=◌, place_of, fitting, integer_of, read_channel, integer_or_channel, read_primitive, end_or_more, read_calculations, empty_or_calculations, read_tuple, register_or_tuple, read_expression, read_recv, send_or_recv, always_or_other, read_event}
+use Rattle.te_reader.specs.Reads.{Read, place_of, fitting, integer_of, read_channel, integer_or_channel, read_primitive, end_or_more, read_calculations, empty_or_calculations, read_tuple, register_or_tuple, read_expression, read_recv, send_or_recv, always_or_other, read_event}
 use Rattle.te_reader.proofs.NameLemmas.{bind_some, place_is}
 use Rattle.te_reader.proofs.HeadLemmas.{both_same, name_is, integer_is, word_is, sign_is}
 
@@ -85,30 +85,30 @@ module _ (m : ℕ) (channels registers : List (List ℕ)) (many : length channel
   calculations_read (suc left) cs ts rest e =
       let a = bind_some (read_primitive channels ts) _ _ e in
       by a.0.0 a.0.1 (primitive_read a.0.0 ts a.0.1 a.1) (calculations_read left) (sign_first signs.Close a.0.1) refl a.2 where
-    by : (p : Primitive) (after : List Token) → ReadPrimitive p ts after → ((ds : List Calculation) (us last : List Token) → read_calculations left channels us ≡ Some (ds, last) → ReadCalculations left ds us last × (0 < length ds))
-        → (o : Option (List Token)) → sign_first signs.Close after ≡ o → end_or_more (one p) after (read_calculations left channels) o ≡ Some (cs, rest) → ReadCalculations (suc left) cs ts rest × (0 < length cs)
-    by p after good later (Some last) f e =
-        let r = both_same _ _ e in
-        let all : ReadCalculations (suc left) (one p ∷ []) ts rest × (0 < length (one p ∷ [])) = (
-            record { inside = (after, good.spelled, sign_is signs.Close after rest (f ∙ ap Some r.1)); scoped = (good.scoped, tt); most = omega arith; plain = (good.plain, tt) },
-            omega arith
-        ) in
-        subst (λ (xs : List Calculation). ReadCalculations (suc left) xs ts rest × (0 < length xs)) r.0 all
-    by p after good later None f e =
-        let a = bind_some (sign_first signs.Comma after) _ _ e in
-        let b = bind_some (read_calculations left channels a.0) _ _ a.2 in
-        let r = both_same _ _ b.2 in
-        let l = later b.0.0 a.0 b.0.1 b.1 in
-        let all : ReadCalculations (suc left) (one p ∷ b.0.0) ts b.0.1 × (0 < length (one p ∷ b.0.0)) = (
-            record {
-              inside = (after, good.spelled, further b.0.0 after a.0 b.0.1 l.1 (sign_is signs.Comma after a.0 a.1) l.0.inside);
-              scoped = (good.scoped, l.0.scoped);
-              most = omega (arith, l.0.most);
-              plain = (good.plain, l.0.plain);
-            },
-            omega arith
-        ) in
-        subst (λ (last : List Token). ReadCalculations (suc left) cs ts last × (0 < length cs)) r.1 (subst (λ (xs : List Calculation). ReadCalculations (suc left) xs ts b.0.1 × (0 < length xs)) r.0 all)
+        by : (p : Primitive) (after : List Token) → ReadPrimitive p ts after → ((ds : List Calculation) (us last : List Token) → read_calculations left channels us ≡ Some (ds, last) → ReadCalculations left ds us last × (0 < length ds))
+            → (o : Option (List Token)) → sign_first signs.Close after ≡ o → end_or_more (one p) after (read_calculations left channels) o ≡ Some (cs, rest) → ReadCalculations (suc left) cs ts rest × (0 < length cs)
+        by p after good later (Some last) f e =
+            let r = both_same _ _ e in
+            let all : ReadCalculations (suc left) (one p ∷ []) ts rest × (0 < length (one p ∷ [])) = (
+              record { inside = (after, good.spelled, sign_is signs.Close after rest (f ∙ ap Some r.1)); scoped = (good.scoped, tt); most = omega arith; plain = (good.plain, tt) },
+              omega arith,
+            ) in
+            subst (λ (xs : List Calculation). ReadCalculations (suc left) xs ts rest × (0 < length xs)) r.0 all
+        by p after good later None f e =
+            let a = bind_some (sign_first signs.Comma after) _ _ e in
+            let b = bind_some (read_calculations left channels a.0) _ _ a.2 in
+            let r = both_same _ _ b.2 in
+            let l = later b.0.0 a.0 b.0.1 b.1 in
+            let all : ReadCalculations (suc left) (one p ∷ b.0.0) ts b.0.1 × (0 < length (one p ∷ b.0.0)) = (
+              record {
+                inside = (after, good.spelled, further b.0.0 after a.0 b.0.1 l.1 (sign_is signs.Comma after a.0 a.1) l.0.inside);
+                scoped = (good.scoped, l.0.scoped);
+                most = omega (arith, l.0.most);
+                plain = (good.plain, l.0.plain);
+              },
+              omega arith,
+            ) in
+            subst (λ (last : List Token). ReadCalculations (suc left) cs ts last × (0 < length cs)) r.1 (subst (λ (xs : List Calculation). ReadCalculations (suc left) xs ts b.0.1 × (0 < length xs)) r.0 all)
 
   pub tuple_read : (cs : List Calculation) (ts rest : List Token) → read_tuple channels ts ≡ Some (cs, rest) → ReadCalculations 4 cs ts rest
   unfolding read_tuple
@@ -163,6 +163,7 @@ module _ (m : ℕ) (channels registers : List (List ℕ)) (many : length channel
         let good : ReadEvent (recv (chan c.number)) ts b.0.1 = record { spelled = (a.0, word_is words.Recv ts a.0 a.1, c.primitive.spelled); scoped = c.primitive.scoped; leaf = (refl, refl); plain = tt } in
         let same : recv (chan c.number) ≡ t = ap recv (sym c.is_channel) ∙ r.0 in
         subst (λ (last : List Token). ReadEvent t ts last) r.1 (subst (λ (u : Term). ReadEvent u ts b.0.1) same good)
+
     by_send : (o : Option (List Token)) → word_first words.Send ts ≡ o → send_or_recv channels registers ts o ≡ Some (t, rest) → ReadEvent t ts rest
     by_send None f e = by_recv e
     by_send (Some behind) f e =
@@ -179,6 +180,7 @@ module _ (m : ℕ) (channels registers : List (List ℕ)) (many : length channel
         } in
         let same : send (chan c.number) b.0.0 ≡ t = ap (λ p. send p b.0.0) (sym c.is_channel) ∙ r.0 in
         subst (λ (last : List Token). ReadEvent t ts last) r.1 (subst (λ (u : Term). ReadEvent u ts b.0.1) same good)
+
     by_always : (o : Option (List Token)) → word_first words.Always ts ≡ o → always_or_other channels registers ts o ≡ Some (t, rest) → ReadEvent t ts rest
     by_always None f e = by_send (word_first words.Send ts) refl e
     by_always (Some behind) f e =

@@ -1,6 +1,6 @@
 -- What was read of a text is a program of the first form of which it is a text.
-use Rattle.std.proofs.Common.{◌≡◌, ◌≤◌, ℕ, Bool, true, false, List, [], ◌∷◌, length, refl, sym, ◌∙◌, ap, subst, arith}
-use Rattle.std.specs.Prelude.{Option, Some, None, nat_le}
+use Rattle.std.proofs.Common.{◌≡◌, ℕ, Bool, true, false, List, [], ◌∷◌, length, refl, subst, arith}
+use Rattle.std.specs.Prelude.{Some, nat_le}
 use Rattle.std.proofs.lemmas.Bool.Decides.{nat_tests}
 use Rattle.te_script.specs.Scripts.{Program}
 use Rattle.te_reader.specs.Tokens.{Token}
@@ -8,7 +8,7 @@ use Rattle.te_reader.specs.Lexed.{lexed}
 use Rattle.te_reader.specs.Grammar.{spells_program}
 use Rattle.te_reader.specs.Text.{Text}
 use Rattle.te_reader.specs.FirstForm.{First}
-use Rattle.te_reader.specs.Reads.{◌>>=◌, checked, read_program, if_end, read_text}
+use Rattle.te_reader.specs.Reads.{checked, read_program, if_end, read_text}
 use Rattle.te_reader.proofs.NameLemmas.{bind_some, checked_some}
 use Rattle.te_reader.proofs.ReadIsKept.{program_read}
 use Rattle.te_reader.proofs.LexedIsSpelled.{lexed_is_spelled}
@@ -28,14 +28,13 @@ text_is_read bytes p e =
     let ended = end_some _ _ _ c.1 in
     let same : b.0.0 ≡ p = cc in
     let read = program_read b.0.0 (lexed bytes).tokens b.0.1 b.1 in
-    subst (λ (x : Program). Text bytes x × First x) same
-    (
-        record {
-          size = grind (arith, nat_tests, fits);
-          tokens = (lexed bytes).tokens;
-          spelled = lexed_is_spelled bytes ended.0;
-          grammar = subst (λ (rest : List Token). spells_program true b.0.0 (lexed bytes).tokens rest) ended.1 read.spelled;
-          kept = read.kept;
-        },
-        read.plain
+    subst (λ (x : Program). Text bytes x × First x) same (
+      record {
+        size = grind (arith, nat_tests, fits);
+        tokens = (lexed bytes).tokens;
+        spelled = lexed_is_spelled bytes ended.0;
+        grammar = subst (λ (rest : List Token). spells_program true b.0.0 (lexed bytes).tokens rest) ended.1 read.spelled;
+        kept = read.kept;
+      },
+      read.plain,
     )

@@ -1,6 +1,6 @@
 -- What the tokens of a text are, by what stands at its front.
 use Rattle.std.proofs.Common.{◌≡◌, ℕ, zero, suc, ◌+◌, ◌<◌, ◌≤◌, Bool, true, false, not, nat_eq, cond, List, [], ◌∷◌, length, get_or, take, drop, refl, sym, ◌∙◌, ap, arith, drop-cons, add-one, one-add}
-use Rattle.std.specs.Prelude.{slice_get, Option, Some, None, if◌then◌else◌}
+use Rattle.std.specs.Prelude.{Option, Some, None, if◌then◌else◌}
 use Rattle.std.specs.List.{prefix_len}
 use Rattle.std.specs.Char.{is_ascii_alphabetic, is_ascii_digit}
 use Rattle.std.proofs.lemmas.List.{drop_all}
@@ -11,8 +11,8 @@ use Rattle.te_reader.specs.declared.token.Word.{Word}
 use Rattle.te_reader.specs.declared.token.Sign.TheVariants as signs
 use Rattle.te_reader.specs.declared.token.Lexeme.{Lexeme}
 use Rattle.te_reader.specs.declared.token.Lexeme.TheVariants as lexemes
-use Rattle.te_reader.specs.Tokens.{Token, word, name, inner, integer, sign, word_spelling, spelling, is_word_byte, is_blank, Between, in_blanks, in_comment}
-use Rattle.te_reader.specs.Lexed.{Stream, Piece, gap, found, other, piece_at, token_at, before, run, reserved_as, word_or_name, lexed_behind, lexed, headed, one_sign, place_in, IsAtToken, IsOneSign}
+use Rattle.te_reader.specs.Tokens.{Token, inner, integer, sign, word_spelling, spelling, is_word_byte, is_blank, Between, in_blanks, in_comment}
+use Rattle.te_reader.specs.Lexed.{gap, found, other, piece_at, token_at, before, run, reserved_as, word_or_name, lexed_behind, lexed, headed, one_sign, place_in, IsAtToken, IsOneSign}
 use Rattle.te_reader.proofs.ByteKinds.{letter_is_no_gap, letter_is_word, digit_is_no_gap, digit_is_no_letter}
 use Rattle.te_reader.proofs.ReservedWords.{reserved_spells}
 

@@ -1,7 +1,6 @@
 -- What was read before, in front of what is read yet.
-use Rattle.std.specs.Prelude.{◌≡◌, ℕ, List, [], ◌∷◌, ◌++◌, Option, Some, None}
+use Rattle.std.specs.Prelude.{List, ◌++◌, Some, None}
 use Rattle.te_script.specs.Scripts.{Statement}
-use Rattle.te_reader.specs.Tokens.{Token}
 use Rattle.te_reader.specs.Reads.{Read, Body}
 
 abbrev pub behind : {A : Type 0} → List A → Read (List A) → Read (List A)

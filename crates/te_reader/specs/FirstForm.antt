@@ -1,9 +1,8 @@
 -- Programs of the first form: one node an event, declared channels, and expressions without arithmetic or places.
-use Rattle.std.specs.Prelude.{List}
 use Rattle.std.specs.List.{AllByRecursion}
-use Rattle.te_terms.specs.Expressions.{Primitive, int, chan, part, Calculation, one, both, Expression, whole, tuple, register}
-use Rattle.te_terms.specs.Terms.{Term, always, never, throw, send, recv, and_then, choose, catch, when}
-use Rattle.te_script.specs.Scripts.{Statement, sync, emit, Thread, Program}
+use Rattle.te_terms.specs.Expressions.{int, chan, Calculation, one, Expression, whole, tuple, register}
+use Rattle.te_terms.specs.Terms.{Term, always, send, recv}
+use Rattle.te_script.specs.Scripts.{Statement, sync, emit, Program}
 
 -- an integer or a channel
 abbrev pub IsPlain : Calculation → Type 0

@@ -197,8 +197,8 @@ spells_statements rules channels registers written [] = nothing
 spells_statements rules channels registers written (sync r t ∷ more) =
     named
     (λ n. under rules (IsAt registers r n × IsShort n)
-        (is (tokens.name n) ⨟ is (sign signs.Arrow) ⨟ is (word words.Sync) ⨟ spells_event rules alone (written_names channels registers written) t ⨟ is (sign signs.Semicolon)
-        ⨟ spells_statements rules channels registers (with_register written r) more))
+    (is (tokens.name n) ⨟ is (sign signs.Arrow) ⨟ is (word words.Sync) ⨟ spells_event rules alone (written_names channels registers written) t ⨟ is (sign signs.Semicolon)
+    ⨟ spells_statements rules channels registers (with_register written r) more))
 spells_statements rules channels registers written (emit e ∷ more) =
     is (word words.Emit) ⨟ spells_expression rules (written_names channels registers written) e ⨟ is (sign signs.Semicolon) ⨟ spells_statements rules channels registers written more
 

@@ -5,7 +5,7 @@ use Rattle.te_reader.specs.declared.token.Word.{Word}
 use Rattle.te_reader.specs.declared.token.Word.TheVariants as words
 use Rattle.te_reader.specs.declared.token.Sign.{Sign}
 use Rattle.te_reader.specs.declared.token.Sign.TheVariants as signs
-use Rattle.te_reader.specs.Tokens.{Token, word, name, inner, integer, sign}
+use Rattle.te_reader.specs.Tokens.{Token, word, name, integer, sign}
 use Rattle.te_reader.specs.Lexed.{Stream}
 
 -- ---- words and signs by number

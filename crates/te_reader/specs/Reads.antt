@@ -1,5 +1,5 @@
 -- What the reader of the first form answers, as functions of the tokens. Contracts inside this crate cite it.
-use Rattle.std.specs.Prelude.{◌≡◌, ℕ, zero, suc, ◌+◌, Bool, true, false, List, [], ◌∷◌, ◌++◌, length, ℤ, nat_lt, nat_le, ◌&&◌, Option, Some, None, Result, Ok, Err, option_and_then, if◌then◌else◌}
+use Rattle.std.specs.Prelude.{◌≡◌, ℕ, zero, suc, Bool, true, false, List, [], ◌∷◌, ◌++◌, length, ℤ, nat_lt, nat_le, ◌&&◌, Option, Some, None, Result, Ok, Err, option_and_then, if◌then◌else◌}
 use Rattle.std.specs.List.{position}
 use Rattle.std.specs.Str.{bytes_eq}
 use Rattle.te_terms.specs.Values.{fits_i64}
@@ -194,7 +194,7 @@ read_body zero channels registers ts = brace_or_more registers None (sign_first 
 read_body (suc left) channels registers ts =
     brace_or_more registers
     (Some
-        (read_statement channels registers ts >>= λ s. read_body left channels s.0.1 s.1 >>= λ body. Some (record { statements = s.0.0 ∷ body.0.statements; registers = body.0.registers }, body.1)))
+    (read_statement channels registers ts >>= λ s. read_body left channels s.0.1 s.1 >>= λ body. Some (record { statements = s.0.0 ∷ body.0.statements; registers = body.0.registers }, body.1)))
     (sign_first signs.CloseBrace ts)
 
 -- ---- threads and programs

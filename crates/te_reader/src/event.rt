@@ -10,7 +10,11 @@ use te_terms::{Name, Node, Rows};
 
 /// Reads an event of one node.
 #[tactic(auto, unfolding(crate::specs::Reads::read_event))]
-pub fn read_event(cursor: &mut Cursor<'_>, channels: &Channels, registers: &Rows<Name>) -> Result<Node, ScriptFault>
+pub fn read_event(
+    cursor: &mut Cursor<'_>,
+    channels: &Channels,
+    registers: &Rows<Name>,
+) -> Result<Node, ScriptFault>
     requires { length registers.now ≤ 8 }
     ensures { Answers result leaf cursor.old cursor.new (read_event channels.now registers.now cursor.old.tokens) }
 {

@@ -75,7 +75,11 @@ fn read_tuple(cursor: &mut Cursor<'_>, channels: &Channels) -> Result<Calcs, Scr
 
 /// Reads a register or a tuple.
 #[tactic(auto, unfolding(crate::specs::Reads::read_expression))]
-pub fn read_expression(cursor: &mut Cursor<'_>, channels: &Channels, registers: &Rows<Name>) -> Result<Expr, ScriptFault>
+pub fn read_expression(
+    cursor: &mut Cursor<'_>,
+    channels: &Channels,
+    registers: &Rows<Name>,
+) -> Result<Expr, ScriptFault>
     requires { length registers.now ≤ 8 }
     ensures { Answers result expression_of cursor.old cursor.new (read_expression channels.now registers.now cursor.old.tokens) }
 {

@@ -42,5 +42,9 @@ fn number(digits: &[u8]) -> Option<u64>
         }
         size = size * 10 + digit.saturating_sub(b'0') as u64;
     }
-    if size > 9_223_372_036_854_775_808 { None } else { Some(size) }
+    if size > 9_223_372_036_854_775_808 {
+        None
+    } else {
+        Some(size)
+    }
 }

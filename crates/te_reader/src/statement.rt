@@ -19,7 +19,12 @@ use te_terms::{EventCode, Expr, Name, Node, Rows};
 
 /// Reads a statement, and appends the name of its register where it is a new one.
 #[tactic(auto, unfolding(crate::specs::Reads::read_statement))]
-pub fn read_statement(alloc: Global, cursor: &mut Cursor<'_>, channels: &Channels, registers: &mut Rows<Name>) -> Result<Stmt, ScriptFault>
+pub fn read_statement(
+    alloc: Global,
+    cursor: &mut Cursor<'_>,
+    channels: &Channels,
+    registers: &mut Rows<Name>,
+) -> Result<Stmt, ScriptFault>
     requires { length registers.old ≤ 8 }
     ensures statement { Answers result (λ s. (statement_of s, registers.new)) cursor.old cursor.new (read_statement channels.now registers.old cursor.old.tokens) }
     ensures few { length registers.new ≤ 8 }
@@ -54,7 +59,11 @@ fn sync(alloc: Global, reg: u8, node: Node) -> Result<Stmt, ScriptFault>
 
 // What stands behind `emit`, up to its `;`.
 #[tactic(auto, unfolding(crate::specs::Reads::read_emit))]
-fn read_emit(cursor: &mut Cursor<'_>, channels: &Channels, registers: &Rows<Name>) -> Result<Expr, ScriptFault>
+fn read_emit(
+    cursor: &mut Cursor<'_>,
+    channels: &Channels,
+    registers: &Rows<Name>,
+) -> Result<Expr, ScriptFault>
     requires { length registers.now ≤ 8 }
     ensures { Answers result expression_of cursor.old cursor.new (read_emit channels.now registers.now cursor.old.tokens) }
 {
@@ -67,7 +76,11 @@ fn read_emit(cursor: &mut Cursor<'_>, channels: &Channels, registers: &Rows<Name
 
 // What stands behind the register of a sync, up to its `;`.
 #[tactic(auto, unfolding(crate::specs::Reads::read_sync))]
-fn read_sync(cursor: &mut Cursor<'_>, channels: &Channels, registers: &Rows<Name>) -> Result<Node, ScriptFault>
+fn read_sync(
+    cursor: &mut Cursor<'_>,
+    channels: &Channels,
+    registers: &Rows<Name>,
+) -> Result<Node, ScriptFault>
     requires { length registers.now ≤ 8 }
     ensures { Answers result leaf cursor.old cursor.new (read_sync channels.now registers.now cursor.old.tokens) }
 {
@@ -83,7 +96,11 @@ fn read_sync(cursor: &mut Cursor<'_>, channels: &Channels, registers: &Rows<Name
 
 // The number of a register, which is appended where it is a new one.
 #[tactic(auto, unfolding(crate::specs::Reads::register_of))]
-fn register_of(channels: &Channels, registers: &mut Rows<Name>, name: &[u8]) -> Result<u8, ScriptFault>
+fn register_of(
+    channels: &Channels,
+    registers: &mut Rows<Name>,
+    name: &[u8],
+) -> Result<u8, ScriptFault>
     requires few { length registers.old ≤ 8 }
     requires named { 0 < length name.now }
     ensures register { DeclaresRegister result registers.new (register_of channels.now registers.old name.now) }

@@ -14,7 +14,11 @@ use te_terms::{Name, Rows};
 
 // A thread behind its first word.
 #[tactic(auto, unfolding(crate::specs::Reads::read_thread))]
-fn read_thread(alloc: Global, cursor: &mut Cursor<'_>, channels: &Channels) -> Result<ThreadText, ScriptFault>
+fn read_thread(
+    alloc: Global,
+    cursor: &mut Cursor<'_>,
+    channels: &Channels,
+) -> Result<ThreadText, ScriptFault>
     requires { length channels.now ≤ 256 }
     ensures { Answers result (λ t. t) cursor.old cursor.new (read_thread channels.now cursor.old.tokens) }
 {
@@ -31,7 +35,12 @@ fn read_thread(alloc: Global, cursor: &mut Cursor<'_>, channels: &Channels) -> R
 }
 
 // The statements of a thread, up to its closing brace.
-fn read_body(alloc: Global, cursor: &mut Cursor<'_>, channels: &Channels, name: Name) -> Result<ThreadText, ScriptFault>
+fn read_body(
+    alloc: Global,
+    cursor: &mut Cursor<'_>,
+    channels: &Channels,
+    name: Name,
+) -> Result<ThreadText, ScriptFault>
     requires { length channels.now ≤ 256 }
     ensures { Answers result (λ t. t) cursor.old cursor.new (named_body name (read_body 1024 channels.now [] cursor.old.tokens)) }
 {
@@ -49,7 +58,12 @@ fn read_body(alloc: Global, cursor: &mut Cursor<'_>, channels: &Channels, name: 
 
 // A thread behind its first word, whose name is new. Its name is appended.
 #[tactic(auto, unfolding(crate::specs::Reads::read_new_thread))]
-fn read_new_thread(alloc: Global, cursor: &mut Cursor<'_>, channels: &Channels, names: &mut Rows<Name>) -> Result<Arc<ThreadText>, ScriptFault>
+fn read_new_thread(
+    alloc: Global,
+    cursor: &mut Cursor<'_>,
+    channels: &Channels,
+    names: &mut Rows<Name>,
+) -> Result<Arc<ThreadText>, ScriptFault>
     requires { length channels.now ≤ 256 }
     ensures { Answers result (λ a. (a.value, names.new)) cursor.old cursor.new (read_new_thread channels.now names.old cursor.old.tokens) }
 {
@@ -64,7 +78,11 @@ fn read_new_thread(alloc: Global, cursor: &mut Cursor<'_>, channels: &Channels, 
 }
 
 /// Reads threads, up to where no word `thread` stands.
-pub fn read_threads(alloc: Global, cursor: &mut Cursor<'_>, channels: &Channels) -> Result<Rows<Arc<ThreadText>>, ScriptFault>
+pub fn read_threads(
+    alloc: Global,
+    cursor: &mut Cursor<'_>,
+    channels: &Channels,
+) -> Result<Rows<Arc<ThreadText>>, ScriptFault>
     requires { length channels.now ≤ 256 }
     ensures { Answers result (λ ts. map (λ a. a.value) ts) cursor.old cursor.new (read_threads 64 channels.now [] cursor.old.tokens) }
 {

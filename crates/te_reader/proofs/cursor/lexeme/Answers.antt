@@ -1,6 +1,5 @@
-use Rattle.std.proofs.Common.{rules, ◌≡◌, ◌<◌, ◌+◌, ℕ, length, drop, sym, ◌∙◌, ap, refl, arith, subst}
-use Rattle.std.proofs.lemmas.Bool.{eqb-false, eqb-true}
-use Rattle.te_reader.specs.Lexed.{lexed, headed, IsAtToken}
+use Rattle.std.proofs.Common.{rules, ◌≡◌, ◌<◌, length, sym, ◌∙◌, ap}
+use Rattle.te_reader.specs.Lexed.{lexed, IsAtToken}
 use Rattle.te_reader.proofs.TokenSteps.{no_text, sign_first, IsSignByte}
 use Rattle.te_reader.proofs.cursor.lexeme.Goals as goal
 

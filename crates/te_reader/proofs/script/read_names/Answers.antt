@@ -1,4 +1,4 @@
-use Rattle.std.proofs.Common.{◌≡◌, ◌+◌, ◌-◌, ◌<◌, [], ◌∷◌, length, sym, ◌∙◌, ap, arith, length-append}
+use Rattle.std.proofs.Common.{[], ◌∷◌, length, sym, ◌∙◌, ap, arith, length-append}
 use Rattle.std.proofs.lemmas.Result.{err_from_is_err_and}
 use Rattle.te_reader.specs.Reads.{declared_in}
 use Rattle.te_reader.proofs.PassedOn.{declared_on}
@@ -24,6 +24,6 @@ returns-then-not-take_sign c = sym c.names.invariant.0 ∙ names_no_end _ _ _ c.
 
 pub returns : goal.returns
 returns c = (
-    sym c.names.invariant.0 ∙ names_end _ _ _ _ c.in_default.ensures.name.0 (rw c.in_default.ensures.name.1 at c.if-not-take_sign.ensures.0),
-    c.if-not-take_sign.ensures.1 ∙ ap (λ s. s.whole) c.in_default.ensures.name.1 ∙ c.names.invariant.1
+  sym c.names.invariant.0 ∙ names_end _ _ _ _ c.in_default.ensures.name.0 (rw c.in_default.ensures.name.1 at c.if-not-take_sign.ensures.0),
+  c.if-not-take_sign.ensures.1 ∙ ap (λ s. s.whole) c.in_default.ensures.name.1 ∙ c.names.invariant.1,
 )

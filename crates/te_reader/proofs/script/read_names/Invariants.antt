@@ -1,4 +1,4 @@
-use Rattle.std.proofs.Common.{◌≡◌, ◌-◌, ◌≤◌, [], length}
+use Rattle.std.proofs.Common.{◌≡◌, ◌-◌, [], length}
 use Rattle.te_reader.specs.Reads.{read_names}
 use Rattle.te_reader.proofs.script.read_names.Given as goal
 

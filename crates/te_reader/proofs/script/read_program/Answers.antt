@@ -1,4 +1,4 @@
-use Rattle.std.proofs.Common.{◌<◌, List, length, map, arith}
+use Rattle.std.proofs.Common.{◌<◌, length, map, arith}
 use Rattle.std.proofs.lemmas.List.{length-map}
 use Rattle.te_reader.proofs.ReadIsKept.{channels_read, program_of}
 use Rattle.te_reader.proofs.script.read_program.Goals as goal

@@ -1,5 +1,5 @@
-use Rattle.std.proofs.Common.{◌≡◌, List, ℕ}
-use Rattle.std.specs.Prelude.{Option, Some, None, Result, Ok, Err, IfOk}
+use Rattle.std.proofs.Common.{List, ℕ}
+use Rattle.std.specs.Prelude.{Result, Ok, Err, IfOk}
 use Rattle.te_script.specs.Scripts.{Program}
 use Rattle.te_reader.specs.declared.fault.ScriptFault.{ScriptFault}
 use Rattle.te_reader.specs.Text.{Text}
@@ -13,4 +13,4 @@ read_ok bytes (Ok p) h = text_is_read bytes p h
 read_ok bytes (Err e) h = tt
 
 pub returns : goal.returns
-returns c = read_ok c.args.bytes.now c.read_text.result c.read_text.ensures
+returns c = record { ok = read_ok c.args.bytes.now c.read_text.result c.read_text.ensures }

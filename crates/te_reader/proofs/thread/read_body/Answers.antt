@@ -1,5 +1,4 @@
-use Rattle.std.proofs.Common.{◌≡◌, ◌≤◌, ◌+◌, ◌-◌, ◌<◌, List, [], ◌∷◌, ◌++◌, length, map, sym, ◌∙◌, ap, arith, length-append}
-use Rattle.std.specs.Prelude.{Option, Some, None}
+use Rattle.std.proofs.Common.{◌≡◌, ◌+◌, List, [], ◌∷◌, ◌++◌, length, ◌∙◌, ap, arith, length-append}
 use Rattle.std.specs.List.{AllByRecursion}
 use Rattle.std.proofs.lemmas.Result.{err_from_is_err_and}
 use Rattle.std.proofs.lemmas.List.{map-append}
@@ -20,7 +19,7 @@ returns-in_err-stmt c =
     let p = err_from_is_err_and c.from_residual.result c.from_residual.ensures.1 in
     rw (p.1, p.2)
     (passed_on _ (λ s. (statement_of s, c.read_statement.new.registers)) _ c.take_sign.new.self c.read_statement.new.cursor _ _ (read_statement c.args.channels.now c.stmts.regs c.take_sign.new.self.tokens) _ c.in_err-stmt.ensures.statement
-        (λ none. ap (named_body c.args.name) (no_statement 1024 (length c.stmts.stmts) _ _ _ _ _ c.stmts.invariant.read c.stmts-test.ensures.0 (omega (arith, c.len.ensures, c.if-len-ge1024.false)) (rw c.stmts-test.ensures.1 at none))))
+    (λ none. ap (named_body c.args.name) (no_statement 1024 (length c.stmts.stmts) _ _ _ _ _ c.stmts.invariant.read c.stmts-test.ensures.0 (omega (arith, c.len.ensures, c.if-len-ge1024.false)) (rw c.stmts-test.ensures.1 at none))))
 
 -- one statement more has a root
 all_roots : (xs : List Stmt) (x : Stmt) → AllByRecursion HasRoot xs → HasRoot x → AllByRecursion HasRoot (xs ++ x ∷ [])
@@ -52,6 +51,6 @@ invariant_of-result c =
 
 pub returns : goal.returns
 returns c = (
-    ap (named_body c.args.name) (body_ended 1024 (length c.stmts.stmts) _ _ _ _ _ c.stmts.invariant.read _ c.stmts-test.ensures.0),
-    c.stmts-test.ensures.1 ∙ c.stmts.invariant.whole
+  ap (named_body c.args.name) (body_ended 1024 (length c.stmts.stmts) _ _ _ _ _ c.stmts.invariant.read _ c.stmts-test.ensures.0),
+  c.stmts-test.ensures.1 ∙ c.stmts.invariant.whole,
 )

@@ -11,7 +11,7 @@ invariant-stmts l = record {
   whole : l.cursor.whole ≡ l.initial.cursor.whole;
   few : length l.regs ≤ 8;
   most : length l.stmts ≤ 1024;
-  roots : AllByRecursion HasRoot l.stmts
+  roots : AllByRecursion HasRoot l.stmts;
 }
 
 abbrev pub decreases-stmts : goal.decreases-stmts

@@ -1,5 +1,5 @@
-use Rattle.std.proofs.Common.{◌≡◌, ◌≤◌, ◌+◌, ◌-◌, ◌<◌, List, [], ◌∷◌, ◌++◌, length, map, sym, ◌∙◌, ap, arith, length-append}
-use Rattle.std.specs.Prelude.{Option, Some, None}
+use Rattle.std.proofs.Common.{◌≡◌, ◌+◌, [], ◌∷◌, length, map, sym, ◌∙◌, ap, arith, length-append}
+use Rattle.std.specs.Prelude.{Some}
 use Rattle.std.proofs.lemmas.Result.{err_from_is_err_and}
 use Rattle.std.proofs.lemmas.List.{map-append}
 use Rattle.te_reader.specs.Reads.{read_new_thread}
@@ -16,7 +16,7 @@ returns-in_err-thread c =
     let p = err_from_is_err_and c.from_residual.result c.from_residual.ensures.1 in
     rw (p.1, p.2)
     (passed_on _ (λ a. (a.value, c.read_new_thread.new.names)) _ c.take_word.new.self c.read_new_thread.new.cursor _ _ (read_new_thread c.args.channels.now c.threads.names c.take_word.new.self.tokens) _ c.in_err-thread.ensures
-        (no_thread 64 (length c.threads.threads) _ _ _ _ _ c.threads.invariant.read _ c.threads-test.ensures.0 (omega (arith, c.len.ensures, c.if-len-ge64.false))))
+    (no_thread 64 (length c.threads.threads) _ _ _ _ _ c.threads.invariant.read _ c.threads-test.ensures.0 (omega (arith, c.len.ensures, c.if-len-ge64.false))))
 
 pub threads-preserved : goal.threads-preserved
 threads-preserved c =
@@ -32,6 +32,6 @@ threads-preserved c =
 
 pub returns : goal.returns
 returns c = (
-    threads_ended 64 (length c.threads.threads) _ _ _ _ _ c.threads.invariant.read c.threads-test.ensures.0 ∙ ap (λ s. Some (map (λ a. a.value) c.threads.threads, s.tokens)) (sym c.threads-test.ensures.1),
-    ap (λ s. s.whole) c.threads-test.ensures.1 ∙ c.threads.invariant.whole
+  threads_ended 64 (length c.threads.threads) _ _ _ _ _ c.threads.invariant.read c.threads-test.ensures.0 ∙ ap (λ s. Some (map (λ a. a.value) c.threads.threads, s.tokens)) (sym c.threads-test.ensures.1),
+  ap (λ s. s.whole) c.threads-test.ensures.1 ∙ c.threads.invariant.whole,
 )
