@@ -40,7 +40,7 @@ no_step (quiet t) m rest still = quiet_by (m.thread == t) m (m ∷ []) rest
 no_step (labelled (choice t left)) m rest still = choice_by (m.thread == t) left m (m ∷ []) still
 no_step (labelled (meeting s r)) m rest still =
     meeting_by (s == r) (m.thread == s) (m.thread == r) m (m ∷ [])
-      (λ p q. (Decides-eqb s r).1 (sym ((Decides-eqb m.thread s).0 p) ∙ (Decides-eqb m.thread r).0 q))
+    (λ p q. (Decides-eqb s r).1 (sym ((Decides-eqb m.thread s).0 p) ∙ (Decides-eqb m.thread r).0 q))
 
 no_chain : (actions : List Action) (m : Member) (end : List Member) (results : List Outcome) → IsSettled m → CannotChoose m.term → IsOpen m.term →
     after actions (m ∷ []) ≡ Some end → outcomes_of end ≡ Some results → ⊥
