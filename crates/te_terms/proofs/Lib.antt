@@ -13,3 +13,4 @@ pub mod OneThing
 pub mod UnderFirst
 pub mod WorkedTerms
 pub mod WorkedGroups
+pub mod CannotCommit

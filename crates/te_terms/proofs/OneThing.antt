@@ -81,26 +81,30 @@ no_choice left t not_so = none_of (after_choice left t) (λ u p. let is = choice
 pub send_is_alone : (thread : ℕ) (t : Term) (s : Message) → sending t ≡ Some s → Rests thread t × ((left : Bool) → after_choice left t ≡ None) × (receiving t ≡ None)
 send_is_alone thread t s p =
     let is = send_is (head t) s p in
-    let at : head t ≡ send is.0 is.1.0 = is.1.1.0 in
-    (rests thread t (subst (Rests thread) (sym at) (send_rests (channel_value is.0) (value_of is.1.0) s is.1.1.1, refl)),
-     λ left. no_choice left t (λ e f q. let both : send is.0 is.1.0 ≡ choose e f = sym at ∙ q in cc),
-     ap received_on at)
+    let at : head t ≡ send is.0 is.1.0 = is.1.1.0 in (
+      rests thread t (subst (Rests thread) (sym at) (send_rests (channel_value is.0) (value_of is.1.0) s is.1.1.1, refl)),
+      λ left. no_choice left t (λ e f q. let both : send is.0 is.1.0 ≡ choose e f = sym at ∙ q in cc),
+      ap received_on at,
+    )
 
 -- a receive rests, and neither can choose nor sends
 pub receive_is_alone : (thread : ℕ) (t : Term) (c : ℕ) → receiving t ≡ Some c → Rests thread t × ((left : Bool) → after_choice left t ≡ None) × (sending t ≡ None)
 receive_is_alone thread t c p =
     let is = receive_is (head t) c p in
-    let at : head t ≡ recv is.0 = is.1.0 in
-    (rests thread t (subst (Rests thread) (sym at) (receive_rests (channel_value is.0) c is.1.1, refl)),
-     λ left. no_choice left t (λ e f q. let both : recv is.0 ≡ choose e f = sym at ∙ q in cc),
-     ap sent_from at)
+    let at : head t ≡ recv is.0 = is.1.0 in (
+      rests thread t (subst (Rests thread) (sym at) (receive_rests (channel_value is.0) c is.1.1, refl)),
+      λ left. no_choice left t (λ e f q. let both : recv is.0 ≡ choose e f = sym at ∙ q in cc),
+      ap sent_from at,
+    )
 
 -- never rests and does nothing
 pub never_is_alone : (thread : ℕ) (t : Term) → head t ≡ never → Rests thread t × ((left : Bool) → after_choice left t ≡ None) × (sending t ≡ None) × (receiving t ≡ None)
-never_is_alone thread t at =
-    (rests thread t (subst (Rests thread) (sym at) (refl, refl)),
-     λ left. no_choice left t (λ e f q. let both : never ≡ choose e f = sym at ∙ q in cc),
-     ap sent_from at, ap received_on at)
+never_is_alone thread t at = (
+  rests thread t (subst (Rests thread) (sym at) (refl, refl)),
+  λ left. no_choice left t (λ e f q. let both : never ≡ choose e f = sym at ∙ q in cc),
+  ap sent_from at,
+  ap received_on at,
+)
 
 given : (r : Result (List Atom) Trap) (o : Outcome) → given_by r ≡ Some o → thrown r ≡ None
 given (Ok v) o p = refl

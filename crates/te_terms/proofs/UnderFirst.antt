@@ -18,12 +18,12 @@ placed g h f k same (Some x) = ap Some (same x)
 pub quiet_under_then : (n : ℕ) (f : Term) (m : Member) → outcome_of m.term ≡ None → quiet_step (under_then n f m) ≡ option_map (under_then n f) (quiet_step m)
 quiet_under_then n f m open_end =
     ap (λ o. option_map (λ t. record m { term = t }) (goes_on o (quiet_of m.thread m.term) n f)) open_end
-      ∙ placed (λ t. record m { term = t }) (under_then n f) (λ e. and_then e n f) (λ t. record m { term = t }) (λ x. refl) (quiet_of m.thread m.term)
+    ∙ placed (λ t. record m { term = t }) (under_then n f) (λ e. and_then e n f) (λ t. record m { term = t }) (λ x. refl) (quiet_of m.thread m.term)
 
 pub quiet_under_catch : (n : ℕ) (f : Term) (m : Member) → outcome_of m.term ≡ None → quiet_step (under_catch n f m) ≡ option_map (under_catch n f) (quiet_step m)
 quiet_under_catch n f m open_end =
     ap (λ o. option_map (λ t. record m { term = t }) (is_caught o (quiet_of m.thread m.term) n f)) open_end
-      ∙ placed (λ t. record m { term = t }) (under_catch n f) (λ e. catch e n f) (λ t. record m { term = t }) (λ x. refl) (quiet_of m.thread m.term)
+    ∙ placed (λ t. record m { term = t }) (under_catch n f) (λ e. catch e n f) (λ t. record m { term = t }) (λ x. refl) (quiet_of m.thread m.term)
 
 -- what has a quiet step isn't final
 unfinished : (m q : Member) (o : Option Outcome) → outcome_of m.term ≡ o → quiet_step m ≡ Some q → o ≡ None
@@ -55,13 +55,13 @@ then_ends : (n : ℕ) (f : Term) (s : Member) (o : Option Outcome) → IsSettled
 then_ends n f s (Some (Gives v)) h e = sym (settled_after (under_then n f s) (record s { term = bound n v f }) (ap (λ o. option_map (λ t. record s { term = t }) (goes_on o (quiet_of s.thread s.term) n f)) e))
 then_ends n f s (Some (Raises v)) h e =
     sym (settled_after (under_then n f s) (record s { term = raising v }) (ap (λ o. option_map (λ t. record s { term = t }) (goes_on o (quiet_of s.thread s.term) n f)) e))
-      ∙ settled_already (record s { term = raising v }) (raises_settled s v)
+    ∙ settled_already (record s { term = raising v }) (raises_settled s v)
 then_ends n f s None h e = settled_already (under_then n f s) (quiet_under_then n f s e ∙ ap (option_map (under_then n f)) h)
 
 pub settled_under_then : (n : ℕ) (f : Term) (m : Member) → settled (under_then n f m) ≡ then_settled (outcome_of (settled m).term) n f (settled m)
 settled_under_then n f m =
     sym (settled_along (under_then n f m) (under_then n f (settled m)) (quietly_under_then n f m (settled m) (settled_is_reached m)))
-      ∙ then_ends n f (settled m) (outcome_of (settled m).term) (settled_is_settled m) refl
+    ∙ then_ends n f (settled m) (outcome_of (settled m).term) (settled_is_settled m) refl
 
 -- ---- what `catch` settles as
 
@@ -69,10 +69,10 @@ catch_ends : (n : ℕ) (f : Term) (s : Member) (o : Option Outcome) → IsSettle
 catch_ends n f s (Some (Raises v)) h e = sym (settled_after (under_catch n f s) (record s { term = bound n v f }) (ap (λ o. option_map (λ t. record s { term = t }) (is_caught o (quiet_of s.thread s.term) n f)) e))
 catch_ends n f s (Some (Gives v)) h e =
     sym (settled_after (under_catch n f s) (record s { term = giving v }) (ap (λ o. option_map (λ t. record s { term = t }) (is_caught o (quiet_of s.thread s.term) n f)) e))
-      ∙ settled_already (record s { term = giving v }) (gives_settled s v)
+    ∙ settled_already (record s { term = giving v }) (gives_settled s v)
 catch_ends n f s None h e = settled_already (under_catch n f s) (quiet_under_catch n f s e ∙ ap (option_map (under_catch n f)) h)
 
 pub settled_under_catch : (n : ℕ) (f : Term) (m : Member) → settled (under_catch n f m) ≡ catch_settled (outcome_of (settled m).term) n f (settled m)
 settled_under_catch n f m =
     sym (settled_along (under_catch n f m) (under_catch n f (settled m)) (quietly_under_catch n f m (settled m) (settled_is_reached m)))
-      ∙ catch_ends n f (settled m) (outcome_of (settled m).term) (settled_is_settled m) refl
+    ∙ catch_ends n f (settled m) (outcome_of (settled m).term) (settled_is_settled m) refl

@@ -12,8 +12,7 @@ ghost use Rattle.te_terms.specs.Settling.{Falls, Quietly, settled, Stands, Canno
 /// most one, since `quiet_step` is a function.
 pub fn quiet_steps_end()
     ensures { (m n : Member) → quiet_step m ≡ Some n → Falls m.term n.term }
-{
-}
+{}
 
 /// What a member is once its quiet steps are done: quiet steps lead there, none is left, and they lead to
 /// no other end.
@@ -23,8 +22,7 @@ pub fn members_settle()
     ensures one { (m n : Member) → Quietly m n → IsSettled n → n ≡ settled m }
     ensures after { (m n : Member) → quiet_step m ≡ Some n → settled n ≡ settled m }
     ensures thread { (m : Member) → (settled m).thread ≡ m.thread }
-{
-}
+{}
 
 /// A member does one thing at a time: where it is final, can choose, sends or receives, it has no quiet
 /// step and does none of the others.
@@ -34,14 +32,12 @@ pub fn members_do_one_thing()
     ensures send { (m : Member) (sent : Message) → sending m.term ≡ Some sent → IsSettled m × IsOpen m.term × CannotChoose m.term × (receiving m.term ≡ None) }
     ensures receive { (m : Member) (channel : ℕ) → receiving m.term ≡ Some channel → IsSettled m × IsOpen m.term × CannotChoose m.term × (sending m.term ≡ None) }
     ensures never { (m : Member) → head m.term ≡ never → IsSettled m × IsOpen m.term × CannotChoose m.term × (sending m.term ≡ None) × (receiving m.term ≡ None) }
-{
-}
+{}
 
 /// A settled member is final, or stands at a choice, a send, a receive or never.
 pub fn settled_members_stand()
     ensures { (m : Member) → IsSettled m → Stands m.term }
-{
-}
+{}
 
 /// A step of the first part of `then` or `catch` is one of the whole, in its place, and the whole settles
 /// by what the first part settles as.
@@ -52,12 +48,10 @@ pub fn first_parts_step()
     ensures settled_catch { (n : ℕ) (h : Term) (m : Member) → settled (under_catch n h m) ≡ catch_settled (outcome_of (settled m).term) n h (settled m) }
     ensures choice_then { (left : Bool) (e : Term) (n : ℕ) (f : Term) → after_choice left (and_then e n f) ≡ option_map (λ t. and_then t n f) (after_choice left e) }
     ensures choice_catch { (left : Bool) (e : Term) (n : ℕ) (h : Term) → after_choice left (catch e n h) ≡ option_map (λ t. catch t n h) (after_choice left e) }
-{
-}
+{}
 
 /// A term is its head in its head's place, and what is put there has its own head.
 pub fn heads_are_replaced()
     ensures own { (t : Term) → with_head (head t) t ≡ t }
     ensures other { (u t : Term) → head (with_head u t) ≡ head u }
-{
-}
+{}
