@@ -5,3 +5,4 @@ pub mod Rebinding
 pub mod Unwritten
 pub mod CoreMoves
 mod WishesWorked
+pub mod MoreChannels
