@@ -6,3 +6,4 @@ pub mod Unwritten
 pub mod CoreMoves
 mod WishesWorked
 pub mod MoreChannels
+pub mod WantsTold
