@@ -7,11 +7,11 @@ use Rattle.std.proofs.lemmas.List.{length-map}
 use Rattle.std.proofs.Math.ListN.{drop_of_length-le}
 use Rattle.std.proofs.lemmas.Bool.{cases_lt, ltb-false, ltb-true, eqb-true, eqb-false}
 use Rattle.te_terms.specs.declared.event.Outcome.TheVariants.{Gives}
-use Rattle.te_terms.specs.Expressions.{Variable, register, name, known}
-use Rattle.te_terms.specs.Terms.{Term, registers_to, or_register}
+use Rattle.te_terms.specs.Expressions.{register, name, known}
+use Rattle.te_terms.specs.Terms.{registers_to, or_register}
 use Rattle.te_script.specs.declared.script.Stmt.{Stmt}
 use Rattle.te_script.specs.Scripts.{Statement, sync, emit, AreStatements, with_register, Thread, IsThread}
-use Rattle.te_script.specs.Wishes.{Next, waits, ended, failed, register_to, written, stand_at, moved}
+use Rattle.te_script.specs.Wishes.{register_to, written, stand_at, moved}
 use Rattle.te_script.specs.Cores.{without, under, next_of, next_at, IsWaiting, WritesTo, emits_in, IsSettled, Settles, IsCore}
 use Rattle.te_script.specs.Texts.{statement_of}
 use Rattle.te_script.proofs.Places.{slice_get_set_same, slice_get_set_other}

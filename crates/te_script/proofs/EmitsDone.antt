@@ -1,5 +1,5 @@
 -- How one emit moves a thread on.
-use Rattle.std.proofs.Common.{◌≡◌, ℕ, suc, ◌+◌, ◌≤◌, ◌<◌, List, [], ◌∷◌, ◌++◌, length, map, drop, get_or, Option, Some, None, Result, Ok, Err, refl, sym, ap, ◌∙◌, arith, add-one}
+use Rattle.std.proofs.Common.{◌≡◌, ℕ, suc, ◌+◌, ◌≤◌, ◌<◌, List, [], ◌∷◌, ◌++◌, length, map, drop, get_or, None, Ok, Err, refl, sym, ap, ◌∙◌, add-one}
 use Rattle.std.proofs.Math.Seq.{drop-cons}
 use Rattle.std.proofs.Math.ListN.{drop_of_length-le}
 use Rattle.std.proofs.lemmas.List.{drop-map}
@@ -7,14 +7,14 @@ use Rattle.te_terms.specs.declared.value.Atom.{Atom}
 use Rattle.te_terms.specs.declared.value.Trap.{Trap}
 use Rattle.te_terms.specs.Values.{trap_value}
 use Rattle.te_terms.specs.Expressions.{Variable, register, name, known, Expression, in_expression, value_of}
-use Rattle.te_terms.specs.Terms.{Term, registers_to, scoped}
+use Rattle.te_terms.specs.Terms.{registers_to, scoped}
 use Rattle.te_terms.specs.declared.expr.Expr.{Expr}
 use Rattle.te_terms.specs.Codes.{expression_of}
 use Rattle.te_script.specs.declared.script.Stmt.{Stmt}
 use Rattle.te_script.specs.declared.script.Stmt.TheVariants as kinds
 use Rattle.te_script.specs.Scripts.{Statement, sync, emit}
-use Rattle.te_script.specs.Wishes.{Stand, ended, failed, stand_at, emits}
-use Rattle.te_script.specs.Cores.{under, next_of, next_at, IsSettled, Settles, emits_in}
+use Rattle.te_script.specs.Wishes.{failed, stand_at, emits}
+use Rattle.te_script.specs.Cores.{under, next_at, IsSettled}
 use Rattle.te_script.specs.Texts.{statement_of}
 
 -- with no inner name in scope, a variable is a register's value

@@ -5,3 +5,5 @@ pub mod Rebinding
 pub mod Unwritten
 pub mod CoreMoves
 mod WishesWorked
+pub mod MoreChannels
+pub mod WantsTold

@@ -1,9 +1,9 @@
 -- Writing a register in the statements left under some registers leaves them under the registers with the new value.
-use Rattle.std.proofs.Common.{◌≡◌, ◌≢◌, ℕ, suc, ◌<◌, ◌⊎◌, inl, inr, Bool, true, false, cond, eqb, List, [], ◌∷◌, refl, sym, ap, subst, ◌∙◌}
+use Rattle.std.proofs.Common.{◌≡◌, ℕ, ◌⊎◌, inl, inr, Bool, true, false, cond, eqb, List, [], ◌∷◌, refl, sym, ap, subst, ◌∙◌}
 use Rattle.std.proofs.lemmas.Bool.{eqb-true}
 use Rattle.te_terms.specs.declared.value.Atom.{Atom}
 use Rattle.te_terms.specs.Expressions.{Variable, register, name, known, in_expression}
-use Rattle.te_terms.specs.Terms.{Term, replaced}
+use Rattle.te_terms.specs.Terms.{replaced}
 use Rattle.te_script.specs.Scripts.{Statement, sync, emit}
 use Rattle.te_script.specs.Wishes.{register_to, written}
 use Rattle.te_script.specs.Cores.{without, under}

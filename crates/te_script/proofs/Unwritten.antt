@@ -1,12 +1,12 @@
 -- Before any outcome no register is read that isn't written, so the registers' values at the start don't matter.
 use Rattle.std.proofs.Common.{◌≡◌, ◌≢◌, ℕ, suc, ◌<◌, ◌≤◌, Bool, true, false, cond, eqb, ltb, Option, List, [], ◌∷◌, length, map, drop, refl, sym, ap, subst, ◌∙◌, arith}
-use Rattle.std.proofs.lemmas.Bool.{ltb-false, ltb-true, eqb-false}
+use Rattle.std.proofs.lemmas.Bool.{eqb-false}
 use Rattle.te_terms.specs.declared.value.Atom.{Atom}
-use Rattle.te_terms.specs.Expressions.{Variable, register, name, known}
+use Rattle.te_terms.specs.Expressions.{Variable, register}
 use Rattle.te_terms.specs.Terms.{registers_to}
 use Rattle.te_script.specs.Scripts.{Statement, sync, emit, AreStatements, with_register, Thread, IsThread}
 use Rattle.te_script.specs.declared.script.Stmt.{Stmt}
-use Rattle.te_script.specs.Wishes.{Stand, stand_at}
+use Rattle.te_script.specs.Wishes.{stand_at}
 use Rattle.te_script.specs.Texts.{statement_of}
 use Rattle.te_script.specs.Cores.{without, under, next_at, Settles}
 use Rattle.te_script.proofs.Replacing.{Keeps, expression_kept, event_kept}

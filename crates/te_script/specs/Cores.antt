@@ -1,5 +1,5 @@
 -- What a core is seen as: its thread, and where it stands.
-use Rattle.std.specs.Prelude.{◌≡◌, ℕ, suc, ◌+◌, ◌≤◌, length, List, [], ◌∷◌, ◌==◌, ◌++◌, Option, Some, None, Result, Ok, Err, map, drop, if◌then◌else◌}
+use Rattle.std.specs.Prelude.{◌≡◌, ℕ, suc, ◌+◌, ◌≤◌, length, List, [], ◌∷◌, ◌==◌, Option, Some, None, drop, if◌then◌else◌}
 use Rattle.te_terms.specs.declared.value.Atom.{Atom}
 use Rattle.te_terms.specs.declared.event.Outcome.{Outcome}
 use Rattle.te_terms.specs.Expressions.{Variable, register, name, known, in_expression}

@@ -3,3 +3,4 @@ pub mod Wishes
 pub mod Texts
 pub mod Cores
 pub mod Stored
+pub mod Wants

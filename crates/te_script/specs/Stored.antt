@@ -7,7 +7,7 @@ use Rattle.te_terms.specs.Terms.{Term}
 use Rattle.te_terms.specs.Stored.{coded_value, coded_expression, coded_term}
 use Rattle.te_terms.specs.declared.value.Atom.{Atom}
 use Rattle.te_script.specs.Scripts.{Statement, sync, emit, Thread, Program}
-use Rattle.te_script.specs.Wishes.{Next, waits, ended, failed, Stand}
+use Rattle.te_script.specs.Wishes.{Next, waits, ended, failed}
 use Rattle.te_script.specs.Cores.{At}
 
 abbrev pub statement_parts : Statement → ℕ × Term ⊎ Expression

@@ -41,13 +41,15 @@ impl Model for ThreadText {
 
 impl ThreadText {
     ghost use Rattle.std.specs.Prelude.{◌≡◌, map};
-    ghost use Rattle.te_script.specs.Texts.{statement_of};
+    ghost use Rattle.std.specs.List.{AllByRecursion};
+    ghost use Rattle.te_script.specs.Texts.{statement_of, HasRoot};
     ghost use Rattle.te_script.specs.Scripts.{IsThread};
 
     // The statements, in order.
     pub(crate) fn statements(&self) -> &[Stmt]
         ensures value { map statement_of result.now ≡ self.now.statements }
         ensures thread { IsThread 256 self.now }
+        ensures roots { AllByRecursion HasRoot result.now }
     {
         self.stmts.as_slice()
     }

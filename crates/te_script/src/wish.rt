@@ -1,13 +1,16 @@
-ghost use Rattle.std.specs.Prelude.{◌≡◌, ◌+◌, ◌≤◌, ◌++◌, ◌∷◌, [], List, IfOk, length, drop, map, vec_len, vec_capacity};
-ghost use Rattle.te_script.specs.Wishes.{moved};
+ghost use Rattle.std.specs.Prelude.{◌≡◌, ◌+◌, ◌<◌, ◌≤◌, ◌++◌, ◌∷◌, [], List, IfOk, length, drop, map, vec_len, vec_capacity};
+ghost use Rattle.te_script.specs.Wishes.{moved, wish_at, syncs};
+ghost use Rattle.te_terms.specs.Terms.{closed};
+ghost use Rattle.te_terms.specs.Codes.{term_under};
 ghost use Rattle.te_script.specs.Cores.{core_after, Settles, IsWaiting, next_of, WritesTo, emits_in};
+ghost use Rattle.te_script.specs.Wants.{IsWant, IsOfText};
 ghost use Rattle.te_script.specs.Texts.{statement_of};
 
 use crate::script::{Stmt, ThreadText};
 use std::alloc::Global;
 use std::marker::Model;
 use std::sync::Arc;
-use te_terms::{Event, NoMemory, Outcome, Rows, Value};
+use te_terms::{Event, EventCode, NoMemory, Outcome, Rows, Value};
 
 /// What a script thread wishes.
 #[derive(Drop)]
@@ -94,11 +97,52 @@ impl Core {
         }
     }
 
+    /// The present wish. The one refusal is want of memory.
+    pub fn want(&self) -> Result<Want, NoMemory>
+        ensures wish { IfOk result (λ want. IsWant (wish_at self.now.stand) want) }
+        ensures of_text { IfOk result (λ want. IsOfText self.now.thread want) }
+    {
+        if let Some(value) = self.raised {
+            return Ok(Want::Raised(value));
+        }
+        match self.text.statements().get(self.place) {
+            None => Ok(Want::Done),
+            Some(Stmt::Sync { code, root, .. }) => sync_want(code, *root, &self.regs),
+            Some(Stmt::Emit(_)) => unreachable!(),
+        }
+    }
+
+    /// A copy of the values that the thread has emitted so far, in order. The one refusal is want of memory.
+    pub fn copy_emitted(&self) -> Result<Rows<Value>, NoMemory>
+        ensures { IfOk result (λ rows. rows ≡ self.now.stand.emitted) }
+    {
+        let mut rows = Rows::new(self.alloc);
+        for value in self.emitted.as_slice() {
+            rows.push(*value)?;
+        }
+        Ok(rows)
+    }
+
     /// The values that the thread has emitted so far, in order.
     pub fn emitted(&self) -> &[Value]
         ensures { result.now ≡ self.now.stand.emitted }
     {
         self.emitted.as_slice()
+    }
+}
+
+// The wish to synchronise on the event under a root, with these values of the registers.
+fn sync_want(code: &Arc<EventCode>, root: u32, regs: &[Value; 8]) -> Result<Want, NoMemory>
+    requires { root < length code.now.value }
+    ensures wish { IfOk result (λ want. IsWant (syncs (closed regs.now (term_under code.now.value root))) want) }
+    ensures eight { length regs.now ≡ 8 }
+{
+    let Ok(code) = Arc::try_clone(code) else {
+        return Err(NoMemory);
+    };
+    match Event::new(code, root, *regs) {
+        Some(event) => Ok(Want::Sync(event)),
+        None => unreachable!(),
     }
 }
 

@@ -1,6 +1,5 @@
-use Rattle.std.proofs.Common.{◌≡◌, ◌+◌, drop, map, ap, arith}
+use Rattle.std.proofs.Common.{ap, arith}
 use Rattle.te_script.specs.Cores.{emits_in}
-use Rattle.te_script.specs.Texts.{statement_of}
 use Rattle.te_script.proofs.EmitsDone.{statements_from, nothing_from}
 use Rattle.te_script.proofs.wish.emits_among.Goals as goal
 use Rattle.te_script.proofs.wish.emits_among.Goals.{in-Emit, in_default}

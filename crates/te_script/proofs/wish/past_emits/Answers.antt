@@ -1,4 +1,4 @@
-use Rattle.std.proofs.Common.{◌≡◌, ◌+◌, ◌≤◌, ◌++◌, ◌∷◌, [], drop, map, length, None, refl, sym, ap, subst, ◌∙◌, arith}
+use Rattle.std.proofs.Common.{◌≡◌, ◌+◌, ◌∷◌, drop, map, length, sym, ap, subst, ◌∙◌, arith}
 use Rattle.te_terms.specs.Codes.{expression_of}
 use Rattle.te_terms.specs.Terms.{registers_to}
 use Rattle.te_script.specs.Scripts.{emit}

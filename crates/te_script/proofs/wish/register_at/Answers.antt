@@ -1,5 +1,5 @@
-use Rattle.std.proofs.Common.{◌≡◌, ◌∷◌, ◌+◌, drop, map, refl, ap, subst, sym, ◌∙◌}
-use Rattle.te_script.specs.Cores.{next_of, IsWaiting, WritesTo}
+use Rattle.std.proofs.Common.{◌∷◌, ◌+◌, drop, map, refl, subst}
+use Rattle.te_script.specs.Cores.{next_of, IsWaiting}
 use Rattle.te_script.specs.Texts.{statement_of}
 use Rattle.te_script.proofs.EmitsDone.{statements_from}
 use Rattle.te_script.proofs.CoreMoves.{waits_within}

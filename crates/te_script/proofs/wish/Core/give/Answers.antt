@@ -1,4 +1,4 @@
-use Rattle.std.proofs.Common.{◌≡◌, ◌+◌, ◌<◌, ◌≤◌, drop, length, map, slice_set, vec_capacity, ap, subst, sym, ◌∙◌, arith, rules}
+use Rattle.std.proofs.Common.{◌≡◌, drop, length, map, slice_set, vec_capacity, ap, subst, sym, ◌∙◌, arith}
 use Rattle.std.proofs.lemmas.List.{length-set}
 use Rattle.te_terms.specs.declared.event.Outcome.TheVariants.{Gives}
 use Rattle.te_script.specs.Cores.{At, next_at, IsWaiting, IsCore}

@@ -1,9 +1,4 @@
-use Rattle.std.proofs.Common.{◌≡◌, ◌+◌, ◌≤◌, List, [], drop, map, length, vec_len, vec_capacity, ap, sym, subst, ◌∙◌, arith, refl}
-use Rattle.std.proofs.lemmas.List.{length-map}
-use Rattle.te_terms.specs.declared.value.Atom.{Atom}
-use Rattle.te_script.specs.Scripts.{Statement}
-use Rattle.te_script.specs.Cores.{At, IsSettled, IsCore, Settles, next_at, emits_in}
-use Rattle.te_script.specs.Wishes.{stand_at}
+use Rattle.std.proofs.Common.{◌≡◌, [], map, ap, ◌∙◌}
 use Rattle.te_script.specs.Texts.{statement_of}
 use Rattle.te_script.proofs.Unwritten.{first_stand}
 use Rattle.te_script.proofs.wish.Core.new.Goals as goal
