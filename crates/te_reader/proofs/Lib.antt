@@ -1,3 +1,4 @@
+pub mod WorkedTexts
 pub mod KeptIsRead
 pub mod SpelledIsRead
 pub mod SpelledIsLexed
