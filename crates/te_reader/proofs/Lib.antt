@@ -1,3 +1,7 @@
+pub mod WorkedTexts
+pub mod KeptIsRead
+pub mod SpelledIsRead
+pub mod SpelledIsLexed
 pub mod TextIsRead
 pub mod LexedIsSpelled
 pub mod LongestTokens

@@ -25,7 +25,7 @@ absent_some (Some i) u e = absurd cc
 -- ---- places
 
 -- the first name is at place 0, or the others are one place on
-place_cons : (x : List ℕ) (xs : List (List ℕ)) (n : List ℕ) → place_of (x ∷ xs) n ≡ (if bytes_eq x n then Some 0 else option_map suc (place_of xs n))
+pub place_cons : (x : List ℕ) (xs : List (List ℕ)) (n : List ℕ) → place_of (x ∷ xs) n ≡ (if bytes_eq x n then Some 0 else option_map suc (place_of xs n))
 unfolding place_of
 place_cons x xs n = by (bytes_eq x n) where
   test : List ℕ → Bool

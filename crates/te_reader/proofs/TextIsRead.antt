@@ -1,5 +1,5 @@
--- What was read of a text is a program of the first form of which it is a text.
-use Rattle.std.proofs.Common.{◌≡◌, ℕ, Bool, true, false, List, [], ◌∷◌, length, refl, subst, arith}
+-- What was read of a text is a program of the first form of which it is a text, and a text of such a program is read as it.
+use Rattle.std.proofs.Common.{◌≡◌, ℕ, Bool, true, false, List, [], ◌∷◌, length, refl, subst, arith, ap, ◌∙◌}
 use Rattle.std.specs.Prelude.{Some, nat_le}
 use Rattle.std.proofs.lemmas.Bool.Decides.{nat_tests}
 use Rattle.te_script.specs.Scripts.{Program}
@@ -11,6 +11,8 @@ use Rattle.te_reader.specs.FirstForm.{First}
 use Rattle.te_reader.specs.Reads.{checked, read_program, if_end, read_text}
 use Rattle.te_reader.proofs.NameLemmas.{bind_some, checked_some}
 use Rattle.te_reader.proofs.ReadIsKept.{program_read}
+use Rattle.te_reader.proofs.SpelledIsLexed.{spelled_is_lexed}
+use Rattle.te_reader.proofs.KeptIsRead.{program_is_read}
 use Rattle.te_reader.proofs.LexedIsSpelled.{lexed_is_spelled}
 
 end_some : (whole : Bool) (ts : List Token) (u : Unit {0}) → if_end whole ts ≡ Some u → (whole ≡ true) × (ts ≡ [])
@@ -38,3 +40,13 @@ text_is_read bytes p e =
       },
       read.plain,
     )
+
+-- a text of a program of the first form is read as this program
+pub program_of_text_is_read : (bytes : List ℕ) (p : Program) → Text bytes p → First p → read_text bytes ≡ Some p
+unfolding read_text
+program_of_text_is_read bytes p text first =
+    let small : nat_le (length bytes) 1048576 ≡ true = grind (arith, nat_tests, text.size) in
+    let lexed_as = spelled_is_lexed text.tokens bytes text.spelled in
+    let read : read_program (lexed bytes).tokens ≡ Some (p, []) = ap (λ s. read_program s.tokens) lexed_as ∙ program_is_read p text.tokens text.kept first text.grammar in
+    let whole : (lexed bytes).whole ≡ true = ap (λ s. s.whole) lexed_as in
+    rw (small, read, whole) refl

@@ -16,3 +16,6 @@ mod token;
 
 pub use fault::ScriptFault;
 pub use script::read_script;
+
+#[cfg(test)]
+mod tests;

@@ -1,4 +1,6 @@
-ghost use Rattle.std.specs.Prelude.{◌≡◌, ◌≤◌, [], ◌∷◌, length, IfOk};
+ghost use Rattle.std.specs.Prelude.{◌≡◌, ◌≤◌, [], ◌∷◌, length, IfOk, Err};
+ghost use Rattle.te_script.specs.Scripts.{Program};
+ghost use Rattle.te_reader.specs.declared.fault.ScriptFault.TheVariants.{Refused};
 ghost use Rattle.te_reader.specs.Text.{Text};
 ghost use Rattle.te_reader.specs.FirstForm.{First};
 ghost use Rattle.te_reader.specs.Reads.{Answers, AnswersText, read_names, read_channels, read_program, read_text};
@@ -59,9 +61,12 @@ fn read_program(alloc: Global, cursor: &mut Cursor<'_>) -> Result<Script, Script
 /// Reads the text of a script of the first form: one node an event, declared channels, and expressions
 /// without arithmetic or places. The language is this project's own.
 ///
-/// `Refused` comes where there is no such script, also where the text has more than 1,048,576 bytes.
+/// `Refused` comes exactly where there is no such script, also where the text has more than 1,048,576
+/// bytes. There is at most one.
 pub fn read_script(alloc: Global, bytes: &[u8]) -> Result<Script, ScriptFault>
     ensures ok { IfOk result (λ script. Text bytes.now script × First script) }
+    ensures refused { result ≡ Err Refused → (script : Program) → Text bytes.now script → First script → ⊥ }
+    ensures one { IfOk result (λ script. (other : Program) → Text bytes.now other → First other → other ≡ script) }
 {
     read_text(alloc, bytes)
 }
