@@ -4,3 +4,4 @@ pub mod Replacing
 pub mod Rebinding
 pub mod Unwritten
 pub mod CoreMoves
+mod WishesWorked

@@ -5,3 +5,11 @@ pub mod ChildLemmas
 pub mod SizeLemmas
 pub mod AdoptLemmas
 pub mod KeptLemmas
+pub mod SameLemmas
+pub mod CompareLemmas
+pub mod QuietStepsEnd
+pub mod Settles
+pub mod OneThing
+pub mod UnderFirst
+pub mod WorkedTerms
+pub mod WorkedGroups

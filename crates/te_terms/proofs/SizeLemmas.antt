@@ -5,7 +5,8 @@ use Rattle.std.proofs.Math.Pow.{pow_mono}
 use Rattle.std.proofs.Math.Nat.{le-max_left, le-max_right, two-pow-succ}
 use Rattle.te_terms.specs.declared.code.Node.{Node}
 use Rattle.te_terms.specs.declared.code.Node.TheVariants as nodes
-use Rattle.te_terms.specs.Terms.{Term, always, never, throw, send, recv, and_then, choose, catch, when}
+use Rattle.te_terms.specs.Expressions.{Variable}
+use Rattle.te_terms.specs.Terms.{Term, always, never, throw, send, recv, and_then, choose, catch, when, replaced}
 use Rattle.te_terms.specs.Codes.{over, term_within, term_at, term_under}
 use Rattle.te_terms.specs.Shape.{height, weight, children, term_over}
 use Rattle.te_terms.specs.Kept.{own_weight}
@@ -136,3 +137,15 @@ pub weight_fits : (code : List Node) (node : Node) (a b : ℕ) → children node
 weight_fits code node a b e low =
     let top : 2 ^ height (term_over code node) ≤ 2 ^ 32 = pow_mono low in
     omega (arith, weight_two code node a b e, weight_below (term_over code node), top)
+
+-- replacing variables leaves the weight
+pub weight-replaced : (by : Variable → Variable) (t : Term) → weight (replaced by t) ≡ weight t
+weight-replaced by (always e) = refl
+weight-replaced by never = refl
+weight-replaced by (throw e) = refl
+weight-replaced by (send p e) = refl
+weight-replaced by (recv p) = refl
+weight-replaced by (and_then e n f) = rw (weight-replaced by e, weight-replaced by f) refl
+weight-replaced by (choose e f) = rw (weight-replaced by e, weight-replaced by f) refl
+weight-replaced by (catch e n h) = rw (weight-replaced by e, weight-replaced by h) refl
+weight-replaced by (when test p q e f) = rw (weight-replaced by e, weight-replaced by f) refl

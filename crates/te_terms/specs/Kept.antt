@@ -1,9 +1,11 @@
 -- What an event code keeps beside its nodes. No public clause cites this module.
-use Rattle.std.specs.Prelude.{◌≡◌, ◌↔◌, ℕ, zero, suc, ◌<◌, true, false, List, [], ◌∷◌, length, Option, Some, None, slice_index_or, IsTrue}
+use Rattle.std.specs.Prelude.{Bool, ◌≡◌, ◌↔◌, ℕ, zero, suc, ◌<◌, true, false, List, [], ◌∷◌, length, Option, Some, None, slice_index_or, IsTrue}
+use Rattle.te_terms.specs.declared.value.Atom.{Atom}
 use Rattle.te_terms.specs.declared.code.Node.{Node}
 use Rattle.te_terms.specs.declared.code.Node.TheVariants as nodes
 use Rattle.te_terms.specs.declared.code.Mark.{Mark}
-use Rattle.te_terms.specs.Codes.{term_under}
+use Rattle.te_terms.specs.Terms.{Term, always, never, throw, send, recv, and_then, choose, catch, when, replaced, registers_to}
+use Rattle.te_terms.specs.Codes.{term_at, term_under, primitive_of, expression_of}
 use Rattle.te_terms.specs.Shape.{height, weight, times_named, IsForest, term_over}
 
 -- the mark of node i
@@ -53,3 +55,27 @@ pub record TellsNew (code : List Node) (node : Node) (mark : Mark) : Type 0 wher
   pub height_is : mark.height ≡ height (term_over code node)
   pub weight_is : mark.weight ≡ weight (term_over code node)
   pub no_parent : mark.is_child ≡ false
+
+-- ---- a node over the terms of its children
+
+-- the level of the second part
+abbrev pub second_level : Node → ℕ → ℕ
+second_level (nodes.Then a b) level = suc level
+second_level (nodes.Catch a b) level = suc level
+second_level _ level = level
+
+-- the term of a node whose parts are these terms
+abbrev pub formed : Node → ℕ → Term → Term → Term
+formed (nodes.Always x) level e f = always (expression_of x)
+formed nodes.Never level e f = never
+formed (nodes.Throw x) level e f = throw (expression_of x)
+formed (nodes.Send p x) level e f = send (primitive_of p) (expression_of x)
+formed (nodes.Recv p) level e f = recv (primitive_of p)
+formed (nodes.Then a b) level e f = and_then e level f
+formed (nodes.Choose a b) level e f = choose e f
+formed (nodes.Catch a b) level e f = catch e level f
+formed (nodes.If c a b) level e f = when c.test (primitive_of c.left) (primitive_of c.right) e f
+
+-- the test tells whether the terms under two nodes are the same, at each level
+pub record Compares (test : Bool) (code : List Node) (i : ℕ) (regs : List (List Atom)) (other : List Node) (j : ℕ) (others : List (List Atom)) : Type 0 where
+  pub at : (level : ℕ) → IsTrue test ↔ (replaced (registers_to regs) (term_at code level i) ≡ replaced (registers_to others) (term_at other level j))

@@ -9,3 +9,5 @@ pub mod Stored
 pub mod Shape
 pub mod Kept
 pub mod Made
+pub mod Sameness
+pub mod Settling

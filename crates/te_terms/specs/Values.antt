@@ -1,5 +1,6 @@
 -- Atoms, and the values that traps raise. A value is the list of its atoms.
 use Rattle.std.specs.Prelude.{Bool, false, ◌==◌, List, [], ◌∷◌, ℤ, negsuc, ◌+ℤ◌, ◌-ℤ◌, ◌*ℤ◌, int_le, pos, ◌&&◌, int_lt}
+use Rattle.std.specs.Cmp.Lexicographic.{pointwise}
 use Rattle.std.specs.Ordering.{int_eq}
 use Rattle.te_terms.specs.declared.value.Atom.{Atom}
 use Rattle.te_terms.specs.declared.value.Atom.TheVariants.{Int, Chan}
@@ -29,3 +30,7 @@ arith_result Mul x y = x *ℤ y
 -- whether an integer is one of 64 bits
 abbrev pub fits_i64 : ℤ → Bool
 fits_i64 z = int_le (negsuc 9223372036854775807) z && int_lt z (pos 9223372036854775808)
+
+-- values are the same where their atoms are, place by place
+abbrev pub same_value : List Atom → List Atom → Bool
+same_value v w = pointwise same_atom v w

@@ -2,6 +2,7 @@ ghost use Rattle.std.specs.Prelude.{◌≡◌, ◌≢◌, ◌↔◌, ◌<◌, �
 ghost use Rattle.std.specs.Option.{ForSome};
 ghost use Rattle.te_terms.specs.declared.code.Node.{Node};
 ghost use Rattle.te_terms.specs.declared.code.CodeFault.TheVariants as faults;
+ghost use Rattle.te_terms.specs.Codes.{term_under};
 ghost use Rattle.te_terms.specs.Shape.{children, height, weight, times_named, NamesEarlier, IsForest, HasFreeChildren, term_over};
 ghost use Rattle.te_terms.specs.Kept.{Tells, TellsNew, IsKept, IsFree, listed, own_weight, adopted};
 
@@ -33,7 +34,7 @@ pub enum Node {
 }
 
 impl Node {
-    fn children(&self) -> Option<(u32, u32)>
+    pub(crate) fn children(&self) -> Option<(u32, u32)>
         ensures { listed result ≡ children self.now }
     {
         match self {
@@ -119,6 +120,7 @@ impl EventCode {
     pub fn node(&self, i: u32) -> Option<Node>
         ensures value { result ≡ slice_get self.now i }
         ensures earlier { IfSome result (λ node. NamesEarlier i node) }
+        ensures forest { IsForest self.now }
     {
         self.nodes.get(i as usize).copied()
     }
@@ -145,6 +147,14 @@ impl EventCode {
             None => true,
             Some((a, b)) => self.are_free(a, b),
         }
+    }
+
+    // The weight of the term under node `i`.
+    pub(crate) fn weight(&self, i: u32) -> u32
+        requires { i < length self.now }
+        ensures { result ≡ weight (term_under self.now i) }
+    {
+        self.mark(i).weight
     }
 
     fn mark(&self, i: u32) -> Mark

@@ -1,16 +1,18 @@
 ghost use Rattle.std.specs.Prelude.{◌≡◌, ◌↔◌, ◌<◌, ◌≤◌, length, IfSome, IsNone, IfOk, IsTrue};
 ghost use Rattle.te_terms.specs.Terms.{closed};
 ghost use Rattle.te_terms.specs.Codes.{term_under};
+ghost use Rattle.te_terms.specs.Shape.{weight};
 ghost use Rattle.te_terms.specs.Made.{IsMadeOf, HasCode, HasRoot, HasRegisters};
 
 use crate::code::EventCode;
 use crate::memory::NoMemory;
+use crate::same::same_under;
 use crate::value::Value;
 use std::marker::Model;
 use std::sync::Arc;
 
 /// What a group leaves a member with: a value that it gives or raises.
-#[derive(Clone, Copy)]
+#[derive(Clone, Copy, Debug, PartialEq, Eq)]
 pub enum Outcome {
     Gives(Value),
     Raises(Value),
@@ -82,6 +84,28 @@ impl Event {
         ensures { HasRegisters result.now self.now }
     {
         &self.regs
+    }
+
+    /// The number of choose, send and receive nodes under the root.
+    pub fn weight(&self) -> u32
+        ensures { result ≡ weight self.now }
+    {
+        self.code.weight(self.root)
+    }
+
+    /// Whether both are the same term, whatever the numbers of their nodes, over the values of their
+    /// registers. It takes no memory.
+    pub fn same(&self, other: &Event) -> bool
+        ensures { IsTrue result ↔ (self.now ≡ other.now) }
+    {
+        same_under(
+            &self.code,
+            self.root,
+            &self.regs,
+            &other.code,
+            other.root,
+            &other.regs,
+        )
     }
 
     /// The same event once more; the code is shared.

@@ -4,14 +4,17 @@
 mod code;
 mod event;
 mod expr;
+mod laws;
 mod memory;
 mod name;
 mod rows;
+mod same;
 mod value;
 
 pub use code::{CodeFault, EventCode, Node};
 pub use event::{Event, Outcome, Parked};
 pub use expr::{Arith, Calc, Calcs, Cond, Expr, Operand as Prim, Test, Var};
+pub use laws::{first_parts_step, heads_are_replaced, members_do_one_thing, members_settle, quiet_steps_end, settled_members_stand};
 pub use memory::NoMemory;
 pub use name::Name;
 pub use rows::Rows;

@@ -32,7 +32,7 @@ impl Atom {
 }
 
 /// A value: a tuple of 0 to 4 atoms, seen as the list of them.
-#[derive(Clone, Copy, Debug, PartialEq, Eq)]
+#[derive(Clone, Copy, Debug)]
 pub struct Value {
     len: u32,
     atoms: [Atom; 4],
@@ -106,6 +106,36 @@ impl Value {
     {
         self.atoms[self.len as usize] = atom;
         self.len += 1;
+    }
+}
+
+impl PartialEq for Value {
+    ghost use Rattle.std.specs.Cmp.{partial_equiv_from_equiv};
+    ghost use Rattle.te_terms.specs.Values.{same_value};
+    ghost use Rattle.te_terms.specs.Sameness.{same_value_equiv};
+
+    ghost eq = { same_value };
+
+    ghost laws = { partial_equiv_from_equiv same_value_equiv };
+
+    fn eq(&self, other: &Value) -> bool {
+        self.atoms[..self.len as usize] == other.atoms[..other.len as usize]
+    }
+}
+
+impl Eq for Value {
+    ghost use Rattle.te_terms.specs.Sameness.{same_value_equiv};
+
+    ghost laws = { same_value_equiv };
+}
+
+impl Default for Value {
+    ghost use Rattle.std.specs.Prelude.{◌≡◌, []};
+
+    ghost is_default = { λ value. value ≡ [] };
+
+    fn default() -> Value {
+        Value::unit()
     }
 }
 

@@ -9,6 +9,7 @@ use Rattle.te_terms.specs.declared.event.Outcome.TheVariants.{Gives, Raises}
 use Rattle.te_script.specs.Scripts.{Thread, Program}
 use Rattle.tevents.specs.declared.cert.Member.{Member}
 use Rattle.tevents.specs.declared.cert.Meeting.{Meeting}
+use Rattle.tevents.specs.declared.cert.Cert.{Cert}
 use Rattle.tevents.specs.declared.history.How.{How}
 use Rattle.tevents.specs.declared.history.How.TheVariants as ways
 use Rattle.tevents.specs.declared.history.Entry.{Entry}
@@ -29,10 +30,13 @@ abbrev pub or_nothing : Option (List ℕ) → List ℕ
 or_nothing (Some bytes) = bytes
 or_nothing None = []
 
+abbrev pub channel_of : Program → ℕ → List ℕ
+channel_of script c = or_nothing (slice_get script.channels c)
+
 -- an integer in decimal, a channel as @ and its name
 abbrev pub atom_text : Program → Atom → List ℕ
 atom_text script (Int z) = signed_decimal z
-atom_text script (Chan c) = codes "@" ++ or_nothing (slice_get script.channels c)
+atom_text script (Chan c) = codes "@" ++ channel_of script c
 
 abbrev pub other_atoms : Program → List Atom → List ℕ
 other_atoms script [] = []
@@ -80,18 +84,24 @@ member_name script members i = name_of script (member_thread (slice_get members 
 abbrev pub meeting_text : Program → List Member → Meeting → List ℕ
 meeting_text script members m = codes " " ++ member_name script members m.sender ++ codes ">" ++ member_name script members m.receiver
 
+-- the group, and how its members met
+abbrev pub commit_text : Program → Cert → List Outcome → List ℕ
+commit_text script cert outcomes = members_text script cert.members outcomes ++ codes ";" ++ flat_map (meeting_text script cert.members) cert.meets
+
 -- ---- lines
 
+abbrev pub spaced_value : Program → List Atom → List ℕ
+spaced_value script v = codes " " ++ value_text script v
+
 abbrev pub end_text : Program → How → List ℕ
-end_text script (ways.Done values) = codes "done" ++ flat_map (λ v. codes " " ++ value_text script v) values
+end_text script (ways.Done values) = codes "done" ++ flat_map (spaced_value script) values
 end_text script (ways.Raised value) = codes "raised " ++ value_text script value
 end_text script ways.Stuck = codes "stuck"
 
 -- an entry without its number
 abbrev pub entry_text : Program → Entry → List ℕ
 entry_text script (entries.Post by ticket event) = codes "post " ++ name_of script by ++ codes " " ++ decimal ticket
-entry_text script (entries.Commit by cert outcomes) =
-    codes "commit " ++ name_of script by ++ codes ": " ++ members_text script cert.members outcomes ++ codes ";" ++ flat_map (meeting_text script cert.members) cert.meets
+entry_text script (entries.Commit by cert outcomes) = codes "commit " ++ name_of script by ++ codes ": " ++ commit_text script cert outcomes
 entry_text script (entries.Withdraw by ticket) = codes "withdraw " ++ name_of script by ++ codes " " ++ decimal ticket
 entry_text script (entries.Take by ticket outcome) = codes "take " ++ name_of script by ++ codes " " ++ decimal ticket ++ codes " " ++ outcome_text script outcome
 entry_text script (entries.Rest by) = codes "rest " ++ name_of script by

@@ -1,0 +1,13 @@
+pub mod Beginnings
+pub mod Bits
+pub mod OneView
+pub mod Numbers
+pub mod Changing
+pub mod Looking
+pub mod Asking
+pub mod Releasing
+pub mod Making
+pub mod Noting
+pub mod Joining
+pub mod NoteTakenIn
+pub mod Gathering

@@ -1,0 +1,15 @@
+pub mod TextIsRead
+pub mod LexedIsSpelled
+pub mod LongestTokens
+pub mod ListsKept
+pub mod ReadIsKept
+pub mod HeadLemmas
+pub mod ReadIsSpelled
+pub mod NameLemmas
+pub mod LoopSteps
+pub mod PassedOn
+pub mod CalculationSteps
+pub mod DigitLaws
+pub mod ByteKinds
+pub mod ReservedWords
+pub mod TokenSteps

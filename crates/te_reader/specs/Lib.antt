@@ -1,0 +1,9 @@
+pub mod Tokens
+pub mod Lexed
+pub mod Heads
+pub mod Integers
+pub mod Grammar
+pub mod Text
+pub mod FirstForm
+pub mod Reads
+pub mod Behind

@@ -1,0 +1,50 @@
+ghost use Rattle.std.specs.Prelude.{◌≡◌, nat_le, if◌then◌else◌, pos, ◌-ℤ◌};
+ghost use Rattle.te_reader.specs.Integers.{digits_value, integer_value};
+ghost use Rattle.te_reader.specs.Reads.{fitting, integer_of};
+
+/// The integer of an INT token, where it is one of 64 bits.
+#[tactic(auto, unfolding(crate::specs::Reads::integer_of))]
+pub fn integer(spelling: &[u8]) -> Option<i64>
+    ensures { result ≡ integer_of spelling.now }
+{
+    match spelling {
+        [b'-', digits @ ..] => negative(digits),
+        digits => positive(digits),
+    }
+}
+
+fn negative(digits: &[u8]) -> Option<i64>
+    ensures { result ≡ fitting (pos 0 -ℤ pos (digits_value 0 digits.now)) }
+{
+    match number(digits) {
+        Some(size) => 0i64.checked_sub_unsigned(size),
+        None => None,
+    }
+}
+
+fn positive(digits: &[u8]) -> Option<i64>
+    ensures { result ≡ fitting (pos (digits_value 0 digits.now)) }
+{
+    match number(digits) {
+        Some(size) => 0i64.checked_add_unsigned(size),
+        None => None,
+    }
+}
+
+// The number of some digits, where it is at most 2 to the 63.
+fn number(digits: &[u8]) -> Option<u64>
+    ensures { result ≡ (if nat_le (digits_value 0 digits.now) 9223372036854775808 then Some (digits_value 0 digits.now) else None) }
+{
+    let mut size: u64 = 0;
+    for digit in digits {
+        if size > 922_337_203_685_477_580 {
+            return None;
+        }
+        size = size * 10 + digit.saturating_sub(b'0') as u64;
+    }
+    if size > 9_223_372_036_854_775_808 {
+        None
+    } else {
+        Some(size)
+    }
+}

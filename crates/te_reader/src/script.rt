@@ -1,0 +1,82 @@
+ghost use Rattle.std.specs.Prelude.{◌≡◌, ◌≤◌, [], ◌∷◌, length, IfOk};
+ghost use Rattle.te_reader.specs.Text.{Text};
+ghost use Rattle.te_reader.specs.FirstForm.{First};
+ghost use Rattle.te_reader.specs.Reads.{Answers, AnswersText, read_names, read_channels, read_program, read_text};
+
+use crate::channels::Channels;
+use crate::cursor::Cursor;
+use crate::fault::ScriptFault;
+use crate::thread::read_threads;
+use crate::token::{Sign, Word};
+use std::alloc::Global;
+use te_script::Script;
+
+// Names of channels, up to the `;`.
+fn read_names(alloc: Global, cursor: &mut Cursor<'_>) -> Result<Channels, ScriptFault>
+    ensures { Answers result (λ c. c) cursor.old cursor.new (read_names 256 [] cursor.old.tokens) }
+{
+    let mut channels = Channels::new(alloc);
+    'names: while let Some(name) = cursor.take_name() {
+        channels.declare(name)?;
+    }
+    if !cursor.take_sign(Sign::Semicolon) {
+        return Err(ScriptFault::Refused);
+    }
+    Ok(channels)
+}
+
+// The channels at the front of a script, where it has some.
+#[tactic(auto, unfolding(crate::specs::Reads::read_channels))]
+fn read_channels(alloc: Global, cursor: &mut Cursor<'_>) -> Result<Channels, ScriptFault>
+    ensures channels { Answers result (λ c. c) cursor.old cursor.new (read_channels cursor.old.tokens) }
+    ensures few { IfOk result (λ c. length c ≤ 256) }
+{
+    if !cursor.take_word(Word::Channels) {
+        return Ok(Channels::new(alloc));
+    }
+    let channels = read_names(alloc, cursor)?;
+    if channels.is_empty() {
+        return Err(ScriptFault::Refused);
+    }
+    Ok(channels)
+}
+
+#[tactic(auto, unfolding(crate::specs::Reads::read_program))]
+fn read_program(alloc: Global, cursor: &mut Cursor<'_>) -> Result<Script, ScriptFault>
+    ensures { Answers result (λ s. s) cursor.old cursor.new (read_program cursor.old.tokens) }
+{
+    let channels = read_channels(alloc, cursor)?;
+    let threads = read_threads(alloc, cursor, &channels)?;
+    if threads.len() == 0 {
+        return Err(ScriptFault::Refused);
+    }
+    Ok(Script {
+        channels: channels.into_names(),
+        threads,
+    })
+}
+
+/// Reads the text of a script of the first form: one node an event, declared channels, and expressions
+/// without arithmetic or places. The language is this project's own.
+///
+/// `Refused` comes where there is no such script, also where the text has more than 1,048,576 bytes.
+pub fn read_script(alloc: Global, bytes: &[u8]) -> Result<Script, ScriptFault>
+    ensures ok { IfOk result (λ script. Text bytes.now script × First script) }
+{
+    read_text(alloc, bytes)
+}
+
+#[tactic(auto, unfolding(crate::specs::Reads::read_text))]
+fn read_text(alloc: Global, bytes: &[u8]) -> Result<Script, ScriptFault>
+    ensures { AnswersText result (read_text bytes.now) }
+{
+    if bytes.len() > 1_048_576 {
+        return Err(ScriptFault::Refused);
+    }
+    let mut cursor = Cursor::new(bytes);
+    let script = read_program(alloc, &mut cursor)?;
+    if !cursor.is_at_end() {
+        return Err(ScriptFault::Refused);
+    }
+    Ok(script)
+}

@@ -1,0 +1,118 @@
+ghost use Rattle.std.specs.Prelude.{◌≡◌, ◌≤◌, ◌<◌, length, IfOk, IfErr};
+ghost use Rattle.te_terms.specs.Codes.{expression_of};
+ghost use Rattle.te_script.specs.Scripts.{sync};
+ghost use Rattle.te_reader.specs.declared.fault.ScriptFault.TheVariants.{Memory};
+ghost use Rattle.te_script.specs.Texts.{statement_of, HasRoot};
+ghost use Rattle.te_reader.specs.Reads.{Answers, DeclaresRegister, leaf, read_sync, read_emit, read_statement, register_of};
+
+use crate::channels::Channels;
+use crate::cursor::Cursor;
+use crate::event::read_event;
+use crate::expression::read_expression;
+use crate::fault::ScriptFault;
+use crate::names::{declare, place_of};
+use crate::token::{Sign, Word};
+use std::alloc::Global;
+use std::sync::Arc;
+use te_script::Stmt;
+use te_terms::{EventCode, Expr, Name, Node, Rows};
+
+/// Reads a statement, and appends the name of its register where it is a new one.
+#[tactic(auto, unfolding(crate::specs::Reads::read_statement))]
+pub fn read_statement(
+    alloc: Global,
+    cursor: &mut Cursor<'_>,
+    channels: &Channels,
+    registers: &mut Rows<Name>,
+) -> Result<Stmt, ScriptFault>
+    requires { length registers.old ≤ 8 }
+    ensures statement { Answers result (λ s. (statement_of s, registers.new)) cursor.old cursor.new (read_statement channels.now registers.old cursor.old.tokens) }
+    ensures few { length registers.new ≤ 8 }
+    ensures root { IfOk result HasRoot }
+{
+    if cursor.take_word(Word::Emit) {
+        let value = read_emit(cursor, channels, registers)?;
+        return Ok(Stmt::Emit(value));
+    }
+    let Some(name) = cursor.take_name() else {
+        return Err(ScriptFault::Refused);
+    };
+    let node = read_sync(cursor, channels, registers)?;
+    let reg = register_of(channels, registers, name)?;
+    sync(alloc, reg, node)
+}
+
+// The statement that synchronises on one node.
+fn sync(alloc: Global, reg: u8, node: Node) -> Result<Stmt, ScriptFault>
+    ensures ok { IfOk result (λ s. statement_of s ≡ sync reg (leaf node)) }
+    ensures root { IfOk result HasRoot }
+    ensures err { IfErr result (λ e. e ≡ Memory) }
+{
+    let mut code = EventCode::new(alloc);
+    // One leaf in a new code is refused for want of memory alone.
+    let Ok(root) = code.push(node) else {
+        return Err(ScriptFault::Memory);
+    };
+    let code = Arc::new(alloc, code)?;
+    Ok(Stmt::Sync { reg, code, root })
+}
+
+// What stands behind `emit`, up to its `;`.
+#[tactic(auto, unfolding(crate::specs::Reads::read_emit))]
+fn read_emit(
+    cursor: &mut Cursor<'_>,
+    channels: &Channels,
+    registers: &Rows<Name>,
+) -> Result<Expr, ScriptFault>
+    requires { length registers.now ≤ 8 }
+    ensures { Answers result expression_of cursor.old cursor.new (read_emit channels.now registers.now cursor.old.tokens) }
+{
+    let value = read_expression(cursor, channels, registers)?;
+    if !cursor.take_sign(Sign::Semicolon) {
+        return Err(ScriptFault::Refused);
+    }
+    Ok(value)
+}
+
+// What stands behind the register of a sync, up to its `;`.
+#[tactic(auto, unfolding(crate::specs::Reads::read_sync))]
+fn read_sync(
+    cursor: &mut Cursor<'_>,
+    channels: &Channels,
+    registers: &Rows<Name>,
+) -> Result<Node, ScriptFault>
+    requires { length registers.now ≤ 8 }
+    ensures { Answers result leaf cursor.old cursor.new (read_sync channels.now registers.now cursor.old.tokens) }
+{
+    if !cursor.take_sign(Sign::Arrow) || !cursor.take_word(Word::Sync) {
+        return Err(ScriptFault::Refused);
+    }
+    let node = read_event(cursor, channels, registers)?;
+    if !cursor.take_sign(Sign::Semicolon) {
+        return Err(ScriptFault::Refused);
+    }
+    Ok(node)
+}
+
+// The number of a register, which is appended where it is a new one.
+#[tactic(auto, unfolding(crate::specs::Reads::register_of))]
+fn register_of(
+    channels: &Channels,
+    registers: &mut Rows<Name>,
+    name: &[u8],
+) -> Result<u8, ScriptFault>
+    requires few { length registers.old ≤ 8 }
+    requires named { 0 < length name.now }
+    ensures register { DeclaresRegister result registers.new (register_of channels.now registers.old name.now) }
+    ensures few { length registers.new ≤ 8 }
+{
+    if channels.number_of(name).is_some() {
+        return Err(ScriptFault::Refused);
+    }
+    if let Some(reg) = place_of(registers.as_slice(), name) {
+        return Ok(reg as u8);
+    }
+    let reg = registers.len() as u8;
+    declare(8, registers, name)?;
+    Ok(reg)
+}

@@ -1,0 +1,93 @@
+-- Worked cases of single expressions and terms, by computing.
+use Rattle.std.proofs.Common.{◌≡◌, ℕ, Bool, true, false, List, [], ◌∷◌, Option, Some, None, Result, Ok, Err, refl}
+use Rattle.std.specs.Prelude.{ℤ, pos, negsuc}
+use Rattle.te_terms.specs.declared.value.Atom.{Atom}
+use Rattle.te_terms.specs.declared.value.Atom.TheVariants.{Int, Chan}
+use Rattle.te_terms.specs.declared.value.Trap.{Trap}
+use Rattle.te_terms.specs.declared.value.Trap.TheVariants.{Range, Kind}
+use Rattle.te_terms.specs.declared.expr.Arith.TheVariants.{Add, Sub, Mul}
+use Rattle.te_terms.specs.declared.expr.Test.TheVariants.{Equal, Less}
+use Rattle.te_terms.specs.declared.event.Outcome.{Outcome}
+use Rattle.te_terms.specs.declared.event.Outcome.TheVariants.{Gives, Raises}
+use Rattle.te_terms.specs.Values.{trap_value}
+use Rattle.te_terms.specs.Expressions.{Expression, Primitive, name, known, int, chan, part, one, both, whole, tuple, value_of, test_value}
+use Rattle.te_terms.specs.Terms.{Term, always, never, throw, send, recv, and_then, choose, catch, when}
+use Rattle.te_terms.specs.Steps.{Member, quiet_of, outcome_of, raising, giving}
+use Rattle.te_terms.specs.Settling.{settled}
+
+abbrev number : ℤ → Expression
+number z = tuple (one (int z) ∷ [])
+
+-- one above the greatest integer of 64 bits
+abbrev past_greatest : Expression
+past_greatest = tuple (both Add (int (pos 9223372036854775807)) (int (pos 1)) ∷ [])
+
+-- ---- the first trap from the left decides
+
+range_before_kind : value_of (tuple (both Add (int (pos 9223372036854775807)) (int (pos 1)) ∷ both Add (chan 0) (int (pos 1)) ∷ [])) ≡ Err Range
+range_before_kind = refl
+
+kind_before_range : value_of (tuple (both Add (chan 0) (int (pos 1)) ∷ both Add (int (pos 9223372036854775807)) (int (pos 1)) ∷ [])) ≡ Err Kind
+kind_before_range = refl
+
+traps_raise : (trap_value Range ≡ Int (negsuc 0) ∷ []) × (trap_value Kind ≡ Int (negsuc 1) ∷ [])
+traps_raise = (refl, refl)
+
+-- both operands are found before kinds are tested, and kinds before the range
+missing_place_is_kind : value_of (tuple (both Mul (chan 0) (part (known []) 0) ∷ [])) ≡ Err Kind
+missing_place_is_kind = refl
+
+least_is_no_trap : value_of (tuple (both Sub (int (negsuc 9223372036854775806)) (int (pos 1)) ∷ [])) ≡ Ok (Int (negsuc 9223372036854775807) ∷ [])
+least_is_no_trap = refl
+
+below_least : value_of (tuple (both Sub (int (negsuc 9223372036854775807)) (int (pos 1)) ∷ [])) ≡ Err Range
+below_least = refl
+
+-- ---- tests
+
+channel_is_no_integer : test_value Equal (chan 0) (int (pos 0)) ≡ Ok false
+channel_is_no_integer = refl
+
+channel_has_no_order : test_value Less (chan 0) (int (pos 1)) ≡ Err Kind
+channel_has_no_order = refl
+
+-- ---- steps
+
+-- the channel of a send traps first
+send_without_channel : quiet_of 0 (send (int (pos 5)) past_greatest) ≡ Some (raising (trap_value Kind))
+send_without_channel = refl
+
+send_of_a_trap : quiet_of 0 (send (chan 5) past_greatest) ≡ Some (raising (trap_value Range))
+send_of_a_trap = refl
+
+-- an ending that looks like a trap is none
+minus_one_is_final : (quiet_of 0 (always (number (negsuc 0))) ≡ None) × (outcome_of (always (number (negsuc 0))) ≡ Some (Gives (Int (negsuc 0) ∷ [])))
+minus_one_is_final = (refl, refl)
+
+minus_one_is_not_caught : quiet_of 0 (catch (always (number (negsuc 0))) 0 (always (number (pos 7)))) ≡ Some (giving (Int (negsuc 0) ∷ []))
+minus_one_is_not_caught = refl
+
+a_trap_is_caught : outcome_of (settled (record { thread = 0; term = catch (always past_greatest) 0 (always (whole (name 0))) })).term ≡ Some (Gives (Int (negsuc 0) ∷ []))
+unfolding settled
+a_trap_is_caught = refl
+
+difference : Term
+difference = and_then (always (number (pos 1))) 0 (and_then (always (number (pos 2))) 1 (always (tuple (both Sub (part (name 1) 0) (part (name 0) 0) ∷ []))))
+
+difference_gives_one : outcome_of (settled (record { thread = 0; term = difference })).term ≡ Some (Gives (Int (pos 1) ∷ []))
+unfolding settled difference
+difference_gives_one = refl
+
+-- never doesn't step under `catch`, and isn't final
+never_stays : (quiet_of 0 (catch never 0 (always (number (pos 1)))) ≡ None) × (outcome_of (catch never 0 (always (number (pos 1)))) ≡ None)
+never_stays = (refl, refl)
+
+raises_past_then : outcome_of (settled (record { thread = 0; term = and_then (throw (number (pos 3))) 0 (always (number (pos 1))) })).term ≡ Some (Raises (Int (pos 3) ∷ []))
+unfolding settled
+raises_past_then = refl
+
+a_test_chooses : quiet_of 0 (when Less (int (pos 1)) (int (pos 2)) never (recv (chan 1))) ≡ Some never
+a_test_chooses = refl
+
+a_test_traps : quiet_of 0 (when Less (chan 1) (int (pos 2)) never (recv (chan 1))) ≡ Some (raising (trap_value Kind))
+a_test_traps = refl

@@ -1,0 +1,180 @@
+ghost use Rattle.std.specs.Prelude.{◌≡◌, ◌++◌, OnOk, codes, decimal};
+ghost use Rattle.std.specs.List.{flat_map};
+ghost use Rattle.tevents.specs.Report.{name_of, outcome_text, commit_text, spaced_value, end_text, entry_text, entry_lines, last_line};
+
+use crate::cert::Cert;
+use crate::history::{Entry, How};
+use crate::report::Ending;
+use crate::report::commits::{put_meetings, put_members};
+use crate::report::values::{put_number, put_outcome, put_value, thread_name};
+use te_script::Script;
+use te_terms::{NoMemory, Outcome, Value};
+
+fn put_emitted(out: &mut Vec<u8>, script: &Script, values: &[Value]) -> Result<(), NoMemory>
+    ensures { OnOk result (out.new.items ≡ out.old.items ++ flat_map (spaced_value script.now) values.now) }
+{
+    for value in values {
+        out.extend_from_slice(b" ")?;
+        put_value(out, script, value)?;
+    }
+    Ok(())
+}
+
+fn put_how(out: &mut Vec<u8>, script: &Script, how: &How) -> Result<(), NoMemory>
+    ensures { OnOk result (out.new.items ≡ out.old.items ++ end_text script.now how.now) }
+{
+    match how {
+        How::Done(values) => {
+            out.extend_from_slice(b"done")?;
+            put_emitted(out, script, values.as_slice())
+        }
+        How::Raised(value) => {
+            out.extend_from_slice(b"raised ")?;
+            put_value(out, script, value)
+        }
+        How::Stuck => {
+            out.extend_from_slice(b"stuck")?;
+            Ok(())
+        }
+    }
+}
+
+/// Appends a word and the name of a thread.
+fn put_named(out: &mut Vec<u8>, script: &Script, word: &[u8], by: u32) -> Result<(), NoMemory>
+    ensures { OnOk result (out.new.items ≡ out.old.items ++ word.now ++ name_of script.now by) }
+{
+    out.extend_from_slice(word)?;
+    out.extend_from_slice(thread_name(script, by))?;
+    Ok(())
+}
+
+/// Appends a word, the name of a thread, and a ticket.
+fn put_ticket(
+    out: &mut Vec<u8>,
+    script: &Script,
+    word: &[u8],
+    by: u32,
+    ticket: u32,
+) -> Result<(), NoMemory>
+    ensures { OnOk result (out.new.items ≡ out.old.items ++ word.now ++ name_of script.now by ++ codes " " ++ decimal ticket) }
+{
+    put_named(out, script, word, by)?;
+    out.extend_from_slice(b" ")?;
+    put_number(out, ticket as u64)
+}
+
+fn put_commit(
+    out: &mut Vec<u8>,
+    script: &Script,
+    by: u32,
+    cert: &Cert,
+    outcomes: &[Outcome],
+) -> Result<(), NoMemory>
+    ensures { OnOk result (out.new.items ≡ out.old.items ++ codes "commit " ++ name_of script.now by ++ codes ": " ++ commit_text script.now cert.now outcomes.now) }
+{
+    put_named(out, script, b"commit ", by)?;
+    out.extend_from_slice(b": ")?;
+    put_members(out, script, cert.members.as_slice(), outcomes)?;
+    out.extend_from_slice(b";")?;
+    put_meetings(out, script, cert.members.as_slice(), cert.meets.as_slice())
+}
+
+fn put_take(
+    out: &mut Vec<u8>,
+    script: &Script,
+    by: u32,
+    ticket: u32,
+    outcome: &Outcome,
+) -> Result<(), NoMemory>
+    ensures { OnOk result (out.new.items ≡ out.old.items ++ codes "take " ++ name_of script.now by ++ codes " " ++ decimal ticket ++ codes " " ++ outcome_text script.now outcome.now) }
+{
+    put_ticket(out, script, b"take ", by, ticket)?;
+    out.extend_from_slice(b" ")?;
+    put_outcome(out, script, outcome)
+}
+
+fn put_end(out: &mut Vec<u8>, script: &Script, by: u32, how: &How) -> Result<(), NoMemory>
+    ensures { OnOk result (out.new.items ≡ out.old.items ++ codes "end " ++ name_of script.now by ++ codes " " ++ end_text script.now how.now) }
+{
+    put_named(out, script, b"end ", by)?;
+    out.extend_from_slice(b" ")?;
+    put_how(out, script, how)
+}
+
+fn put_entry(out: &mut Vec<u8>, script: &Script, entry: &Entry) -> Result<(), NoMemory>
+    ensures { OnOk result (out.new.items ≡ out.old.items ++ entry_text script.now entry.now) }
+{
+    match entry {
+        Entry::Post { by, ticket, .. } => put_ticket(out, script, b"post ", *by, *ticket),
+        Entry::Commit { by, cert, outcomes } => put_commit(
+            out,
+            script,
+            *by,
+            cert,
+            outcomes.as_slice(),
+        ),
+        Entry::Withdraw { by, ticket } => put_ticket(out, script, b"withdraw ", *by, *ticket),
+        Entry::Take {
+            by,
+            ticket,
+            outcome,
+        } => put_take(out, script, *by, *ticket, outcome),
+        Entry::Rest { by } => put_named(out, script, b"rest ", *by),
+        Entry::Stuck { by } => put_named(out, script, b"stuck ", *by),
+        Entry::End { by, how } => put_end(out, script, *by, how),
+    }
+}
+
+/// Appends a line for each entry, numbered from 1.
+pub(super) fn put_entries(
+    out: &mut Vec<u8>,
+    script: &Script,
+    history: &[Entry],
+) -> Result<(), NoMemory>
+    ensures { OnOk result (out.new.items ≡ out.old.items ++ entry_lines script.now 1 history.now) }
+{
+    for (i, entry) in history.iter().enumerate() {
+        put_number(out, i as u64 + 1)?;
+        out.extend_from_slice(b" ")?;
+        put_entry(out, script, entry)?;
+        out.extend_from_slice(b"\n")?;
+    }
+    Ok(())
+}
+
+/// Appends a word and a number.
+fn put_count(out: &mut Vec<u8>, word: &[u8], count: u64) -> Result<(), NoMemory>
+    ensures { OnOk result (out.new.items ≡ out.old.items ++ word.now ++ decimal count) }
+{
+    out.extend_from_slice(word)?;
+    put_number(out, count)
+}
+
+/// Appends a word, a number and the end of the line.
+fn put_last_count(out: &mut Vec<u8>, word: &[u8], count: u64) -> Result<(), NoMemory>
+    ensures { OnOk result (out.new.items ≡ out.old.items ++ word.now ++ decimal count ++ codes "\n") }
+{
+    put_count(out, word, count)?;
+    out.extend_from_slice(b"\n")?;
+    Ok(())
+}
+
+/// Appends the last line, by the number of entries.
+pub(super) fn put_last_line(out: &mut Vec<u8>, count: u64, ending: Ending) -> Result<(), NoMemory>
+    ensures { OnOk result (out.new.items ≡ out.old.items ++ last_line count ending) }
+{
+    match ending {
+        Ending::Closed => put_last_count(out, b"closed ", count),
+        Ending::Spent {
+            front,
+            paths,
+            groups,
+        } => {
+            put_count(out, b"spent ", count)?;
+            put_count(out, b" front ", front)?;
+            put_count(out, b" paths ", paths)?;
+            put_last_count(out, b" groups ", groups)
+        }
+        Ending::Full => put_last_count(out, b"full ", count),
+    }
+}
