@@ -104,8 +104,7 @@ impl Board {
         requires { by < self.now.callers }
         ensures { ShowsPlace (slice_get (now self.now).callers by) result }
     {
-        let seat = &self.seats[by as usize];
-        seat.stance.place()
+        self.seats[by as usize].stance.place()
     }
 
     /// Parks the caller's event, under the number of its earlier posts as the ticket.
