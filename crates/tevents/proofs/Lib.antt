@@ -25,3 +25,17 @@ pub mod KeptLemmas
 pub mod ViewLemmas
 pub mod KeptCommits
 pub mod NoneFound
+pub mod Appending
+pub mod ClosingsSoFar
+pub mod CoresKept
+pub mod FirstHouse
+pub mod GroupsKept
+pub mod HouseState
+pub mod OpeningsKept
+pub mod PlainWishes
+pub mod RoundsDone
+pub mod RoundsSoFar
+pub mod RunStates
+pub mod StuckKept
+pub mod TakesKept
+pub mod TurnsOfRounds

@@ -10,3 +10,6 @@ pub mod Groups
 pub mod Seats
 pub mod Leaves
 pub mod LogCode
+pub mod Houses
+pub mod Runs
+pub mod SerialRuns

@@ -87,6 +87,7 @@ impl Board {
         ensures value { result ≡ self.now.callers }
         ensures few { self.now.callers ≤ 64 }
         ensures all_stand { length (now self.now).callers ≡ self.now.callers }
+        ensures legal { IsLegal self.now.callers self.now.history }
     {
         self.callers
     }

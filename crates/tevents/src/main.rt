@@ -5,8 +5,10 @@ mod board;
 mod cert;
 mod group;
 mod history;
+mod house;
 mod kind;
 mod report;
+mod rounds;
 mod search;
 mod seat;
 

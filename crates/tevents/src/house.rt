@@ -1,0 +1,147 @@
+ghost use Rattle.std.specs.Prelude.{◌≡◌, ◌<◌, ◌≤◌, ℕ, [], ◌∷◌, length, IfOk, MatchOption, OnOk, OnErr, slice_get, Some};
+ghost use Rattle.std.specs.List.{AllByRecursion};
+ghost use Rattle.te_terms.specs.Joint.{CanCommit};
+ghost use Rattle.te_script.specs.Scripts.{IsThread};
+ghost use Rattle.tevents.specs.State.{idle, parked, given, parked_list};
+ghost use Rattle.tevents.specs.Follows.{IsRunning, Stands, Ends, IsParkedOrEnded};
+ghost use Rattle.tevents.specs.Boards.{ShowsPlace, now};
+ghost use Rattle.tevents.specs.Groups.{threads_of};
+ghost use Rattle.tevents.specs.Houses.{IsFirstThread, state_of, grown, IsKept};
+ghost use Rattle.tevents.specs.Runs.{HasOpened, HasTakenOne, HasCommittedGroup, BoardOpened};
+ghost use Rattle.tevents.specs.declared.history.Entry.TheVariants as entries;
+
+use crate::board::{Board, Place};
+use crate::group::Group;
+use crate::history::{Entry, How};
+use std::alloc::Global;
+use std::marker::Model;
+use std::sync::Arc;
+use te_script::{Core, Script, Want};
+use te_terms::NoMemory;
+
+/// The threads of a script on one board. Each core stands where the history leaves its thread.
+#[derive(Drop)]
+pub(crate) struct House {
+    board: Board,
+    cores: Vec<Core>,
+}
+
+impl Model for House {
+    ghost use Rattle.tevents.specs.Houses.{Run, threads_of, IsHouse, coded_run};
+    ghost use Rattle.tevents.specs.contracts.history.Entry as entry;
+
+    ghost Value = { Run };
+
+    ghost coded = { coded_run entry.the_row.coded };
+
+    ghost view = { λ h. record { threads = threads_of h.cores.items; history = h.board.history } };
+
+    ghost invariant = { λ h. IsHouse h.board h.cores.items };
+}
+
+// Posts what the core wishes to synchronise on, or ends its thread.
+fn open_by(board: &mut Board, core: &Core, t: u32) -> Result<(), NoMemory>
+    requires running { IsRunning (now board.old) }
+    requires idle { Stands (now board.old) t idle }
+    requires first { IsFirstThread core.now.thread }
+    requires few { length board.old.history ≤ 200000 }
+    ensures ok { OnOk result (BoardOpened board.old board.new t core.now.stand) }
+    ensures err { OnErr result (board.new ≡ board.old) }
+{
+    match core.want()? {
+        Want::Sync(event) => board.post(t, event),
+        Want::Done => board.end(t, How::Done(core.copy_emitted()?)),
+        Want::Raised(value) => board.end(t, How::Raised(value)),
+    }
+}
+
+impl House {
+    /// The threads of the script, before any of them has done anything. The one refusal is want of memory.
+    pub(crate) fn new(alloc: Global, script: &Script) -> Result<House, NoMemory>
+        ensures starts { IfOk result (λ house. house ≡ record { threads = script.now.threads; history = [] }) }
+        ensures limits { IfOk result (λ _. AllByRecursion (IsThread 256) script.now.threads) }
+    {
+        let mut cores = Vec::new(alloc);
+        for text in script.threads.as_slice() {
+            cores.push(Core::new(alloc, Arc::try_clone(text)?)?)?;
+        }
+        let callers = cores.len() as u32;
+        Ok(House {
+            board: Board::new(alloc, callers)?,
+            cores,
+        })
+    }
+
+    /// The number of threads.
+    pub(crate) fn threads(&self) -> u32
+        ensures count { result ≡ length self.now.threads }
+        ensures each { length (state_of self.now).callers ≡ length self.now.threads }
+        ensures kept { IsKept self.now }
+    {
+        self.board.callers()
+    }
+
+    /// Where a thread stands.
+    pub(crate) fn place(&self, t: u32) -> Place
+        requires { t < length self.now.threads }
+        ensures { ShowsPlace (slice_get (state_of self.now).callers t) result }
+    {
+        self.board.place(t)
+    }
+
+    /// Posts what the thread wishes to synchronise on, or ends it.
+    pub(crate) fn open(&mut self, t: u32) -> Result<(), NoMemory>
+        requires running { IsRunning (state_of self.old) }
+        requires idle { Stands (state_of self.old) t idle }
+        requires first { AllByRecursion IsFirstThread self.old.threads }
+        ensures { OnOk result (HasOpened self.old self.new t) }
+    {
+        open_by(&mut self.board, &self.cores[t as usize], t)
+    }
+
+    /// Takes the outcome that the thread was given, and moves its core on.
+    pub(crate) fn take(&mut self, t: u32) -> Result<(), NoMemory>
+        requires running { IsRunning (state_of self.old) }
+        requires given { (ticket : ℕ) × (outcome : _) × Stands (state_of self.old) t (given ticket outcome) }
+        ensures { OnOk result (HasTakenOne self.old self.new t) }
+    {
+        let outcome = self.board.take(t)?;
+        let core = &mut self.cores[t as usize];
+        core.give(outcome);
+        Ok(())
+    }
+
+    /// Commits one group, where one can commit.
+    pub(crate) fn commit(&mut self) -> Result<Option<Group>, NoMemory>
+        requires { IsRunning (state_of self.old) }
+        ensures { IfOk result (λ found. MatchOption found ((self.new ≡ self.old) × (¬ CanCommit (parked_list (state_of self.old)))) (λ group. HasCommittedGroup self.old self.new (threads_of group))) }
+    {
+        self.board.commit_one()
+    }
+
+    /// Declares the board stuck, for a parked thread where every thread is parked or ended.
+    pub(crate) fn declare_stuck(&mut self, t: u32) -> Result<(), NoMemory>
+        requires running { IsRunning (state_of self.old) }
+        requires parked { (ticket : ℕ) × (event : _) × Stands (state_of self.old) t (parked ticket event) }
+        requires all { AllByRecursion IsParkedOrEnded (state_of self.old).callers }
+        requires none { ¬ CanCommit (parked_list (state_of self.old)) }
+        ensures { OnOk result (self.new ≡ grown self.old (entries.Stuck t ∷ [])) }
+    {
+        self.board.declare_stuck(t)
+    }
+
+    /// Ends a parked thread on a stuck board.
+    pub(crate) fn end_stuck(&mut self, t: u32) -> Result<(), NoMemory>
+        requires { Ends (state_of self.old) t How.Stuck }
+        ensures { OnOk result (self.new ≡ grown self.old (entries.End t How.Stuck ∷ [])) }
+    {
+        self.board.end(t, How::Stuck)
+    }
+
+    /// The history so far.
+    pub(crate) fn history(&self) -> &[Entry]
+        ensures { result.now ≡ self.now.history }
+    {
+        self.board.entries()
+    }
+}
