@@ -39,3 +39,5 @@ pub mod RunStates
 pub mod StuckKept
 pub mod TakesKept
 pub mod TurnsOfRounds
+pub mod AnswersTold
+pub mod OneWord

@@ -167,16 +167,14 @@ rounds_end : (callers : ℕ) (before : List Entry) (rs : List Round) → RoundsF
 rounds_end callers before [] h whole = subst (IsWhole callers) (append-nil before) whole
 rounds_end callers before (r ∷ rs) h whole = (h.0, rounds_end callers (before ++ entries_of r) rs h.1 (subst (IsWhole callers) (sym (append_assoc before (entries_of r) (flat_map entries_of rs))) whole))
 
-pub run_done : (script : Program) (run : Run) → RunSoFar script run → IsWhole (length run.threads) run.history → IsKept run → IsSerialRun script run.history × (run.threads ≡ script.threads)
+pub run_done : (script : Program) (run : Run) → RunSoFar script run → IsWhole (length run.threads) run.history → IsKept run → IsSerialRun script run.history
 run_done script run h whole kept =
-    let whole' : IsWhole (length script.threads) run.history = subst (λ (ts : List Thread). IsWhole (length ts) run.history) h.threads whole in (
-      record {
-        legal = subst (λ (ts : List Thread). IsLegal (length ts) run.history) h.threads kept.legal;
-        of_script = subst (λ (ts : List Thread). WishedFrom ts [] run.history) h.threads kept.wished;
-        whole = whole';
-        tight = kept.tight;
-        rounds = record { rounds = h.rounds; parts = h.parts; are_rounds = rounds_end (length script.threads) [] h.rounds h.are_rounds (subst (IsWhole (length script.threads)) (sym h.parts) whole') };
-        few = kept.few;
-      },
-      h.threads,
-    )
+    let whole' : IsWhole (length script.threads) run.history = subst (λ (ts : List Thread). IsWhole (length ts) run.history) h.threads whole in
+    record {
+      legal = subst (λ (ts : List Thread). IsLegal (length ts) run.history) h.threads kept.legal;
+      of_script = subst (λ (ts : List Thread). WishedFrom ts [] run.history) h.threads kept.wished;
+      whole = whole';
+      tight = kept.tight;
+      rounds = record { rounds = h.rounds; parts = h.parts; are_rounds = rounds_end (length script.threads) [] h.rounds h.are_rounds (subst (IsWhole (length script.threads)) (sym h.parts) whole') };
+      few = kept.few;
+    }

@@ -13,3 +13,5 @@ pub mod LogCode
 pub mod Houses
 pub mod Runs
 pub mod SerialRuns
+pub mod Causes
+pub mod Headline

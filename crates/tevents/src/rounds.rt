@@ -145,7 +145,7 @@ fn all_ended(house: &House) -> bool
 /// Runs the script's threads in serial rounds until every thread has ended. The one refusal is want of memory.
 pub(crate) fn serial(alloc: Global, script: &Script) -> Result<House, NoMemory>
     requires first { First script.now }
-    ensures { IfOk result (λ house. IsSerialRun script.now house.history × (house.threads ≡ script.now.threads)) }
+    ensures { IfOk result (λ house. IsSerialRun script.now house.history) }
 {
     let mut house = House::new(alloc, script)?;
     while !all_ended(&house) {

@@ -1,0 +1,30 @@
+-- What a call of `tevents serial` with status 0 or 1 has told. This project's own.
+use Rattle.std.specs.Prelude.{◌≡◌, ◌⊎◌, ℕ, List, Any}
+use Rattle.te_script.specs.Scripts.{Program}
+use Rattle.te_reader.specs.Text.{Text}
+use Rattle.te_reader.specs.FirstForm.{First}
+use Rattle.tevents.specs.declared.history.How.TheVariants as ways
+use Rattle.tevents.specs.declared.history.Entry.{Entry}
+use Rattle.tevents.specs.declared.history.Entry.TheVariants as entries
+use Rattle.tevents.specs.declared.report.Ending.TheVariants as endings
+use Rattle.tevents.specs.Report.{IsReport}
+use Rattle.tevents.specs.SerialRuns.{IsSerialRun}
+
+-- a thread ends in a synchronisation that no group can complete
+abbrev pub IsStuckEnd : Entry → Type 0
+IsStuckEnd (entries.End by ways.Stuck) = Unit {0}
+IsStuckEnd _ = ⊥
+
+-- 1 exactly where some thread ends so, else 0
+abbrev pub IsStatusOf : List Entry → ℕ → Type 0
+IsStatusOf history status = Any IsStuckEnd history × (status ≡ 1) ⊎ (¬ Any IsStuckEnd history) × (status ≡ 0)
+
+-- the bytes read are a script of the first form, and those written are the report of one serial run of it
+pub record IsHeadline (read written : List ℕ) (status : ℕ) : Type 0 where
+  pub script : Program
+  pub history : List Entry
+  pub text : Text read script
+  pub first : First script
+  pub run : IsSerialRun script history
+  pub report : IsReport script history endings.Closed written
+  pub status_of : IsStatusOf history status
