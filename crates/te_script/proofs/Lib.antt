@@ -7,3 +7,4 @@ pub mod CoreMoves
 mod WishesWorked
 pub mod MoreChannels
 pub mod WantsTold
+pub mod Appending

@@ -2,6 +2,8 @@
 #![tactic(auto)]
 
 mod script;
+#[cfg(test)]
+mod tests;
 mod wish;
 
 pub use script::{Script, Stmt, ThreadText};

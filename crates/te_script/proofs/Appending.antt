@@ -1,0 +1,14 @@
+-- Statements in order, and one more behind them, are in order.
+use Rattle.std.proofs.Common.{ℕ, List, [], ◌∷◌, ◌++◌, sym, subst}
+use Rattle.std.specs.List.{AllByRecursion}
+use Rattle.te_script.specs.Scripts.{Statement, sync, emit, AreStatements, with_register}
+
+pub AreStatements-append : (channels registers written : ℕ) (ss : List Statement) (s : Statement) → AreStatements channels registers written ss → AreStatements channels registers registers (s ∷ [])
+    → AreStatements channels registers written (ss ++ s ∷ [])
+AreStatements-append channels registers written [] s h last = subst (λ w. AreStatements channels registers w (s ∷ [])) (sym h) last
+AreStatements-append channels registers written (emit e ∷ ss) s h last = (h.0, AreStatements-append channels registers written ss s h.1 last)
+AreStatements-append channels registers written (sync r t ∷ ss) s h last = (h.0, h.1, h.2, AreStatements-append channels registers (with_register written r) ss s h.3 last)
+
+pub AllByRecursion-append : {A : Type 0} (P : A → Type 0) (xs : List A) (x : A) → AllByRecursion P xs → P x → AllByRecursion P (xs ++ x ∷ [])
+AllByRecursion-append P [] x h last = (last, tt)
+AllByRecursion-append P (y ∷ xs) x h last = (h.0, AllByRecursion-append P xs x h.1 last)
