@@ -8,3 +8,4 @@ mod WishesWorked
 pub mod MoreChannels
 pub mod WantsTold
 pub mod Appending
+pub mod OneMore

@@ -1,5 +1,6 @@
 ghost use Rattle.std.specs.Prelude.{◌≡◌, ◌+◌, ◌<◌, ◌≤◌, ◌++◌, ◌∷◌, [], List, IfOk, length, drop, map, vec_len, vec_capacity};
 ghost use Rattle.te_script.specs.Wishes.{moved, wish_at, syncs};
+ghost use Rattle.te_terms.specs.declared.event.Outcome.{Outcome as Given};
 ghost use Rattle.te_terms.specs.Terms.{closed};
 ghost use Rattle.te_terms.specs.Codes.{term_under};
 ghost use Rattle.te_script.specs.Cores.{core_after, Settles, IsWaiting, next_of, WritesTo, emits_in};
@@ -75,7 +76,8 @@ impl Core {
     /// no memory.
     pub fn give(&mut self, outcome: Outcome)
         requires { IsWaiting self.old.stand.next }
-        ensures { self.new ≡ record self.old { stand = moved self.old.stand.emitted self.old.stand.next outcome } }
+        ensures moves { self.new ≡ record self.old { stand = moved self.old.stand.emitted self.old.stand.next outcome } }
+        ensures after { (so_far : List Given) → self.old ≡ core_after self.old.thread so_far → self.new ≡ core_after self.old.thread (so_far ++ outcome ∷ []) }
     {
         let place = self.place;
         match outcome {

@@ -22,15 +22,10 @@ use Rattle.tevents.specs.Runs.{HasTakenOne}
 use Rattle.tevents.specs.Houses.{Run, grown, syncs_in, syncs_left, all_left, stuck_left, threads_of, CommitsTightly, IsCoreOf, AreCoresOf, IsHouse}
 use Rattle.tevents.proofs.Appending.{state_more, taken_more, wished_more, all_more}
 use Rattle.tevents.proofs.CoresKept.{core_within, moves_on, all_left_at, same_core}
+use Rattle.te_script.proofs.OneMore.{one_more}
 use Rattle.tevents.proofs.HouseState.{stands_within, run_of}
 use Rattle.tevents.proofs.OpeningsKept.{thread_of}
 use Rattle.tevents.proofs.GroupsKept.{run_grown}
-
--- ---- one outcome more
-
-pub one_more : (s : Stand) (outs : List Outcome) (o : Outcome) → goes_by s (outs ++ o ∷ []) ≡ moved (goes_by s outs).emitted (goes_by s outs).next o
-one_more s [] o = refl
-one_more s (x ∷ xs) o = one_more (moved s.emitted s.next x) xs o
 
 -- ---- what is left behind a statement
 

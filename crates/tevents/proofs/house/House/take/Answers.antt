@@ -26,11 +26,11 @@ invariant_of-self-2 c =
     let stood = of_board (λ (s : State). IsGivenIn s c.args.t) c.args.self.now c.self.inside.board c.self.inside.cores.items c.self.view_is c.self.invariant c.requires.given in
     let within = stands_within c.self.inside.board c.self.inside.cores.items c.args.t (given stood.0 stood.1) c.self.invariant stood.2 in
     let is = slice_get_read c.self.inside.cores.items _ c.args.t c.index_mut-core.result.now refl within c.index_mut-core.ensures.value in
-    taken_kept c.self.inside.board c.take.new.self c.self.inside.cores.items c.args.t c.index_mut-core.result.now c.give.new.self c.in_ok-outcome.outcome c.self.invariant c.in_ok-outcome.ensures.ok is c.give.ensures
+    taken_kept c.self.inside.board c.take.new.self c.self.inside.cores.items c.args.t c.index_mut-core.result.now c.give.new.self c.in_ok-outcome.outcome c.self.invariant c.in_ok-outcome.ensures.ok is c.give.ensures.moves
 
 pub returns : goal.returns
 returns c =
     let stood = of_board (λ (s : State). IsGivenIn s c.args.t) c.args.self.now c.self.inside.board c.self.inside.cores.items c.self.view_is c.self.invariant c.requires.given in
     let within = stands_within c.self.inside.board c.self.inside.cores.items c.args.t (given stood.0 stood.1) c.self.invariant stood.2 in
     let is = slice_get_read c.self.inside.cores.items _ c.args.t c.index_mut-core.result.now refl within c.index_mut-core.ensures.value in
-    take_shown c.self.inside.board c.take.new.self c.self.inside.cores.items c.args.t c.index_mut-core.result.now c.give.new.self c.in_ok-outcome.outcome c.args.self.now c.self.view_is c.self.invariant c.in_ok-outcome.ensures.ok is c.give.ensures
+    take_shown c.self.inside.board c.take.new.self c.self.inside.cores.items c.args.t c.index_mut-core.result.now c.give.new.self c.in_ok-outcome.outcome c.args.self.now c.self.view_is c.self.invariant c.in_ok-outcome.ensures.ok is c.give.ensures.moves
