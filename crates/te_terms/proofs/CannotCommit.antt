@@ -1,16 +1,14 @@
 -- What can't commit: nobody, and one member who rests and can neither end nor choose, since nobody meets himself.
-use Rattle.std.proofs.Common.{◌≡◌, ◌≢◌, ℕ, Bool, true, false, cond, List, [], ◌∷◌, Option, Some, None, refl, sym, ap, subst, ◌∙◌, inl, inr, ◌⊎◌}
+use Rattle.std.proofs.Common.{◌≡◌, ◌≢◌, Bool, true, false, cond, List, [], ◌∷◌, Some, None, refl, sym, ap, ◌∙◌}
 use Rattle.std.specs.Prelude.{◌==◌, if◌then◌else◌, pos}
 use Rattle.std.specs.Option.{option_map, option_and_then}
-use Rattle.std.proofs.lemmas.Bool.{cases_eq}
-use Rattle.std.proofs.lemmas.Bool.Decides.{Decides-eqb, nat_tests}
-use Rattle.te_terms.specs.declared.value.Atom.TheVariants.{Int}
+use Rattle.std.proofs.lemmas.Bool.Decides.{Decides-eqb}
 use Rattle.te_terms.specs.declared.event.Outcome.{Outcome}
 use Rattle.te_terms.specs.declared.event.Parked.{Parked}
-use Rattle.te_terms.specs.Expressions.{Expression, int, chan, one, tuple}
+use Rattle.te_terms.specs.Expressions.{int, chan, one, tuple}
 use Rattle.te_terms.specs.Terms.{Term, never, send, recv, and_then}
-use Rattle.te_terms.specs.Steps.{Member, IsSettled, quiet_step, outcome_of}
-use Rattle.te_terms.specs.Joint.{Label, choice, meeting, Action, quiet, labelled, member_of, with_member, with_term, quiet_joint, choice_joint, meeting_joint, meeting_of, joint_step, after, after_choice, sending, receiving, outcomes_of, and_outcome, as_member, as_group, part, Reduces, CanCommit}
+use Rattle.te_terms.specs.Steps.{Member, IsSettled, quiet_step}
+use Rattle.te_terms.specs.Joint.{Label, choice, meeting, Action, quiet, labelled, with_member, with_term, meeting_of, joint_step, after, after_choice, outcomes_of, and_outcome, as_member, Reduces, CanCommit}
 use Rattle.te_terms.specs.Settling.{CannotChoose, IsOpen}
 
 nobody_can_commit : ¬ CanCommit []

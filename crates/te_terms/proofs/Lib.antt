@@ -14,3 +14,4 @@ pub mod UnderFirst
 pub mod WorkedTerms
 pub mod WorkedGroups
 pub mod CannotCommit
+pub mod BindingLaws

@@ -1,13 +1,13 @@
 -- A term does one thing: what is final, can choose, send or receive has no quiet step and does no second of these.
-use Rattle.std.proofs.Common.{◌≡◌, ℕ, zero, suc, ◌⊎◌, inl, inr, Bool, true, false, List, Option, Some, None, Result, Ok, Err, refl, sym, ap, subst, ◌∙◌}
+use Rattle.std.proofs.Common.{◌≡◌, ℕ, Bool, true, false, List, Option, Some, None, Result, Ok, Err, refl, sym, ap, subst, ◌∙◌}
 use Rattle.std.specs.Option.{option_map}
 use Rattle.te_terms.specs.declared.value.Atom.{Atom}
 use Rattle.te_terms.specs.declared.value.Trap.{Trap}
 use Rattle.te_terms.specs.declared.event.Outcome.{Outcome}
 use Rattle.te_terms.specs.declared.event.Outcome.TheVariants.{Gives, Raises}
-use Rattle.te_terms.specs.Expressions.{Primitive, Expression, value_of, channel_value, test_value}
+use Rattle.te_terms.specs.Expressions.{Primitive, Expression, value_of, channel_value}
 use Rattle.te_terms.specs.Terms.{Term, always, never, throw, send, recv, and_then, choose, catch, when}
-use Rattle.te_terms.specs.Steps.{Member, IsSettled, quiet_step, quiet_of, outcome_of, given_by, raised_by, thrown, send_trap, recv_trap, goes_on, is_caught, head, with_head}
+use Rattle.te_terms.specs.Steps.{Member, IsSettled, quiet_of, outcome_of, given_by, raised_by, thrown, send_trap, recv_trap, goes_on, is_caught, head, with_head}
 use Rattle.te_terms.specs.Joint.{chosen_from, after_choice, Message, message, channel_at, sent_from, received_on, sending, receiving}
 use Rattle.te_terms.specs.Settling.{Stands, at_end, at_choice, at_send, at_receive, at_never}
 

@@ -1,5 +1,5 @@
 -- Each quiet step leaves fewer nodes, or as many nodes and one more final one.
-use Rattle.std.proofs.Common.{◌≡◌, ℕ, zero, suc, ◌+◌, ◌-◌, ◌*◌, ◌<◌, ◌≤◌, ◌⊎◌, inl, inr, Bool, true, false, List, Option, Some, None, Result, Ok, Err, refl, sym, ap, subst, ◌∙◌, arith}
+use Rattle.std.proofs.Common.{◌≡◌, ℕ, suc, ◌+◌, ◌*◌, ◌<◌, ◌≤◌, ◌⊎◌, inl, inr, Bool, true, false, List, Option, Some, None, Result, Ok, Err, refl, sym, ap, subst, arith}
 use Rattle.std.proofs.Math.Nat.{mul-le-mul_left, mul-le-mul_right, suc-mul, mul-suc}
 use Rattle.te_terms.specs.declared.value.Atom.{Atom}
 use Rattle.te_terms.specs.declared.value.Trap.{Trap}
@@ -9,7 +9,7 @@ use Rattle.te_terms.specs.declared.event.Outcome.TheVariants.{Gives, Raises}
 use Rattle.te_terms.specs.Values.{trap_value}
 use Rattle.te_terms.specs.Expressions.{Variable, value_of, channel_value, test_value}
 use Rattle.te_terms.specs.Terms.{Term, always, never, throw, send, recv, and_then, choose, catch, when, replaced, bound, name_to}
-use Rattle.te_terms.specs.Steps.{Member, raising, giving, outcome_of, thrown, send_trap, recv_trap, decided, goes_on, is_caught, quiet_of, quiet_step}
+use Rattle.te_terms.specs.Steps.{raising, giving, outcome_of, thrown, send_trap, recv_trap, decided, goes_on, is_caught, quiet_of}
 use Rattle.te_terms.specs.Settling.{node_count, final_count, one_with_value, Falls, steps_most}
 
 pub node_count-replaced : (by : Variable → Variable) (t : Term) → node_count (replaced by t) ≡ node_count t

@@ -1,13 +1,10 @@
 -- A member settles: quiet steps lead to it as it is once they are done, and to nothing else without one.
-use Rattle.std.proofs.Common.{◌≡◌, ℕ, zero, suc, ◌+◌, ◌-◌, ◌*◌, ◌<◌, ◌≤◌, ◌⊎◌, inl, inr, List, Option, Some, None, refl, sym, ap, subst, ◌∙◌, arith}
+use Rattle.std.proofs.Common.{◌≡◌, ℕ, zero, suc, ◌≤◌, Option, Some, None, refl, sym, ap, subst, ◌∙◌, arith}
 use Rattle.std.specs.Option.{option_map, unwrap_or}
 use Rattle.std.proofs.Math.Nat.{mul-le-mul_left}
-use Rattle.te_terms.specs.declared.value.Atom.{Atom}
-use Rattle.te_terms.specs.declared.event.Outcome.{Outcome}
-use Rattle.te_terms.specs.declared.event.Outcome.TheVariants.{Gives, Raises}
-use Rattle.te_terms.specs.Terms.{Term, and_then, catch, bound}
-use Rattle.te_terms.specs.Steps.{Member, IsSettled, quiet_step, quiet_of, outcome_of, raising, giving}
-use Rattle.te_terms.specs.Settling.{Falls, Quietly, here, after_one, settled_within, settled, steps_most, node_count, final_count, under_then, under_catch, then_settled, catch_settled}
+use Rattle.te_terms.specs.Terms.{Term}
+use Rattle.te_terms.specs.Steps.{Member, IsSettled, quiet_step, quiet_of}
+use Rattle.te_terms.specs.Settling.{Falls, Quietly, here, after_one, settled_within, settled, steps_most, node_count}
 use Rattle.te_terms.proofs.QuietStepsEnd.{quiet_falls, steps_fall, some_nodes}
 
 -- ---- one step of a member

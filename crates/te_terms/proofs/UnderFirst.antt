@@ -1,5 +1,5 @@
 -- Steps of the first part of `then` and `catch`, and what they settle as.
-use Rattle.std.proofs.Common.{◌≡◌, ℕ, Bool, true, false, List, Option, Some, None, refl, sym, ap, subst, ◌∙◌}
+use Rattle.std.proofs.Common.{◌≡◌, ℕ, List, Option, Some, None, refl, sym, ap, ◌∙◌}
 use Rattle.std.specs.Option.{option_map}
 use Rattle.te_terms.specs.declared.value.Atom.{Atom}
 use Rattle.te_terms.specs.declared.event.Outcome.{Outcome}

@@ -1,17 +1,15 @@
 -- Worked cases of groups: what reduces by which labels, and what can't commit.
-use Rattle.std.proofs.Common.{◌≡◌, ◌≢◌, ℕ, ◌<◌, Bool, true, false, List, [], ◌∷◌, Option, Some, None, Result, Ok, Err, refl, sym, ap, ◌∙◌, inl, inr, ◌⊎◌}
-use Rattle.std.specs.Prelude.{ℤ, pos, negsuc, ◌==◌}
+use Rattle.std.proofs.Common.{ℕ, true, false, List, [], ◌∷◌, refl}
+use Rattle.std.specs.Prelude.{ℤ, pos, ◌==◌}
 use Rattle.std.specs.Option.{unwrap_or}
-use Rattle.te_terms.specs.declared.value.Atom.{Atom}
-use Rattle.te_terms.specs.declared.value.Atom.TheVariants.{Int, Chan}
+use Rattle.te_terms.specs.declared.value.Atom.TheVariants.{Int}
 use Rattle.te_terms.specs.declared.expr.Arith.TheVariants.{Add}
-use Rattle.te_terms.specs.declared.event.Outcome.{Outcome}
 use Rattle.te_terms.specs.declared.event.Outcome.TheVariants.{Gives, Raises}
 use Rattle.te_terms.specs.declared.event.Parked.{Parked}
 use Rattle.te_terms.specs.Expressions.{Expression, name, int, chan, part, one, both, whole, tuple}
 use Rattle.te_terms.specs.Terms.{Term, always, never, throw, send, recv, and_then, choose}
 use Rattle.te_terms.specs.Steps.{Member}
-use Rattle.te_terms.specs.Joint.{Label, choice, meeting, Action, quiet, labelled, after, labels, outcomes_of, part as part_of, as_group, Reduces, CanCommit}
+use Rattle.te_terms.specs.Joint.{choice, meeting, Action, quiet, labelled, after, as_group, Reduces, CanCommit}
 
 abbrev number : ℤ → Expression
 number z = tuple (one (int z) ∷ [])

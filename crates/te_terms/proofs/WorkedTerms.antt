@@ -1,18 +1,15 @@
 -- Worked cases of single expressions and terms, by computing.
-use Rattle.std.proofs.Common.{◌≡◌, ℕ, Bool, true, false, List, [], ◌∷◌, Option, Some, None, Result, Ok, Err, refl}
+use Rattle.std.proofs.Common.{◌≡◌, false, [], ◌∷◌, Some, None, Ok, Err, refl}
 use Rattle.std.specs.Prelude.{ℤ, pos, negsuc}
-use Rattle.te_terms.specs.declared.value.Atom.{Atom}
-use Rattle.te_terms.specs.declared.value.Atom.TheVariants.{Int, Chan}
-use Rattle.te_terms.specs.declared.value.Trap.{Trap}
+use Rattle.te_terms.specs.declared.value.Atom.TheVariants.{Int}
 use Rattle.te_terms.specs.declared.value.Trap.TheVariants.{Range, Kind}
 use Rattle.te_terms.specs.declared.expr.Arith.TheVariants.{Add, Sub, Mul}
 use Rattle.te_terms.specs.declared.expr.Test.TheVariants.{Equal, Less}
-use Rattle.te_terms.specs.declared.event.Outcome.{Outcome}
 use Rattle.te_terms.specs.declared.event.Outcome.TheVariants.{Gives, Raises}
 use Rattle.te_terms.specs.Values.{trap_value}
-use Rattle.te_terms.specs.Expressions.{Expression, Primitive, name, known, int, chan, part, one, both, whole, tuple, value_of, test_value}
-use Rattle.te_terms.specs.Terms.{Term, always, never, throw, send, recv, and_then, choose, catch, when}
-use Rattle.te_terms.specs.Steps.{Member, quiet_of, outcome_of, raising, giving}
+use Rattle.te_terms.specs.Expressions.{Expression, name, known, int, chan, part, one, both, whole, tuple, value_of, test_value}
+use Rattle.te_terms.specs.Terms.{Term, always, never, throw, send, recv, and_then, catch, when}
+use Rattle.te_terms.specs.Steps.{quiet_of, outcome_of, raising, giving}
 use Rattle.te_terms.specs.Settling.{settled}
 
 abbrev number : ℤ → Expression

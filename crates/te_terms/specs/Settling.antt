@@ -6,7 +6,7 @@ use Rattle.te_terms.specs.declared.value.Trap.{Trap}
 use Rattle.te_terms.specs.declared.event.Outcome.{Outcome}
 use Rattle.te_terms.specs.declared.event.Outcome.TheVariants.{Gives, Raises}
 use Rattle.te_terms.specs.Expressions.{value_of}
-use Rattle.te_terms.specs.Terms.{Term, always, never, throw, send, recv, and_then, choose, catch, when, bound}
+use Rattle.te_terms.specs.Terms.{Term, always, never, throw, and_then, choose, catch, when, bound}
 use Rattle.te_terms.specs.Steps.{Member, quiet_step, giving, raising, outcome_of, head}
 use Rattle.te_terms.specs.Joint.{Message, after_choice, sending, receiving}
 

@@ -16,6 +16,7 @@ use std::slice;
 pub enum Node {
     /// Gives the expression's value.
     Always(Expr),
+    /// Has no step.
     Never,
     /// Raises the expression's value.
     Throw(Expr),

@@ -1,9 +1,10 @@
 // The laws of steps, each the contract of a function with nothing to do: what stands on terms goes by these.
 
-ghost use Rattle.std.specs.Prelude.{◌≡◌, ℕ, Bool, Some, None};
+ghost use Rattle.std.specs.Prelude.{◌≡◌, ℕ, Bool, Some, None, List, [], ◌∷◌, ◌++◌, length};
 ghost use Rattle.std.specs.Option.{option_map};
+ghost use Rattle.te_terms.specs.declared.value.Atom.{Atom};
 ghost use Rattle.te_terms.specs.declared.event.Outcome.{Outcome};
-ghost use Rattle.te_terms.specs.Terms.{Term, never, and_then, catch};
+ghost use Rattle.te_terms.specs.Terms.{Term, never, and_then, catch, replaced, closed, bound, scoped};
 ghost use Rattle.te_terms.specs.Steps.{Member, quiet_step, IsSettled, outcome_of, head, with_head};
 ghost use Rattle.te_terms.specs.Joint.{Message, after_choice, sending, receiving};
 ghost use Rattle.te_terms.specs.Settling.{Falls, Quietly, settled, Stands, CannotChoose, IsOpen, under_then, under_catch, then_settled, catch_settled};
@@ -54,4 +55,11 @@ pub fn first_parts_step()
 pub fn heads_are_replaced()
     ensures own { (t : Term) → with_head (head t) t ≡ t }
     ensures other { (u t : Term) → head (with_head u t) ≡ head u }
+{}
+
+/// A term is closed over no inner values at first, and binding the next inner name adds its value to those
+/// before it.
+pub fn bindings_extend()
+    ensures start { (regs : List (List Atom)) (t : Term) → closed regs t ≡ replaced (scoped regs []) t }
+    ensures next { (regs inner : List (List Atom)) (v : List Atom) (t : Term) → bound (length inner) v (replaced (scoped regs inner) t) ≡ replaced (scoped regs (inner ++ v ∷ [])) t }
 {}
