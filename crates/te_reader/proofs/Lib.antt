@@ -1,3 +1,4 @@
+pub mod ChannelIndexLemmas
 pub mod WorkedTexts
 pub mod KeptIsRead
 pub mod SpelledIsRead

@@ -1,6 +1,6 @@
 -- Worked texts: one that is a text of its program, and two that are texts of none.
-use Rattle.std.proofs.Common.{◌≡◌, ℕ, zero, suc, ◌<◌, Bool, true, false, List, [], ◌∷◌, length, refl, sym, ◌∙◌, ap, subst, arith}
-use Rattle.std.specs.Prelude.{Option, Some, None, codes, pos}
+use Rattle.std.proofs.Common.{◌≡◌, ℕ, ◌<◌, Bool, true, List, [], ◌∷◌, length, refl, sym, ◌∙◌, ap, subst, arith}
+use Rattle.std.specs.Prelude.{Some, codes, pos}
 use Rattle.te_terms.specs.Expressions.{register, name, known, int, chan, one, whole, tuple}
 use Rattle.te_terms.specs.Terms.{send, recv}
 use Rattle.te_script.specs.Scripts.{Statement, sync, emit, Thread, Program, AreDistinct}
@@ -29,7 +29,7 @@ exchange = record {
   threads =
       record { name = codes "a"; registers = codes "x" ∷ []; statements = sync 0 (send (chan 0) (tuple (one (int (pos 7)) ∷ []))) ∷ [] }
       ∷ record { name = codes "b"; registers = codes "y" ∷ []; statements = sync 0 (recv (chan 0)) ∷ emit (whole (register 0)) ∷ [] }
-      ∷ []
+      ∷ [];
 }
 
 exchange_is_read : read_text exchange_text ≡ Some exchange

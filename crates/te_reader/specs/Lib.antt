@@ -7,3 +7,4 @@ pub mod Text
 pub mod FirstForm
 pub mod Reads
 pub mod Behind
+pub mod ChannelIndex

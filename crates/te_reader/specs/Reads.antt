@@ -287,6 +287,11 @@ Declares (Ok u) new o = o ≡ Some new
 Declares (Err faults.Refused) new o = o ≡ None
 Declares (Err faults.Memory) new o = Unit {0}
 
+abbrev pub DeclaresChannel : Result (List (List ℕ)) ScriptFault → Option (List (List ℕ)) → Type 0
+DeclaresChannel (Ok more) o = o ≡ Some more
+DeclaresChannel (Err faults.Refused) o = o ≡ None
+DeclaresChannel (Err faults.Memory) o = Unit {0}
+
 abbrev pub DeclaresRegister : Result ℕ ScriptFault → List (List ℕ) → Option (ℕ × List (List ℕ)) → Type 0
 DeclaresRegister (Ok r) new o = o ≡ Some (r, new)
 DeclaresRegister (Err faults.Refused) new o = o ≡ None

@@ -1,34 +1,40 @@
 ghost use Rattle.std.specs.Prelude.{◌≡◌, ◌↔◌, ◌<◌, ◌≤◌, [], length, IsTrue};
-ghost use Rattle.te_reader.specs.Reads.{place_of, declared_in, Declares};
+ghost use Rattle.te_reader.specs.Reads.{place_of, declared_in, DeclaresChannel};
 
 use crate::fault::ScriptFault;
-use crate::names::{declare, place_of};
+use crate::names::declare;
 use std::alloc::Global;
+use std::collections::BTreeMap;
 use std::marker::Model;
 use te_terms::{Name, Rows};
 
-/// The names of channels, of which there are at most 256, seen as the list of them.
+/// The names of channels, of which there are at most 256, with an index by which their numbers are found.
+/// They are seen as the list of the names.
 #[derive(Drop)]
-pub struct Channels {
+pub struct Channels<'a> {
     names: Rows<Name>,
+    numbers: BTreeMap<&'a [u8], u32>,
 }
 
-impl Model for Channels {
-    ghost use Rattle.std.specs.Prelude.{List, ℕ, length, ◌≤◌};
+impl<'a> Model for Channels<'a> {
+    ghost use Rattle.std.specs.Prelude.{List, ℕ};
+    ghost use Rattle.te_reader.specs.ChannelIndex.{IsIndex};
 
     ghost Value = { List (List ℕ) };
 
     ghost view = { λ c. c.names };
 
-    ghost invariant = { λ c. length c.names ≤ 256 };
+    ghost invariant = { λ c. IsIndex c.names c.numbers };
 }
 
-impl Channels {
-    pub fn new(alloc: Global) -> Channels
+impl<'a> Channels<'a> {
+    /// No channel.
+    pub fn new(alloc: Global) -> Channels<'a>
         ensures { result ≡ [] }
     {
         Channels {
             names: Rows::new(alloc),
+            numbers: BTreeMap::new(alloc),
         }
     }
 
@@ -44,24 +50,30 @@ impl Channels {
     pub fn number_of(&self, name: &[u8]) -> Option<u32>
         ensures { result ≡ place_of self.now name.now }
     {
-        match place_of(self.names.as_slice(), name) {
-            Some(place) => Some(place as u32),
-            None => None,
-        }
+        self.numbers.get(name).copied()
     }
 
-    /// Appends a name, as `declare` does.
-    pub fn declare(&mut self, name: &[u8]) -> Result<(), ScriptFault>
+    /// The channels with one name more. It is refused where there are 256, where the name has more than 32
+    /// bytes, and where it is among them.
+    pub fn declare(self, name: &'a [u8]) -> Result<Channels<'a>, ScriptFault>
         requires { 0 < length name.now }
-        ensures { Declares result self.new (declared_in 256 self.old name.now) }
+        ensures { DeclaresChannel result (declared_in 256 self.entry name.now) }
     {
-        declare(256, &mut self.names, name)
+        let Channels {
+            mut names,
+            mut numbers,
+        } = self;
+        let number = names.len() as u32;
+        declare(256, &mut names, name)?;
+        numbers.insert(name, number)?;
+        Ok(Channels { names, numbers })
     }
 
     /// The names by number.
     pub fn into_names(self) -> Rows<Name>
-        ensures { result ≡ self }
+        ensures { result ≡ self.entry }
     {
-        self.names
+        let Channels { names, numbers: _ } = self;
+        names
     }
 }

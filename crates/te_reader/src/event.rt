@@ -12,7 +12,7 @@ use te_terms::{Name, Node, Rows};
 #[tactic(auto, unfolding(crate::specs::Reads::read_event))]
 pub fn read_event(
     cursor: &mut Cursor<'_>,
-    channels: &Channels,
+    channels: &Channels<'_>,
     registers: &Rows<Name>,
 ) -> Result<Node, ScriptFault>
     requires { length registers.now ≤ 8 }

@@ -13,7 +13,7 @@ use te_terms::{Calc, Calcs, Expr, Name, Prim, Rows, Var};
 
 /// Reads the name of a channel.
 #[tactic(auto, unfolding(crate::specs::Reads::read_channel))]
-pub fn read_channel(cursor: &mut Cursor<'_>, channels: &Channels) -> Result<Prim, ScriptFault>
+pub fn read_channel(cursor: &mut Cursor<'_>, channels: &Channels<'_>) -> Result<Prim, ScriptFault>
     ensures { Answers result primitive_of cursor.old cursor.new (read_channel channels.now cursor.old.tokens) }
 {
     let Some(name) = cursor.take_name() else {
@@ -27,7 +27,7 @@ pub fn read_channel(cursor: &mut Cursor<'_>, channels: &Channels) -> Result<Prim
 
 // An integer or a channel.
 #[tactic(auto, unfolding(crate::specs::Reads::read_primitive))]
-fn read_primitive(cursor: &mut Cursor<'_>, channels: &Channels) -> Result<Prim, ScriptFault>
+fn read_primitive(cursor: &mut Cursor<'_>, channels: &Channels<'_>) -> Result<Prim, ScriptFault>
     ensures { Answers result primitive_of cursor.old cursor.new (read_primitive channels.now cursor.old.tokens) }
 {
     let Some(digits) = cursor.take_integer() else {
@@ -40,7 +40,7 @@ fn read_primitive(cursor: &mut Cursor<'_>, channels: &Channels) -> Result<Prim, 
 }
 
 // The calculations of a tuple, up to its end; there is at least one.
-fn read_calculations(cursor: &mut Cursor<'_>, channels: &Channels) -> Result<Calcs, ScriptFault>
+fn read_calculations(cursor: &mut Cursor<'_>, channels: &Channels<'_>) -> Result<Calcs, ScriptFault>
     ensures { Answers result (λ cs. map calculation_of cs) cursor.old cursor.new (read_calculations 4 channels.now cursor.old.tokens) }
 {
     let mut list = [Calc::One(Prim::Int(0)); 4];
@@ -61,7 +61,7 @@ fn read_calculations(cursor: &mut Cursor<'_>, channels: &Channels) -> Result<Cal
 
 // The inside of a tuple, up to its end.
 #[tactic(auto, unfolding(crate::specs::Reads::read_tuple))]
-fn read_tuple(cursor: &mut Cursor<'_>, channels: &Channels) -> Result<Calcs, ScriptFault>
+fn read_tuple(cursor: &mut Cursor<'_>, channels: &Channels<'_>) -> Result<Calcs, ScriptFault>
     ensures { Answers result (λ cs. map calculation_of cs) cursor.old cursor.new (read_tuple channels.now cursor.old.tokens) }
 {
     if !cursor.take_sign(Sign::Close) {
@@ -77,7 +77,7 @@ fn read_tuple(cursor: &mut Cursor<'_>, channels: &Channels) -> Result<Calcs, Scr
 #[tactic(auto, unfolding(crate::specs::Reads::read_expression))]
 pub fn read_expression(
     cursor: &mut Cursor<'_>,
-    channels: &Channels,
+    channels: &Channels<'_>,
     registers: &Rows<Name>,
 ) -> Result<Expr, ScriptFault>
     requires { length registers.now ≤ 8 }

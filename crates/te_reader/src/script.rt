@@ -14,12 +14,12 @@ use std::alloc::Global;
 use te_script::Script;
 
 // Names of channels, up to the `;`.
-fn read_names(alloc: Global, cursor: &mut Cursor<'_>) -> Result<Channels, ScriptFault>
+fn read_names<'a>(alloc: Global, cursor: &mut Cursor<'a>) -> Result<Channels<'a>, ScriptFault>
     ensures { Answers result (λ c. c) cursor.old cursor.new (read_names 256 [] cursor.old.tokens) }
 {
     let mut channels = Channels::new(alloc);
     'names: while let Some(name) = cursor.take_name() {
-        channels.declare(name)?;
+        channels = channels.declare(name)?;
     }
     if !cursor.take_sign(Sign::Semicolon) {
         return Err(ScriptFault::Refused);
@@ -29,7 +29,7 @@ fn read_names(alloc: Global, cursor: &mut Cursor<'_>) -> Result<Channels, Script
 
 // The channels at the front of a script, where it has some.
 #[tactic(auto, unfolding(crate::specs::Reads::read_channels))]
-fn read_channels(alloc: Global, cursor: &mut Cursor<'_>) -> Result<Channels, ScriptFault>
+fn read_channels<'a>(alloc: Global, cursor: &mut Cursor<'a>) -> Result<Channels<'a>, ScriptFault>
     ensures channels { Answers result (λ c. c) cursor.old cursor.new (read_channels cursor.old.tokens) }
     ensures few { IfOk result (λ c. length c ≤ 256) }
 {

@@ -22,7 +22,7 @@ use te_terms::{EventCode, Expr, Name, Node, Rows};
 pub fn read_statement(
     alloc: Global,
     cursor: &mut Cursor<'_>,
-    channels: &Channels,
+    channels: &Channels<'_>,
     registers: &mut Rows<Name>,
 ) -> Result<Stmt, ScriptFault>
     requires { length registers.old ≤ 8 }
@@ -61,7 +61,7 @@ fn sync(alloc: Global, reg: u8, node: Node) -> Result<Stmt, ScriptFault>
 #[tactic(auto, unfolding(crate::specs::Reads::read_emit))]
 fn read_emit(
     cursor: &mut Cursor<'_>,
-    channels: &Channels,
+    channels: &Channels<'_>,
     registers: &Rows<Name>,
 ) -> Result<Expr, ScriptFault>
     requires { length registers.now ≤ 8 }
@@ -78,7 +78,7 @@ fn read_emit(
 #[tactic(auto, unfolding(crate::specs::Reads::read_sync))]
 fn read_sync(
     cursor: &mut Cursor<'_>,
-    channels: &Channels,
+    channels: &Channels<'_>,
     registers: &Rows<Name>,
 ) -> Result<Node, ScriptFault>
     requires { length registers.now ≤ 8 }
@@ -97,7 +97,7 @@ fn read_sync(
 // The number of a register, which is appended where it is a new one.
 #[tactic(auto, unfolding(crate::specs::Reads::register_of))]
 fn register_of(
-    channels: &Channels,
+    channels: &Channels<'_>,
     registers: &mut Rows<Name>,
     name: &[u8],
 ) -> Result<u8, ScriptFault>

@@ -18,7 +18,14 @@ fn is_read(rt: &impl Abort, alloc: Global, text: &[u8]) -> bool {
 }
 
 // A head, so many pieces with their numbers, and a tail.
-fn repeated(alloc: Global, count: u32, head: &str, before: &str, after: &str, tail: &str) -> Result<Vec<u8>, Fail> {
+fn repeated(
+    alloc: Global,
+    count: u32,
+    head: &str,
+    before: &str,
+    after: &str,
+    tail: &str,
+) -> Result<Vec<u8>, Fail> {
     let mut text = Vec::from_slice(alloc, head.as_bytes())?;
     for number in 0..count {
         text.extend_from_slice(before.as_bytes())?;
@@ -40,7 +47,12 @@ fn an_exchange_is_read(rt: HostRuntime) -> Result<(), Fail> {
     for name in channels {
         assert_eq!(rt; name.bytes(), &b"c"[..]);
     }
-    for (thread, (name, register, statements)) in script.threads.as_slice().iter().zip([(&b"a"[..], &b"x"[..], 1), (&b"b"[..], &b"y"[..], 2)]) {
+    for (thread, (name, register, statements)) in script
+        .threads
+        .as_slice()
+        .iter()
+        .zip([(&b"a"[..], &b"x"[..], 1), (&b"b"[..], &b"y"[..], 2)])
+    {
         assert_eq!(rt; thread.name.bytes(), name);
         assert_eq!(rt; thread.stmts.len(), statements);
         for found in thread.regs.as_slice() {
@@ -62,9 +74,18 @@ fn texts_are_read_or_refused(rt: HostRuntime) {
         (b"\t\r\n thread a\n{\t}\r", true),
         (b"channels a; thread a { a2 <- sync recv a; }", true),
         (b"channels c d; thread a { emit (c, d, -1, 00); }", true),
-        (b"thread a { emit (9223372036854775807, -9223372036854775808); }", true),
-        (b"thread a { emit (-0, 000000000000000000000000000000000000001); }", true),
-        (b"thread a { x <- sync always (); y <- sync always x; x <- sync always y; }", true),
+        (
+            b"thread a { emit (9223372036854775807, -9223372036854775808); }",
+            true,
+        ),
+        (
+            b"thread a { emit (-0, 000000000000000000000000000000000000001); }",
+            true,
+        ),
+        (
+            b"thread a { x <- sync always (); y <- sync always x; x <- sync always y; }",
+            true,
+        ),
         (b"", false),
         (b"channels c;", false),
         (b"channels; thread a { }", false),
@@ -85,7 +106,10 @@ fn texts_are_read_or_refused(rt: HostRuntime) {
         (b"thread a { emit (1 2); }", false),
         (b"thread a { emit (9223372036854775808); }", false),
         (b"thread a { emit (-9223372036854775809); }", false),
-        (b"thread a { emit (99999999999999999999999999999999999999999); }", false),
+        (
+            b"thread a { emit (99999999999999999999999999999999999999999); }",
+            false,
+        ),
         (b"thread a { emit (- 1); }", false),
         (b"thread a { } thread", false),
         (b"thread fresh { }", false),
@@ -98,10 +122,22 @@ fn texts_are_read_or_refused(rt: HostRuntime) {
         // names of 32 and 33 bytes, and four and five calculations
         (b"thread abcdefghijklmnopqrstuvwxyz012345 { }", true),
         (b"thread abcdefghijklmnopqrstuvwxyz0123456 { }", false),
-        (b"channels abcdefghijklmnopqrstuvwxyz012345; thread a { }", true),
-        (b"channels abcdefghijklmnopqrstuvwxyz0123456; thread a { }", false),
-        (b"thread a { abcdefghijklmnopqrstuvwxyz012345 <- sync always (); }", true),
-        (b"thread a { abcdefghijklmnopqrstuvwxyz0123456 <- sync always (); }", false),
+        (
+            b"channels abcdefghijklmnopqrstuvwxyz012345; thread a { }",
+            true,
+        ),
+        (
+            b"channels abcdefghijklmnopqrstuvwxyz0123456; thread a { }",
+            false,
+        ),
+        (
+            b"thread a { abcdefghijklmnopqrstuvwxyz012345 <- sync always (); }",
+            true,
+        ),
+        (
+            b"thread a { abcdefghijklmnopqrstuvwxyz0123456 <- sync always (); }",
+            false,
+        ),
         (b"thread a { emit (1, 2, 3, 4); }", true),
         (b"thread a { emit (1, 2, 3, 4, 5); }", false),
     ] {
@@ -112,7 +148,11 @@ fn texts_are_read_or_refused(rt: HostRuntime) {
 #[test]
 fn a_cut_text_is_refused_but_behind_a_thread(rt: HostRuntime) {
     for end in 0..EXCHANGE.len() {
-        assert_eq!(rt; is_read(&rt, rt.alloc(), &EXCHANGE[..end]), end == 46 || end == 47, "{end}");
+        assert_eq!(rt;
+            is_read(&rt, rt.alloc(), &EXCHANGE[..end]),
+            end == 46 || end == 47,
+            "{end}"
+        );
     }
 }
 
@@ -126,7 +166,11 @@ fn each_limit_holds_at_its_last_and_not_one_past(rt: HostRuntime) -> Result<(), 
     ] {
         for (count, want) in [(most, true), (most + 1, false)] {
             let text = repeated(rt.alloc(), count, head, before, after, tail)?;
-            assert_eq!(rt; is_read(&rt, rt.alloc(), text.as_slice()), want, "{count} of {before}");
+            assert_eq!(rt;
+                is_read(&rt, rt.alloc(), text.as_slice()),
+                want,
+                "{count} of {before}"
+            );
         }
     }
     Ok(())

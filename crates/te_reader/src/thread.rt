@@ -17,7 +17,7 @@ use te_terms::{Name, Rows};
 fn read_thread(
     alloc: Global,
     cursor: &mut Cursor<'_>,
-    channels: &Channels,
+    channels: &Channels<'_>,
 ) -> Result<ThreadText, ScriptFault>
     requires { length channels.now ≤ 256 }
     ensures { Answers result (λ t. t) cursor.old cursor.new (read_thread channels.now cursor.old.tokens) }
@@ -38,7 +38,7 @@ fn read_thread(
 fn read_body(
     alloc: Global,
     cursor: &mut Cursor<'_>,
-    channels: &Channels,
+    channels: &Channels<'_>,
     name: Name,
 ) -> Result<ThreadText, ScriptFault>
     requires { length channels.now ≤ 256 }
@@ -61,7 +61,7 @@ fn read_body(
 fn read_new_thread(
     alloc: Global,
     cursor: &mut Cursor<'_>,
-    channels: &Channels,
+    channels: &Channels<'_>,
     names: &mut Rows<Name>,
 ) -> Result<Arc<ThreadText>, ScriptFault>
     requires { length channels.now ≤ 256 }
@@ -81,7 +81,7 @@ fn read_new_thread(
 pub fn read_threads(
     alloc: Global,
     cursor: &mut Cursor<'_>,
-    channels: &Channels,
+    channels: &Channels<'_>,
 ) -> Result<Rows<Arc<ThreadText>>, ScriptFault>
     requires { length channels.now ≤ 256 }
     ensures { Answers result (λ ts. map (λ a. a.value) ts) cursor.old cursor.new (read_threads 64 channels.now [] cursor.old.tokens) }
