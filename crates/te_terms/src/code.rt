@@ -10,6 +10,7 @@ use crate::expr::{Cond, Expr, Operand};
 use std::alloc::Global;
 use std::marker::Model;
 use std::slice;
+use thiserror::Error;
 
 /// One node of an event, with its children by their numbers.
 #[derive(Clone, Copy, Debug, PartialEq, Eq)]
@@ -58,15 +59,19 @@ impl Node {
 }
 
 /// Why a node wasn't taken.
-#[derive(Clone, Copy, Debug, PartialEq, Eq)]
+#[derive(Clone, Copy, Debug, PartialEq, Eq, Error)]
 pub enum CodeFault {
     /// A child is no earlier node, has a parent already, or is named twice.
+    #[error("a child is no earlier node, has a parent already, or is named twice")]
     Child,
     /// There are 4,096 nodes.
+    #[error("there are 4,096 nodes already")]
     Full,
     /// The node's height would pass 32; a leaf has height 1.
+    #[error("the height would pass 32")]
     Depth,
     /// There was no memory.
+    #[error("out of memory")]
     Memory,
 }
 
