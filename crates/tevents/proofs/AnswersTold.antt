@@ -1,8 +1,9 @@
 -- What an answer to the bytes that were read says of all bytes, and which statuses there are.
-use Rattle.std.proofs.Common.{◌≡◌, ◌↔◌, ℕ, ◌≤◌, List, length, take, subst, sym, ◌∙◌, inl, inr, arith}
+use Rattle.std.proofs.Common.{◌≡◌, ◌↔◌, ℕ, ◌≤◌, List, length, take, Result, Ok, Err, subst, sym, ◌∙◌, inl, inr, arith}
+use Rattle.std.specs.Prelude.{IfOk}
 use Rattle.std.proofs.lemmas.List.{take_all}
 use Rattle.tevents.specs.Headline.{IsHeadline}
-use Rattle.tevents.specs.Causes.{IsAnswer, IsDone, IsScriptText, IsStatus}
+use Rattle.tevents.specs.Causes.{IsAnswer, IsDone, IsScriptText, IsStatus, fault_line}
 
 -- at most one byte more than a script may have is read, so a text of a script is read whole
 text_given : (read given : List ℕ) → given ≡ take 1048577 read → IsScriptText read → IsScriptText given
@@ -17,6 +18,11 @@ answer_to_all {written} {status} read given first whole (inl told) =
     inl (subst P (whole told.text.size) told)
 answer_to_all read given first whole (inr fault) =
     inr (record { no_script = λ told. fault.no_script (text_given read given first told); line = fault.line; status_is = fault.status_is })
+
+-- the fault line is an answer where there is no script
+pub fault_is_answer : {W E : Type 0} (text : W → List ℕ) (status : W → ℕ) (read : List ℕ) (answered : Result W E) → (¬ IsScriptText read) → IfOk answered (λ told. (text told ≡ fault_line) × (status told ≡ 5)) → IfOk answered (λ told. IsAnswer read (text told) (status told))
+fault_is_answer text status read (Ok told) none fault = inr (record { no_script = none; line = fault.0; status_is = fault.1 })
+fault_is_answer text status read (Err e) none fault = fault
 
 pub is_status : (read written : List ℕ) (status : ℕ) → IsAnswer read written status → IsStatus status
 is_status read written status (inl told) = elim told.status_of [ inl stuck ↦ inl (inr stuck.1) | inr none ↦ inl (inl none.1) ]
