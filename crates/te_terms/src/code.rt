@@ -163,6 +163,17 @@ impl EventCode {
         self.mark(i).weight
     }
 
+    /// The height of the term under node `i`; a leaf has height 1. It is public for the crates above alone,
+    /// which take room for a walk through the term at once.
+    #[doc(hidden)]
+    pub fn height(&self, i: u32) -> u32
+        requires { i < length self.now }
+        ensures value { result ≡ height (term_under self.now i) }
+        ensures low { result ≤ 32 }
+    {
+        self.mark(i).height
+    }
+
     fn mark(&self, i: u32) -> Mark
         requires { i < length self.now }
         ensures tells { Tells self.now i result }

@@ -1,0 +1,9 @@
+pub mod InLayers
+pub mod Unwinds
+pub mod NodesLead
+pub mod Standing
+pub mod OneStop
+pub mod Stepping
+pub mod Choosing
+pub mod Handing
+pub mod Ending

@@ -1,0 +1,5 @@
+pub mod Layers
+pub mod Paths
+pub mod Unwinding
+pub mod Places
+pub mod Leading
