@@ -1,4 +1,4 @@
-ghost use Rattle.std.specs.Prelude.{◌≡◌, ◌≢◌, ◌↔◌, ◌<◌, ◌≤◌, ℕ, List, [], ◌∷◌, ◌++◌, length, slice_get, IfOk, IfErr, OnErr, IfSome, IsTrue, Err};
+ghost use Rattle.std.specs.Prelude.{◌≡◌, ◌≢◌, ◌↔◌, ◌<◌, ◌≤◌, ℕ, List, [], ◌∷◌, ◌++◌, length, slice_get, IfOk, IfErr, OnOk, OnErr, IfSome, IsTrue, Err, vec_len, vec_capacity};
 ghost use Rattle.std.specs.Option.{ForSome};
 ghost use Rattle.te_terms.specs.declared.code.Node.{Node};
 ghost use Rattle.te_terms.specs.declared.code.CodeFault.TheVariants as faults;
@@ -215,9 +215,8 @@ impl EventCode {
     {
         let number = self.nodes.len() as u32;
         let children = node.children();
-        let Ok(()) = self.marks.reserve(1) else {
-            return Err(CodeFault::Memory);
-        };
+        make_room(&mut self.marks)?;
+        make_room(&mut self.nodes)?;
         // By reference: the prover takes no enum that holds another one with a model through `Vec::push`.
         let Ok(()) = self.nodes.extend_from_slice(slice::from_ref(&node)) else {
             return Err(CodeFault::Memory);
@@ -254,6 +253,23 @@ impl EventCode {
             is_child: false,
         };
         self.append(node, mark)
+    }
+}
+
+// Makes room for one more: at first for exactly one, since many codes have one node.
+fn make_room<T>(list: &mut Vec<T>) -> Result<(), CodeFault>
+    ensures items { list.new.items ≡ list.old.items }
+    ensures ok { OnOk result (vec_len list.new < vec_capacity list.new) }
+    ensures memory { IfErr result (λ e. e ≡ faults.Memory) }
+{
+    let made = if list.is_empty() {
+        list.reserve_exact(1)
+    } else {
+        list.reserve(1)
+    };
+    match made {
+        Ok(()) => Ok(()),
+        Err(_) => Err(CodeFault::Memory),
     }
 }
 

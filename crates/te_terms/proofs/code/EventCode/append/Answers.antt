@@ -10,9 +10,9 @@ use Rattle.te_terms.proofs.code.EventCode.append.Goals as goal
 pub adopt-requires : goal.adopt-requires
 adopt-requires c = λ x some.
     let within = free_within c.args.self.now c.args.node c.children-children.result c.requires.free c.children-children.ensures x some in
-    let longer = length-append c.reserve.new.self.items (c.args.mark ∷ []) in (
-      omega (arith, within.0, longer, c.self.invariant.as_many, ap length c.self.view_is, ap length c.push_reserved.ensures.items, ap length c.reserve.ensures.items),
-      omega (arith, within.1, longer, c.self.invariant.as_many, ap length c.self.view_is, ap length c.push_reserved.ensures.items, ap length c.reserve.ensures.items),
+    let longer = length-append c.make_room.new.list.items (c.args.mark ∷ []) in (
+      omega (arith, within.0, longer, c.self.invariant.as_many, ap length c.self.view_is, ap length c.push_reserved.ensures.items, ap length c.make_room.ensures.items),
+      omega (arith, within.1, longer, c.self.invariant.as_many, ap length c.self.view_is, ap length c.push_reserved.ensures.items, ap length c.make_room.ensures.items),
     )
 
 pub invariant_of-self-2 : goal.invariant_of-self-2
@@ -20,9 +20,9 @@ invariant_of-self-2 c =
     let Kept : List Node → Type 0 = λ code. IsKept code c.self.inside.marks.items in
     let more = kept_more c.args.self.now c.self.inside.marks.items c.args.node c.args.mark (subst Kept c.self.view_is c.self.invariant) c.requires.free c.requires.few c.requires.low c.requires.told in
     let nodes : c.args.self.now ++ c.args.node ∷ [] ≡ c.extend_from_slice.new.self.items =
-    cc (c.self.view_is, c.in-Ok-extend_from_slice.ensures.items, c.from_ref.ensures.value) in
+    cc (c.self.view_is, c.in-Ok.ensures.items, c.make_room-2.ensures.items, c.from_ref.ensures.value) in
     let marks : adopted (children c.args.node) (c.self.inside.marks.items ++ c.args.mark ∷ []) ≡ c.adopt.new.marks.items =
-    cc (c.adopt.ensures, c.children-children.ensures, c.push_reserved.ensures.items, c.in-Ok.ensures.items) in
+    cc (c.adopt.ensures, c.children-children.ensures, c.push_reserved.ensures.items, c.make_room.ensures.items) in
     let P : List Node → Type 0 = λ code. IsKept code (adopted (children c.args.node) (c.self.inside.marks.items ++ c.args.mark ∷ [])) in
     let Q : List Mark → Type 0 = λ ms. IsKept c.extend_from_slice.new.self.items ms in
     subst Q marks (subst P nodes more)
