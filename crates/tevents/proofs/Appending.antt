@@ -1,4 +1,4 @@
--- What one entry more changes: the state, what a thread has taken, and whether each entry is wished.
+-- What one entry more changes: what a thread has taken, and whether each entry is wished.
 use Rattle.std.proofs.Common.{◌≡◌, ℕ, Bool, true, false, cond, eqb, List, [], ◌∷◌, ◌++◌, refl, sym, ap, subst, ◌∙◌, append_assoc}
 use Rattle.std.proofs.lemmas.List.{append-nil}
 use Rattle.std.specs.Prelude.{slice_get}
@@ -7,16 +7,8 @@ use Rattle.te_terms.specs.declared.event.Outcome.{Outcome}
 use Rattle.te_script.specs.Scripts.{Thread}
 use Rattle.tevents.specs.declared.history.Entry.{Entry}
 use Rattle.tevents.specs.declared.history.Entry.TheVariants as entries
-use Rattle.tevents.specs.State.{State, state, state_from, changed, opening}
 use Rattle.tevents.specs.Follows.{caller_of}
 use Rattle.tevents.specs.OfScript.{taken, taken_from, WishedBy, WishedFrom}
-
-state_from-append : (s : State) (xs ys : List Entry) → state_from s (xs ++ ys) ≡ state_from (state_from s xs) ys
-state_from-append s [] ys = refl
-state_from-append s (x ∷ xs) ys = state_from-append (changed s x) xs ys
-
-pub state_more : (callers : ℕ) (history : List Entry) (e : Entry) → state callers (history ++ e ∷ []) ≡ changed (state callers history) e
-state_more callers history e = state_from-append (opening callers) history (e ∷ [])
 
 taken_step : (t : ℕ) (e : Entry) (rest : List Outcome) → taken_from t e rest ≡ taken_from t e [] ++ rest
 taken_step t (entries.Take by ticket outcome) rest = at (eqb by t)

@@ -15,7 +15,8 @@ use Rattle.tevents.specs.Rounds.{OpensBy}
 use Rattle.tevents.specs.Boards.{Log, now, appended}
 use Rattle.tevents.specs.Runs.{BoardOpened, HasOpened}
 use Rattle.tevents.specs.Houses.{Run, grown, threads_of, CommitsTightly, entries_left, all_left, stuck_left, FitsNext, IsCoreOf, AreCoresOf, IsHouse}
-use Rattle.tevents.proofs.Appending.{state_more, taken_more, wished_more, all_more}
+use Rattle.tevents.proofs.AfterEntry.{state-after}
+use Rattle.tevents.proofs.Appending.{taken_more, wished_more, all_more}
 use Rattle.tevents.proofs.HouseState.{run_of}
 use Rattle.tevents.proofs.CoresKept.{core_from, stands_otherwise, all_left_at, set_same, same_core}
 
@@ -42,7 +43,7 @@ pub otherwise_kept : (log : Log) (cores : List At) (t : ℕ) (c : At) (e : Entry
     → changed (now log) e ≡ with_standing t new (now log) → caller_of e ≡ t → ((u : ℕ) → taken_from u e [] ≡ []) → IsWished (wish_at c.stand) e → CommitsTightly e
     → FitsNext new c.stand.next → entries_left new c.stand.next + 1 ≤ entries_left old c.stand.next → IsHouse (appended log e) cores
 otherwise_kept log cores t c e old new h is stood change by takes w tight fits less =
-    let now_is : now (appended log e) ≡ with_standing t new (now log) = state_more log.callers log.history e ∙ change in
+    let now_is : now (appended log e) ≡ with_standing t new (now log) = state-after log.callers log.history e ∙ change in
     let no_more : (u : ℕ) → taken u (log.history ++ e ∷ []) ≡ taken u log.history = λ u. taken_more u log.history e ∙ ap (λ os. taken u log.history ++ os) (takes u) ∙ append-nil (taken u log.history) in
     let same : slice_set cores t c ≡ cores = set_same cores t c is in
     let left = all_left_at t (now log).callers cores old new c c stood is in

@@ -18,14 +18,14 @@ use Rattle.tevents.specs.Follows.{Stands, IsRunning, IsParkedOrEnded, ThreadsRis
 use Rattle.tevents.specs.Rounds.{OpensBy, OpensFrom, TakesBy, TakesOf}
 use Rattle.tevents.specs.Houses.{Run, grown, state_of}
 use Rattle.tevents.specs.Runs.{NoneGiven, IsGivenIn, HasOpened, HasTakenOne, HasCommittedGroup, HasCommittedBlock}
-use Rattle.tevents.proofs.Appending.{state_more}
+use Rattle.tevents.proofs.AfterEntry.{state-after}
 
 pub grown_twice : (run : Run) (xs ys : List Entry) → grown (grown run xs) ys ≡ grown run (xs ++ ys)
 grown_twice run xs ys = λ i. record { threads = run.threads; history = append_assoc run.history xs ys i }
 
 -- one entry more
 pub state_grown : (old new : Run) (e : Entry) → new ≡ grown old (e ∷ []) → state_of new ≡ changed (state_of old) e
-state_grown old new e is = ap state_of is ∙ state_more (length old.threads) old.history e
+state_grown old new e is = ap state_of is ∙ state-after (length old.threads) old.history e
 
 -- ---- after an opening
 

@@ -13,7 +13,8 @@ use Rattle.tevents.specs.Follows.{Stands, Ends, IsRunning}
 use Rattle.tevents.specs.OfScript.{taken, WishedBy}
 use Rattle.tevents.specs.Boards.{Log, now, appended}
 use Rattle.tevents.specs.Houses.{all_left, stuck_left, threads_of, CommitsTightly, AreCoresOf, IsHouse}
-use Rattle.tevents.proofs.Appending.{state_more, taken_more, wished_more, all_more}
+use Rattle.tevents.proofs.AfterEntry.{state-after}
+use Rattle.tevents.proofs.Appending.{taken_more, wished_more, all_more}
 use Rattle.tevents.proofs.CoresKept.{core_within, AreCoresOf-later}
 use Rattle.tevents.proofs.HouseState.{stands_within}
 use Rattle.tevents.proofs.OpeningsKept.{otherwise_kept}
@@ -27,7 +28,7 @@ wished_stuck (c ∷ cs) (suc i) t outs lt = wished_stuck cs i t outs (omega arit
 pub stuck_kept : (log : Log) (cores : List At) (t ticket : ℕ) (event : Term) → IsHouse log cores → IsRunning (now log) → Stands (now log) t (parked ticket event) → IsHouse (appended log (entries.Stuck t)) cores
 stuck_kept log cores t ticket event h running stood =
     let e : Entry = entries.Stuck t in
-    let now_is = state_more log.callers log.history e in
+    let now_is = state-after log.callers log.history e in
     let no_more : (u : ℕ) → taken u (log.history ++ e ∷ []) ≡ taken u log.history = λ u. taken_more u log.history e ∙ append-nil (taken u log.history) in
     let lt = stands_within log cores t (parked ticket event) h stood in
     record {

@@ -13,7 +13,7 @@ use Rattle.tevents.specs.Follows.{IsParkedOrEnded}
 use Rattle.tevents.specs.Boards.{ShowsPlace}
 use Rattle.tevents.specs.Houses.{Run, grown, state_of}
 use Rattle.tevents.specs.Runs.{NoneGiven, HasOpened, HasOpenedAll, HasEndedAll}
-use Rattle.tevents.proofs.HouseState.{state_length}
+use Rattle.tevents.proofs.AfterEntry.{length-state}
 use Rattle.tevents.proofs.RoundsSoFar.{OpenedSoFar, Callers, skipped, opened_one, shown_idle, shown_settled, none_while, all_opened}
 use Rattle.tevents.proofs.ClosingsSoFar.{LookedSoFar, looked_first, looked_other, looked_ended, EndedSoFar, ended_one, ended_skip, ended_all, shown_parked, shown_ended, shown_past}
 
@@ -23,8 +23,8 @@ turn_of t = omega arith
 -- a run that has only grown has as many threads
 callers_within : (old now : Run) (es : List Entry) (n t : ℕ) → now ≡ grown old es → n ≡ length old.threads → n ≤ t → (length (Callers old) ≤ t) × (length (Callers now) ≤ t)
 callers_within old now es n t grows is le = (
-  let at = state_length (length old.threads) old.history in omega (arith, at, is, le),
-  let at = state_length (length now.threads) now.history in let same : length now.threads ≡ length old.threads = ap (λ (r : Run). length r.threads) grows in omega (arith, at, same, is, le),
+  let at = length-state (length old.threads) old.history in omega (arith, at, is, le),
+  let at = length-state (length now.threads) now.history in let same : length now.threads ≡ length old.threads = ap (λ (r : Run). length r.threads) grows in omega (arith, at, same, is, le),
 )
 
 -- ---- openings
