@@ -1,7 +1,7 @@
 -- Pieces that were written one after another are one piece.
 use Rattle.std.proofs.Common.{◌≡◌, ◌+◌, ◌-◌, ◌≤◌, ℕ, List, ◌++◌, length, take, drop, refl, append_assoc, arith, length-drop}
 use Rattle.std.specs.Prelude.{Option}
-use Rattle.std.proofs.Math.Seq.{take-add, take-length}
+use Rattle.std.proofs.Math.Seq.{take-add}
 use Rattle.std.proofs.lemmas.List.{append-nil, drop-drop, take_rest}
 use Rattle.te_io.specs.Stream.{GrewBy, GrewByPrefix}
 
@@ -48,15 +48,6 @@ piece_written {before} {now} {after} {bytes} {rest} n w fits grew =
       rest_is = rw (take_rest, w.rest_is, drop-drop);
       grew = grew_on n w grew;
     }
-
--- with no rest all is written
-pub all_written : {before now : Option (List ℕ)} {bytes rest : List ℕ} → IsWritten before now bytes rest
-    → length rest ≡ 0 → GrewBy before now bytes
-all_written {before} {now} {bytes} {rest} w none held was =
-    let whole : length rest + w.count ≡ length bytes = rest_length w in
-    let all : w.count ≡ length bytes = omega arith in
-    let front : take w.count bytes ≡ bytes = rw all (take-length bytes) in
-    rw front at (w.grew held was)
 
 -- a prefix of the rest makes a longer prefix
 pub prefix_written : {before now after : Option (List ℕ)} {bytes rest : List ℕ} → IsWritten before now bytes rest

@@ -83,10 +83,6 @@ AreStatements channels registers written (sync r t ∷ rest) =
 AreStatements channels registers written (emit e ∷ rest) =
     IsExpression (record { written = written; level = 0; channels = channels }) e × AreStatements channels registers written rest
 
--- 1 to 32 bytes
-abbrev pub IsName : List ℕ → Type 0
-IsName bytes = (0 < length bytes) × (length bytes ≤ 32)
-
 -- no two are equal
 abbrev pub AreDistinct : List (List ℕ) → Type 0
 AreDistinct [] = Unit {0}

@@ -35,9 +35,6 @@ all_at P [] t x h e = absurd cc
 all_at P (c ∷ cs) zero x h e = let same : c ≡ x = cc in subst P same h.0
 all_at P (c ∷ cs) (suc t) x h e = all_at P cs t x h.1 e
 
-pub settled_none : (s : State) → AllByRecursion IsParkedOrEnded s.callers → NoneGiven s
-settled_none s h t ticket o stood = all_at IsParkedOrEnded s.callers t (given ticket o) h stood
-
 -- ---- one round is no empty one
 
 some_of_block : (b : List Entry) → IsBlock b → 1 ≤ length b
@@ -155,13 +152,6 @@ all_idle (suc n) (suc t) ticket o e = all_idle n t ticket o e
 pub run_begins : (script : Program) (run : Run) → run ≡ record { threads = script.threads; history = [] } → RunSoFar script run
 run_begins script run is =
     subst (λ (x : Run). RunSoFar script x) (sym is) (record { threads = refl; rounds = []; parts = refl; are_rounds = tt; goes_on = inr (refl, λ t ticket o stood. all_idle (length script.threads) t ticket o stood) })
-
-pub can_go_on : (script : Program) (run : Run) → RunSoFar script run → ¬ IsWhole (length run.threads) run.history → IsRunning (state_of run) × NoneGiven (state_of run)
-can_go_on script run h undone = at h.goes_on
-  where
-    at : IsWhole (length run.threads) run.history ⊎ (IsRunning (state_of run) × NoneGiven (state_of run)) → IsRunning (state_of run) × NoneGiven (state_of run)
-    at (inl whole) = absurd (undone whole)
-    at (inr go) = go
 
 rounds_end : (callers : ℕ) (before : List Entry) (rs : List Round) → RoundsFrom callers before rs → IsWhole callers (before ++ flat_map entries_of rs) → AreRounds callers before rs
 rounds_end callers before [] h whole = subst (IsWhole callers) (append-nil before) whole
