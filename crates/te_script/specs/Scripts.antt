@@ -79,7 +79,8 @@ with_register written r = if nat_lt r written then written else suc r
 abbrev pub AreStatements : ℕ → ℕ → ℕ → List Statement → Type 0
 AreStatements channels registers written [] = written ≡ registers
 AreStatements channels registers written (sync r t ∷ rest) =
-    (r ≤ written) × IsEvent (record { written = written; level = 0; channels = channels }) t × IsWithin t × AreStatements channels registers (with_register written r) rest
+    (r ≤ written) × IsEvent (record { written = written; level = 0; channels = channels }) t × IsWithin t
+    × AreStatements channels registers (with_register written r) rest
 AreStatements channels registers written (emit e ∷ rest) =
     IsExpression (record { written = written; level = 0; channels = channels }) e × AreStatements channels registers written rest
 

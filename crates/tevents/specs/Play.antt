@@ -95,7 +95,10 @@ pub record Ends : Type 0 where
 
 abbrev pub met_by : Player → Player → Option Message → Option ℕ → Option Ends
 met_by s r (Some m) (Some c) =
-    if m.channel == c then Some (record { sender = with_term s (with_head (giving []) s.member.term); receiver = with_term r (with_head (giving m.value) r.member.term) }) else None
+    if m.channel == c then Some (record {
+      sender = with_term s (with_head (giving []) s.member.term);
+      receiver = with_term r (with_head (giving m.value) r.member.term);
+    }) else None
 met_by s r _ _ = None
 
 abbrev pub met : Option Player → Option Player → Option Ends
