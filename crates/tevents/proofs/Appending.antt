@@ -2,7 +2,6 @@
 use Rattle.std.proofs.Common.{◌≡◌, ℕ, Bool, true, false, cond, eqb, List, [], ◌∷◌, ◌++◌, refl, sym, ap, subst, ◌∙◌, append_assoc}
 use Rattle.std.proofs.lemmas.List.{append-nil}
 use Rattle.std.specs.Prelude.{slice_get}
-use Rattle.std.specs.List.{AllByRecursion}
 use Rattle.te_terms.specs.declared.event.Outcome.{Outcome}
 use Rattle.te_script.specs.Scripts.{Thread}
 use Rattle.tevents.specs.declared.history.Entry.{Entry}
@@ -34,7 +33,3 @@ pub wished_more : (threads : List Thread) (before history : List Entry) (e : Ent
 wished_more threads before [] e h w = (subst (λ b. WishedBy (slice_get threads (caller_of e)) (taken (caller_of e) b) e) (append-nil before) w, tt)
 wished_more threads before (x ∷ xs) e h w =
     (h.0, wished_more threads (before ++ x ∷ []) xs e h.1 (subst (λ b. WishedBy (slice_get threads (caller_of e)) (taken (caller_of e) b) e) (sym (append_assoc before (x ∷ []) xs)) w))
-
-pub all_more : {A : Type 0} (P : A → Type 0) (xs : List A) (x : A) → AllByRecursion P xs → P x → AllByRecursion P (xs ++ x ∷ [])
-all_more P [] x h p = (p, tt)
-all_more P (y ∷ ys) x h p = (h.0, all_more P ys x h.1 p)

@@ -7,6 +7,7 @@ use Rattle.std.specs.List.{AllByRecursion}
 use Rattle.te_terms.specs.Terms.{Term}
 use Rattle.te_terms.specs.declared.event.Parked.{Parked}
 use Rattle.te_script.proofs.Places.{slice_get_set_same}
+use Rattle.te_script.proofs.Appending.{AllByRecursion-append}
 use Rattle.tevents.specs.declared.history.How.TheVariants as ways
 use Rattle.tevents.specs.declared.history.Entry.{Entry}
 use Rattle.tevents.specs.declared.history.Entry.TheVariants as entries
@@ -18,7 +19,6 @@ use Rattle.tevents.specs.Rounds.{EndsOf, EndsStuck, IsStuckDue, IsLowestParked}
 use Rattle.tevents.specs.Boards.{ShowsPlace}
 use Rattle.tevents.specs.Houses.{Run, grown, state_of}
 use Rattle.tevents.specs.Runs.{HasEndedAll, HasClosed}
-use Rattle.tevents.proofs.Appending.{all_more}
 use Rattle.tevents.proofs.RunStates.{grown_twice, state_grown}
 use Rattle.tevents.proofs.RoundsSoFar.{Callers, slice_at_cut, drop_next, take_next, drop_set, take_set, take-past}
 
@@ -59,7 +59,7 @@ looked_first s t ticket event h stood =
     let next = take_next s.callers t (parked ticket event) stood in
     let count = front_length s t (parked ticket event) stood in
     record {
-      settled = subst (λ (cs : List Standing). AllByRecursion IsParkedOrEnded cs) (sym next) (all_more IsParkedOrEnded (take t s.callers) (parked ticket event) h.settled tt);
+      settled = subst (λ (cs : List Standing). AllByRecursion IsParkedOrEnded cs) (sym next) (AllByRecursion-append IsParkedOrEnded (take t s.callers) (parked ticket event) h.settled tt);
       lowest_is = ap (λ (cs : List Standing). lowest_of (parked_from 0 cs)) next ∙ ap lowest_of (parked_more 0 (take t s.callers) (parked ticket event) ∙ none_yet (parked_from 0 (take t s.callers)) _ h.lowest_is) ∙ ap Some count;
     }
 
@@ -67,7 +67,7 @@ pub looked_other : (s : State) (t low ticket : ℕ) (event : Term) → LookedSoF
 looked_other s t low ticket event h stood =
     let next = take_next s.callers t (parked ticket event) stood in
     record {
-      settled = subst (λ (cs : List Standing). AllByRecursion IsParkedOrEnded cs) (sym next) (all_more IsParkedOrEnded (take t s.callers) (parked ticket event) h.settled tt);
+      settled = subst (λ (cs : List Standing). AllByRecursion IsParkedOrEnded cs) (sym next) (AllByRecursion-append IsParkedOrEnded (take t s.callers) (parked ticket event) h.settled tt);
       lowest_is = ap (λ (cs : List Standing). lowest_of (parked_from 0 cs)) next ∙ ap lowest_of (parked_more 0 (take t s.callers) (parked ticket event)) ∙ lowest_more (parked_from 0 (take t s.callers)) _ low h.lowest_is;
     }
 
@@ -75,7 +75,7 @@ pub looked_ended : (s : State) (t : ℕ) (lowest : Option ℕ) → LookedSoFar s
 looked_ended s t lowest h stood =
     let next = take_next s.callers t ended stood in
     record {
-      settled = subst (λ (cs : List Standing). AllByRecursion IsParkedOrEnded cs) (sym next) (all_more IsParkedOrEnded (take t s.callers) ended h.settled tt);
+      settled = subst (λ (cs : List Standing). AllByRecursion IsParkedOrEnded cs) (sym next) (AllByRecursion-append IsParkedOrEnded (take t s.callers) ended h.settled tt);
       lowest_is = ap (λ (cs : List Standing). lowest_of (parked_from 0 cs)) next ∙ ap lowest_of (parked_more 0 (take t s.callers) ended ∙ append-nil (parked_from 0 (take t s.callers))) ∙ h.lowest_is;
     }
 
@@ -136,7 +136,7 @@ ended_one old now new t ticket event h stood k =
       are_ends = subst (λ (ps : List Parked). EndsOf ps (h.ends ++ e ∷ [])) (sym list) (ends_more (parked_from 0 (take t (Callers old))) h.ends _ e h.are_ends (sym count));
       grows = k ∙ ap (λ (r : Run). grown r (e ∷ [])) h.grows ∙ grown_twice old h.ends (e ∷ []);
       stuck = ap (λ (s : State). s.stuck) shows ∙ h.stuck;
-      behind = subst (λ (cs : List Standing). AllByRecursion (λ c. c ≡ ended) cs) (sym (take_next (Callers new) t ended here)) (subst (λ (cs : List Standing). AllByRecursion (λ c. c ≡ ended) (cs ++ ended ∷ [])) (sym front) (all_more (λ c. c ≡ ended) (take t (Callers now)) ended h.behind refl));
+      behind = subst (λ (cs : List Standing). AllByRecursion (λ c. c ≡ ended) cs) (sym (take_next (Callers new) t ended here)) (subst (λ (cs : List Standing). AllByRecursion (λ c. c ≡ ended) (cs ++ ended ∷ [])) (sym front) (AllByRecursion-append (λ c. c ≡ ended) (take t (Callers now)) ended h.behind refl));
       ahead = ap (λ (cs : List Standing). drop (suc t) cs) callers ∙ drop_set (Callers now) t ended ∙ drop_next (Callers now) t ∙ ap (λ (cs : List Standing). drop 1 cs) h.ahead ∙ sym (drop_next (Callers old) t);
     }
 
@@ -149,7 +149,7 @@ ended_skip old now t h stood =
       are_ends = subst (λ (ps : List Parked). EndsOf ps h.ends) (sym list) h.are_ends;
       grows = h.grows;
       stuck = h.stuck;
-      behind = subst (λ (cs : List Standing). AllByRecursion (λ c. c ≡ ended) cs) (sym (take_next (Callers now) t ended stood)) (all_more (λ c. c ≡ ended) (take t (Callers now)) ended h.behind refl);
+      behind = subst (λ (cs : List Standing). AllByRecursion (λ c. c ≡ ended) cs) (sym (take_next (Callers now) t ended stood)) (AllByRecursion-append (λ c. c ≡ ended) (take t (Callers now)) ended h.behind refl);
       ahead = drop_next (Callers now) t ∙ ap (λ (cs : List Standing). drop 1 cs) h.ahead ∙ sym (drop_next (Callers old) t);
     }
 

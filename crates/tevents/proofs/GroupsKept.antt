@@ -13,6 +13,7 @@ use Rattle.te_terms.specs.Steps.{outcome_of}
 use Rattle.te_script.specs.Wishes.{Next, waits, ended, failed}
 use Rattle.te_script.specs.Cores.{At, IsWaiting}
 use Rattle.te_script.proofs.Places.{slice_get_set_same, slice_get_set_other}
+use Rattle.te_script.proofs.Appending.{AllByRecursion-append}
 use Rattle.tevents.specs.declared.cert.Member.{Member}
 use Rattle.tevents.specs.declared.cert.Meeting.{Meeting}
 use Rattle.tevents.specs.declared.cert.Cert.{Cert}
@@ -29,7 +30,7 @@ use Rattle.tevents.specs.Groups.{threads_of as group_threads}
 use Rattle.tevents.specs.Houses.{Run, grown, state_of, syncs_left, all_left, stuck_left, threads_of, CommitsTightly, AreCoresOf, IsHouse}
 use Rattle.tevents.specs.Runs.{IsGivenIn, HasCommittedGroup}
 use Rattle.tevents.proofs.AfterEntry.{state-after, length-state}
-use Rattle.tevents.proofs.Appending.{taken_more, wished_more, all_more}
+use Rattle.tevents.proofs.Appending.{taken_more, wished_more}
 use Rattle.tevents.proofs.CoresKept.{core_within, stands_otherwise, all_left_at, set_same, same_core, AreCoresOf-later}
 use Rattle.tevents.proofs.HouseState.{run_of, house_state}
 
@@ -207,7 +208,7 @@ committed_kept log new cores threads h done =
       callers = h.callers;
       cores_stand = subst (λ (s : State). AreCoresOf (log.history ++ e ∷ []) 0 s.callers cores) (sym now_is) (AreCoresOf-later log.history (log.history ++ e ∷ []) 0 (with_given ms done.outcomes (now log)).callers cores no_more gives.cores_stand);
       wished = wished_more (threads_of cores) [] log.history e h.wished (wished_any cores done.by done.by (taken done.by log.history) done.cert done.outcomes lt);
-      tight = all_more CommitsTightly log.history e h.tight done.tight;
+      tight = AllByRecursion-append CommitsTightly log.history e h.tight done.tight;
       few = subst (λ (s : State). length (log.history ++ e ∷ []) + all_left s.callers cores + stuck_left s.stuck ≤ 200000) (sym now_is) (omega (arith, h.few, length-append log.history (e ∷ []), gives.less, some, ap stuck_left gives.stuck));
     })
 

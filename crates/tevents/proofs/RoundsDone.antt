@@ -17,6 +17,7 @@ use Rattle.tevents.specs.SerialRuns.{IsSerialRun}
 use Rattle.tevents.specs.Houses.{Run, grown, state_of, IsKept}
 use Rattle.tevents.specs.Runs.{NoneGiven, HasOpenedAll, HasCommittedAll, HasClosed, HasRound}
 use Rattle.tevents.proofs.RunStates.{grown_twice}
+use Rattle.tevents.proofs.RoundsSoFar.{some_of_block}
 
 -- all parked or ended, and nobody parked: all have ended
 all_past : (u : ℕ) (cs : List Standing) → AllByRecursion IsParkedOrEnded cs → parked_from u cs ≡ [] → AllByRecursion (λ c. c ≡ ended) cs
@@ -29,17 +30,7 @@ all_past u (parked k x ∷ cs) h e = absurd (differ e)
     differ : record { thread = u; ticket = k; event = x } ∷ parked_from (suc u) cs ≡ [] → ⊥
     differ e = cc
 
--- nobody holds an outcome where all are parked or ended
-all_at : (P : Standing → Type 0) (cs : List Standing) (t : ℕ) (x : Standing) → AllByRecursion P cs → slice_get cs t ≡ Some x → P x
-all_at P [] t x h e = absurd cc
-all_at P (c ∷ cs) zero x h e = let same : c ≡ x = cc in subst P same h.0
-all_at P (c ∷ cs) (suc t) x h e = all_at P cs t x h.1 e
-
 -- ---- one round is no empty one
-
-some_of_block : (b : List Entry) → IsBlock b → 1 ≤ length b
-some_of_block [] h = absurd h
-some_of_block (e ∷ es) h = omega arith
 
 some_of_closing : (s : State) (closing : List Entry) → IsStuckAndEnds s closing → 1 ≤ length closing
 some_of_closing s [] h = absurd h

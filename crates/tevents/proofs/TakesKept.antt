@@ -20,9 +20,10 @@ use Rattle.tevents.specs.Boards.{Log, now, appended, HasTaken}
 use Rattle.tevents.specs.Runs.{HasTakenOne}
 use Rattle.tevents.specs.Houses.{Run, grown, syncs_in, syncs_left, all_left, stuck_left, threads_of, CommitsTightly, IsCoreOf, AreCoresOf, IsHouse}
 use Rattle.tevents.proofs.AfterEntry.{state-after}
-use Rattle.tevents.proofs.Appending.{taken_more, wished_more, all_more}
+use Rattle.tevents.proofs.Appending.{taken_more, wished_more}
 use Rattle.tevents.proofs.CoresKept.{core_within, moves_on, all_left_at, same_core}
 use Rattle.te_script.proofs.OneMore.{one_more}
+use Rattle.te_script.proofs.Appending.{AllByRecursion-append}
 use Rattle.tevents.proofs.HouseState.{stands_within, run_of}
 use Rattle.tevents.proofs.OpeningsKept.{thread_of}
 use Rattle.tevents.proofs.GroupsKept.{run_grown}
@@ -89,7 +90,7 @@ taken_kept log new cores t c c' o h done is moved_so =
       callers = h.callers ∙ sym (length-set cores t c');
       cores_stand = subst (λ (s : State). AreCoresOf (log.history ++ e ∷ []) 0 s.callers (slice_set cores t c')) (sym now_is) (moves_on log.history (log.history ++ e ∷ []) 0 t (now log).callers cores idle c' others h.cores_stand lt is_core);
       wished = rw (threads_same cores t c c' is same_thread) (wished_more (threads_of cores) [] log.history e h.wished (subst (λ th. WishedBy th (taken t log.history) e) (sym (thread_of cores t c is)) tt));
-      tight = all_more CommitsTightly log.history e h.tight tt;
+      tight = AllByRecursion-append CommitsTightly log.history e h.tight tt;
       few = subst (λ (s : State). length (log.history ++ e ∷ []) + all_left s.callers (slice_set cores t c') + stuck_left s.stuck ≤ 200000) (sym now_is) (omega (arith, h.few, length-append log.history (e ∷ []), left, less));
     })
   where
