@@ -1,18 +1,14 @@
 -- Pieces that were read one after another are the front of what the source held.
-use Rattle.std.proofs.Common.{◌≡◌, ◌+◌, ◌<◌, ◌≤◌, ℕ, List, ◌++◌, [], length, take, drop, Some, refl, sym, ◌∙◌, ap, arith, length-append}
+use Rattle.std.proofs.Common.{◌≡◌, ◌+◌, ◌<◌, ◌≤◌, ℕ, List, ◌++◌, [], length, take, drop, Some, sym, ◌∙◌, ap, arith, length-append}
 use Rattle.std.specs.Prelude.{Option}
 use Rattle.std.proofs.Math.Seq.{take-add}
 use Rattle.std.proofs.lemmas.List.{append-nil, drop-drop, take-append-drop, length-take-le, take_all, drop_all}
-use Rattle.te_io.specs.Stream.{GaveAll, GaveFirst, HoldsNothing, HoldsRest, HoldsSame}
+use Rattle.te_io.specs.Stream.{GaveAll, GaveFirst, HoldsNothing, HoldsRest}
 
 -- what was read is the front of what was held, and is no more than was asked for
 pub record IsRead (before now : Option (List ℕ)) (read : List ℕ) (most : ℕ) : Type 0 where
   pub front : GaveFirst (length read) before now read
   pub bound : length read ≤ most + 1
-
--- at the start nothing is read
-pub nothing_read : (told : Option (List ℕ)) (most : ℕ) → IsRead told told [] most
-nothing_read told most = record { front = λ bytes was. (refl, was); bound = omega arith }
 
 -- a further piece
 pub piece_read : {before now after : Option (List ℕ)} {read : List ℕ} {most : ℕ} (n : ℕ) (piece : List ℕ)
@@ -59,12 +55,6 @@ all_is_first {before} {now} {read} n fits gave bytes was =
     let all = gave bytes was in
     let short : length bytes ≤ n = rw all.0 at fits in
     (all.0 ∙ sym (take_all n bytes short), all.1 ∙ ap Some (sym (drop_all n bytes short)))
-
--- what was not read is left
-pub rest_left : {before now after : Option (List ℕ)} {read : List ℕ} {most : ℕ} → IsRead before now read most
-    → HoldsSame now after → HoldsRest (most + 1) before after
-rest_left {before} {now} {after} {read} {most} r same bytes was =
-    (length read, r.bound, same (drop (length read) bytes) (r.front bytes was).1)
 
 -- what was not read is left, where a last piece was read that is lost
 pub rest_left_after : {before now after : Option (List ℕ)} {read given : List ℕ} {most : ℕ} (n : ℕ) → IsRead before now read most

@@ -1,8 +1,8 @@
 -- Pieces that were written one after another are one piece.
-use Rattle.std.proofs.Common.{◌≡◌, ◌+◌, ◌-◌, ◌≤◌, ℕ, List, ◌++◌, length, take, drop, refl, append_assoc, arith, length-drop}
+use Rattle.std.proofs.Common.{◌≡◌, ◌+◌, ◌-◌, ◌≤◌, ℕ, List, ◌++◌, length, take, drop, append_assoc, arith, length-drop}
 use Rattle.std.specs.Prelude.{Option}
-use Rattle.std.proofs.Math.Seq.{take-add, take-length}
-use Rattle.std.proofs.lemmas.List.{append-nil, drop-drop, take_rest}
+use Rattle.std.proofs.Math.Seq.{take-add}
+use Rattle.std.proofs.lemmas.List.{drop-drop, take_rest}
 use Rattle.te_io.specs.Stream.{GrewBy, GrewByPrefix}
 
 -- the sink took the bytes before the rest, and no others
@@ -19,15 +19,6 @@ rest_length {before} {now} {bytes} {rest} w =
     let same : length rest ≡ length bytes - w.count = rw w.rest_is (length-drop w.count bytes) in
     let fits : w.count ≤ length bytes = w.fits in
     omega arith
-
--- at the start nothing is written
-pub nothing_written : (told : Option (List ℕ)) (bytes : List ℕ) → IsWritten told told bytes bytes
-nothing_written told bytes = record {
-  count = 0;
-  fits = omega arith;
-  rest_is = refl;
-  grew = λ held was. rw append-nil was;
-}
 
 -- growing by the first n bytes and then by a piece of the rest is growing by the longer front
 grew_on : {before now after : Option (List ℕ)} {bytes rest : List ℕ} (n : ℕ) → (w : IsWritten before now bytes rest)
@@ -48,15 +39,6 @@ piece_written {before} {now} {after} {bytes} {rest} n w fits grew =
       rest_is = rw (take_rest, w.rest_is, drop-drop);
       grew = grew_on n w grew;
     }
-
--- with no rest all is written
-pub all_written : {before now : Option (List ℕ)} {bytes rest : List ℕ} → IsWritten before now bytes rest
-    → length rest ≡ 0 → GrewBy before now bytes
-all_written {before} {now} {bytes} {rest} w none held was =
-    let whole : length rest + w.count ≡ length bytes = rest_length w in
-    let all : w.count ≡ length bytes = omega arith in
-    let front : take w.count bytes ≡ bytes = rw all (take-length bytes) in
-    rw front at (w.grew held was)
 
 -- a prefix of the rest makes a longer prefix
 pub prefix_written : {before now after : Option (List ℕ)} {bytes rest : List ℕ} → IsWritten before now bytes rest

@@ -1,13 +1,33 @@
 -- What holds of all views together, after one is changed or one is added.
-use Rattle.std.proofs.Common.{◌≡◌, ◌≢◌, ℕ, ◌+◌, ◌<◌, ◌≤◌, true, false, true≢false, List, [], ◌∷◌, ◌++◌, length, set, refl, sym, ◌∙◌, subst, ⊎_elim, arith}
+use Rattle.std.proofs.Common.{◌≡◌, ◌≢◌, ◌⊎◌, inl, inr, ℕ, ◌+◌, ◌<◌, ◌≤◌, true, false, true≢false, List, [], ◌∷◌, ◌++◌, length, set, Option, refl, sym, ◌∙◌, subst, ⊎_elim, arith}
 use mathlib.Core.Option.{some}
 use lib.ListN.{get_elem?}
+use Rattle.atomic_table.specs.Table.{State}
 use Rattle.atomic_table.proofs.Lists.{at_last, at_longer}
 use Rattle.te_lock.specs.declared.view.View.{View}
 use Rattle.te_lock.specs.declared.view.Role.TheVariants.{Maker}
-use Rattle.te_lock.specs.Rule.{Stands, HasMaker, HasHolder, StandOnce}
+use Rattle.te_lock.specs.Rule.{Stands, HasMaker, HasHolder, StandOnce, IsFree, IsHeld}
 use Rattle.std.proofs.Math.Nat.{eq-or-lt_of_le}
 use Rattle.te_lock.proofs.OneView.{each_set, each_added, still_there, was_there}
+
+-- no view has the turn
+abbrev pub NoHolder : {E : Type 0} → List (View E) → Type 0
+NoHolder {E} views = (i : ℕ) (u : View E) → get_elem? views i ≡ some u → u.has_turn ≡ false
+
+-- the turn stays free or held: the new views have no holder where the old ones had none, and a holder where they had one
+module _ {V E : Type 0} (entries : V → List E) (members : V → ℕ) (callers : ℕ) (log : List E) (s : State (Option V) (View E)) (views : List (View E)) where
+  pub turn_stays : (NoHolder s.views → NoHolder views) → (HasHolder log s.views → HasHolder log views) → IsFree entries members callers log s ⊎ IsHeld log s
+      → IsFree entries members callers log (record s { views = views }) ⊎ IsHeld log (record s { views = views })
+  turn_stays nobody one = ⊎_elim
+      (λ (f : IsFree entries members callers log s). inl record {
+        value = f.value;
+        word = f.word;
+        home = f.home;
+        list = f.list;
+        number = f.number;
+        nobody = nobody f.nobody;
+      })
+      (λ (f : IsHeld log s). inr record { word = f.word; away = f.away; one = one f.one })
 
 -- one view is changed
 module _ {E : Type 0} (views : List (View E)) (id : ℕ) (v w : View E) (at : get_elem? views id ≡ some v) where
@@ -48,7 +68,7 @@ module _ {E : Type 0} (views : List (View E)) (id : ℕ) (v w : View E) (at : ge
             h.alone i was.0 was.1 was.2;
       }
 
-  pub nobody_stays : w.has_turn ≡ v.has_turn → ((i : ℕ) (u : View E) → get_elem? views i ≡ some u → u.has_turn ≡ false) → (i : ℕ) (u : View E) → get_elem? (set views id w) i ≡ some u → u.has_turn ≡ false
+  pub nobody_stays : w.has_turn ≡ v.has_turn → NoHolder views → NoHolder (set views id w)
   nobody_stays same h = each_set (λ _ u. u.has_turn ≡ false) views id w (λ i u _ e. h i u e) (same ∙ h id v at)
 
 -- one view is added
@@ -72,7 +92,7 @@ module _ {E : Type 0} (views : List (View E)) (w : View E) where
     alone = each_added (λ i u. u.has_turn ≡ true → i ≡ h.seat) views w h.alone (λ turn. absurd (true≢false (sym turn ∙ idle)));
   }
 
-  pub nobody_added : w.has_turn ≡ false → ((i : ℕ) (u : View E) → get_elem? views i ≡ some u → u.has_turn ≡ false) → (i : ℕ) (u : View E) → get_elem? (views ++ w ∷ []) i ≡ some u → u.has_turn ≡ false
+  pub nobody_added : w.has_turn ≡ false → NoHolder views → NoHolder (views ++ w ∷ [])
   nobody_added idle h = each_added (λ _ u. u.has_turn ≡ false) views w h idle
 
   -- the new view has no caller number

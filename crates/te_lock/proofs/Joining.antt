@@ -11,11 +11,11 @@ use Rattle.atomic_table.proofs.Lists.{set_else}
 use Rattle.te_lock.specs.declared.view.View.{View}
 use Rattle.te_lock.specs.declared.view.Role.TheVariants.{Maker, Caller, Spent}
 use Rattle.te_lock.specs.Entries.{entries_by, longer}
-use Rattle.te_lock.specs.Rule.{Stands, Closes, StandOnce, Sees, IsSo, IsFree, IsHeld, IsKept, joined, spent}
+use Rattle.te_lock.specs.Rule.{Stands, Closes, StandOnce, Sees, IsSo, IsKept, joined, spent}
 use Rattle.te_lock.proofs.Beginnings.{prefix_nil, prefix_length, longer_cases}
 use Rattle.te_lock.proofs.Numbers.{closes_none, all_closes_of, stays_joined, taken_in, joined_cases}
 use Rattle.te_lock.proofs.OneView.{set_at, one_at, each_set, still_there}
-use Rattle.te_lock.proofs.Changing.{maker_stays, holder_stays, nobody_stays}
+use Rattle.te_lock.proofs.Changing.{turn_stays, maker_stays, holder_stays, nobody_stays}
 
 module _ {E : Type 0} where
   none_spent : (k : ℕ) → Stands k (spent {E = E}) → ⊥
@@ -127,20 +127,9 @@ module _ {V E : Type 0} (entries : V → List E) (members : V → ℕ) (author :
         count = h.count;
         most = h.most;
         law = h.law;
-        turn = ⊎_elim
-            (λ (f : IsFree entries members callers h.log s). inl record {
-              value = f.value;
-              word = f.word;
-              home = f.home;
-              list = f.list;
-              number = f.number;
-              nobody = nobody_stays mid other u spent found spent_idle (nobody_stays s.views id v w at refl f.nobody);
-            })
-            (λ (f : IsHeld h.log s). inr record {
-              word = f.word;
-              away = f.away;
-              one = holder_stays mid other u spent found h.log spent_idle (λ t _. absurd (true≢false (sym t ∙ idle))) (holder_stays s.views id v w at h.log refl whole f.one);
-            })
+        turn = turn_stays entries members callers h.log s (set mid other spent)
+            (λ f. nobody_stays mid other u spent found spent_idle (nobody_stays s.views id v w at refl f))
+            (λ f. holder_stays mid other u spent found h.log spent_idle (λ t _. absurd (true≢false (sym t ∙ idle))) (holder_stays s.views id v w at h.log refl whole f))
             h.turn;
         maker = maker_stays mid other u spent found h.count (λ n r. absurd (no_maker n r)) (λ n r. absurd cc) (maker_stays s.views id v w at h.count (λ _ r. r) (λ _ r. r) h.maker);
         numbers = numbers_joined s.views id other v u at there apart h.count h.numbers;

@@ -1,5 +1,5 @@
 -- A look at the word keeps the rule.
-use Rattle.std.proofs.Common.{◌≡◌, ℕ, ◌/◌, ◌≤◌, false, List, ◌∷◌, [], length, set, Option, refl, sym, ap, ◌∙◌, subst, ⊎_elim, inl, inr, arith}
+use Rattle.std.proofs.Common.{◌≡◌, ℕ, ◌/◌, ◌≤◌, false, List, ◌∷◌, [], length, set, Option, refl, sym, ap, ◌∙◌, subst, ⊎_elim, arith}
 use Rattle.std.specs.Prelude.{slice_index, slice_set}
 use Rattle.std.proofs.lemmas.List.Elements.{All-push, All-weaker}
 use mathlib.Core.Option.{some}
@@ -8,7 +8,7 @@ use Rattle.atomic_table.specs.Table.{State, Me, keeps, Allows, stepped}
 use Rattle.te_lock.specs.declared.view.View.{View}
 use Rattle.te_lock.specs.Rule.{IsSo, IsFree, IsHeld, IsKept, looked, Looks}
 use Rattle.te_lock.proofs.OneView.{each_set}
-use Rattle.te_lock.proofs.Changing.{maker_stays, numbers_stay, holder_stays, nobody_stays}
+use Rattle.te_lock.proofs.Changing.{turn_stays, maker_stays, numbers_stay, holder_stays, nobody_stays}
 
 module _ {V E : Type 0} (entries : V → List E) (members : V → ℕ) (author : E → ℕ) (lawful : ℕ → List E → Type 0) where
   -- the word found is this, half of it is the length of the history, and the word stays
@@ -28,20 +28,9 @@ module _ {V E : Type 0} (entries : V → List E) (members : V → ℕ) (author :
               count = h.count;
               most = h.most;
               law = h.law;
-              turn = ⊎_elim
-                  (λ (f : IsFree entries members callers h.log s). inl record {
-                    value = f.value;
-                    word = f.word;
-                    home = f.home;
-                    list = f.list;
-                    number = f.number;
-                    nobody = nobody_stays s.views id v w at refl f.nobody;
-                  })
-                  (λ (f : IsHeld h.log s). inr record {
-                    word = f.word;
-                    away = f.away;
-                    one = holder_stays s.views id v w at h.log refl (λ _ e. e) f.one;
-                  })
+              turn = turn_stays entries members callers h.log s (set s.views id w)
+                  (nobody_stays s.views id v w at refl)
+                  (holder_stays s.views id v w at h.log refl (λ _ e. e))
                   h.turn;
               maker = maker_stays s.views id v w at h.count (λ _ r. r) (λ _ r. r) h.maker;
               numbers = numbers_stay s.views id v w at h.count (λ _ e. e) (λ _ e. e) h.numbers;

@@ -1,5 +1,5 @@
 -- The step that makes a pass keeps the rule, and so does the table when it is made.
-use Rattle.std.proofs.Common.{◌≡◌, ℕ, zero, suc, ◌+◌, ◌/◌, ◌<◌, ◌≤◌, length, false, true≢false, List, [], ◌∷◌, set, Some, refl, sym, ap, ◌∙◌, subst, ⊎_elim, inl, inr, arith}
+use Rattle.std.proofs.Common.{◌≡◌, ℕ, zero, suc, ◌+◌, ◌/◌, ◌<◌, ◌≤◌, length, false, true≢false, List, [], ◌∷◌, ◌++◌, set, Some, refl, sym, ap, ◌∙◌, subst, ⊎_elim, inl, inr, arith}
 use Rattle.std.proofs.lemmas.List.Elements.{All-nil}
 use mathlib.Core.Option.{some, some-injective, some-ne-none}
 use mathlib.Core.List.{IsPrefix}
@@ -8,11 +8,11 @@ use Rattle.atomic_table.specs.Table.{opening, Splits}
 use Rattle.te_lock.specs.declared.view.View.{View}
 use Rattle.te_lock.specs.declared.view.Role.TheVariants.{Maker, Caller}
 use Rattle.te_lock.specs.Entries.{entries_by}
-use Rattle.te_lock.specs.Rule.{Stands, Closes, IsSo, IsFree, IsHeld, IsKept, maker_of, count_up, next_of, counted, next_pass}
+use Rattle.te_lock.specs.Rule.{Stands, Closes, IsSo, IsKept, maker_of, count_up, next_of, counted, next_pass}
 use Rattle.te_lock.proofs.Beginnings.{prefix_nil, prefix_self}
 use Rattle.te_lock.proofs.Numbers.{closes_none}
 use Rattle.te_lock.proofs.OneView.{set_at, one_at, each_set, each_added}
-use Rattle.te_lock.proofs.Changing.{numbers_stay, holder_stays, nobody_stays, maker_added, holder_added, nobody_added, next_number}
+use Rattle.te_lock.proofs.Changing.{turn_stays, numbers_stay, holder_stays, nobody_stays, maker_added, holder_added, nobody_added, next_number}
 
 module _ {V E : Type 0} (entries : V → List E) (members : V → ℕ) (author : E → ℕ) (lawful : ℕ → List E → Type 0) where
   one_only : {A : Type 0} (P : ℕ → A → Type 0) (a : A) → P 0 a → (i : ℕ) (v : A) → get_elem? (a ∷ []) i ≡ some v → P i v
@@ -92,20 +92,9 @@ module _ {V E : Type 0} (entries : V → List E) (members : V → ℕ) (author :
         count = h.count + 1;
         most = omega arith;
         law = h.law;
-        turn = ⊎_elim
-            (λ (f : IsFree entries members callers h.log s). inl record {
-              value = f.value;
-              word = f.word;
-              home = f.home;
-              list = f.list;
-              number = f.number;
-              nobody = nobody_added views p refl (nobody_stays s.views id v w at refl f.nobody);
-            })
-            (λ (f : IsHeld h.log s). inr record {
-              word = f.word;
-              away = f.away;
-              one = holder_added views p h.log refl (holder_stays s.views id v w at h.log refl (λ _ e. e) f.one);
-            })
+        turn = turn_stays entries members callers h.log s (views ++ p ∷ [])
+            (λ f. nobody_added views p refl (nobody_stays s.views id v w at refl f))
+            (λ f. holder_added views p h.log refl (holder_stays s.views id v w at h.log refl (λ _ e. e) f))
             h.turn;
         maker = maker_added
             views

@@ -1,5 +1,5 @@
 -- The step that makes a note keeps the rule.
-use Rattle.std.proofs.Common.{◌≡◌, ℕ, ◌/◌, ◌≤◌, true≢false, List, [], ◌∷◌, ◌++◌, length, Option, refl, sym, subst, ⊎_elim, inl, inr}
+use Rattle.std.proofs.Common.{◌≡◌, ℕ, ◌/◌, ◌≤◌, true≢false, List, [], ◌∷◌, ◌++◌, length, Option, refl, sym, subst, ⊎_elim, inr}
 use Rattle.std.proofs.lemmas.List.Elements.{All-nil}
 use mathlib.Core.Option.{some}
 use lib.ListN.{get_elem?}
@@ -8,10 +8,10 @@ use Rattle.atomic_table.proofs.Lists.{set_again}
 use Rattle.te_lock.specs.declared.view.View.{View}
 use Rattle.te_lock.specs.declared.view.Role.TheVariants.{Caller}
 use Rattle.te_lock.specs.Entries.{entries_by}
-use Rattle.te_lock.specs.Rule.{Stands, Closes, IsSo, IsFree, IsHeld, IsKept, noted}
+use Rattle.te_lock.specs.Rule.{Stands, Closes, IsSo, IsKept, noted}
 use Rattle.te_lock.proofs.Numbers.{closes_none}
 use Rattle.te_lock.proofs.OneView.{each_added}
-use Rattle.te_lock.proofs.Changing.{maker_added, holder_added, nobody_added, numbers_added}
+use Rattle.te_lock.proofs.Changing.{turn_stays, maker_added, holder_added, nobody_added, numbers_added}
 
 module _ {V E : Type 0} (entries : V → List E) (members : V → ℕ) (author : E → ℕ) (lawful : ℕ → List E → Type 0) where
   -- the rule after a note of the view v was added
@@ -26,16 +26,9 @@ module _ {V E : Type 0} (entries : V → List E) (members : V → ℕ) (author :
         count = h.count;
         most = h.most;
         law = h.law;
-        turn = ⊎_elim
-            (λ (f : IsFree entries members callers h.log s). inl record {
-              value = f.value;
-              word = f.word;
-              home = f.home;
-              list = f.list;
-              number = f.number;
-              nobody = nobody_added s.views n refl f.nobody;
-            })
-            (λ (f : IsHeld h.log s). inr record { word = f.word; away = f.away; one = holder_added s.views n h.log refl f.one })
+        turn = turn_stays entries members callers h.log s (s.views ++ n ∷ [])
+            (nobody_added s.views n refl)
+            (holder_added s.views n h.log refl)
             h.turn;
         maker = maker_added s.views n h.count (λ m r. cc r) h.maker;
         numbers = numbers_added s.views n h.count no_number h.numbers;

@@ -7,7 +7,9 @@ pub record Lock : Type 0 where
   pub table : TableId
   pub callers : ℕ
 
--- what a pass knows: its lock and caller number; a beginning of the history that it read, and how long it saw the history; its own entries; the words that its looks found while it had not the turn, in order; lists that the history is known to begin with; whether it has the turn
+-- what a pass knows: its lock and caller number; a beginning of the history that it read, and how long it saw the history;
+-- its own entries; the words that its looks found while it had not the turn, in order; lists that the history is known to
+-- begin with; whether it has the turn
 pub record Knowledge (E : Type 0) : Type 0 where
   pub lock : Lock
   pub caller : ℕ

@@ -14,7 +14,16 @@ slots_of false = []
 module _ {E : Type 0} where
   -- what contracts see of a pass with this view
   abbrev pub knowledge : TableId → ℕ → View E → Knowledge E
-  knowledge table caller v = record { lock = record { table = table; callers = v.callers }; caller = caller; read = v.read; front = v.front; own = v.own; looks = v.looks; known = v.known; has_turn = v.has_turn }
+  knowledge table caller v = record {
+    lock = record { table = table; callers = v.callers };
+    caller = caller;
+    read = v.read;
+    front = v.front;
+    own = v.own;
+    looks = v.looks;
+    known = v.known;
+    has_turn = v.has_turn;
+  }
 
   -- the view is that of this caller; the pass has the slot exactly while it has the turn; what it read meets the law
   pub record IsPassAt {V : Type 0} (lawful : ℕ → List E → Type 0) (caller : ℕ) (me : Me (Option V) (View E)) : Type 0 where

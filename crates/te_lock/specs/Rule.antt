@@ -1,5 +1,6 @@
 -- The rule that every step at the lock's table keeps, and the steps by name.
--- The table has one word, which is twice the length of the history, plus 1 while the turn is held, and one slot, which has the value. A view changes only at a step on the word.
+-- The table has one word, which is twice the length of the history, plus 1 while the turn is held, and one slot, which has
+-- the value. A view changes only at a step on the word.
 -- There are nine kinds of step:
 --     a load                                Looks
 --     a fetch_or of 1 at an even word       Takes
@@ -51,7 +52,8 @@ module _ {E : Type 0} where
     pub each : (k : ℕ) → k < count → (i : ℕ) × (v : View E) × (get_elem? views i ≡ some v) × Stands k v
     pub once : (k i j : ℕ) (v u : View E) → get_elem? views i ≡ some v → get_elem? views j ≡ some u → Stands k v → Stands k u → i ≡ j
 
-  -- what a view says of the history is so: what it read and each list that it knows begin it; it saw no longer one; the entries that it has of a caller are all that the caller has there
+  -- what a view says of the history is so: what it read and each list that it knows begin it; it saw no longer one; the
+  -- entries that it has of a caller are all that the caller has there
   pub record Sees (author : E → ℕ) (log : List E) (v : View E) : Type 0 where
     pub read : IsPrefix v.read log
     pub known : All (λ list. IsPrefix list log) v.known
@@ -59,7 +61,8 @@ module _ {E : Type 0} where
     pub own : (k : ℕ) → v.role ≡ Caller k → v.own ≡ entries_by author k log
     pub closed : All (λ c. c.1 ≡ entries_by author c.0 log) v.closed
 
-  -- a view is so: it sees the history, of which no look found a longer one; its callers were made; it has the lock's number of callers; only a caller's view has the turn, or closed numbers
+  -- a view is so: it sees the history, of which no look found a longer one; its callers were made; it has the lock's number
+  -- of callers; only a caller's view has the turn, or closed numbers
   pub record IsSo (author : E → ℕ) (callers count : ℕ) (log : List E) (v : View E) : Type 0 where
     pub sees : Sees author log v
     pub behind : length v.read ≤ v.front
@@ -116,7 +119,8 @@ module _ {E : Type 0} where
   released list v = record v { read = list; front = length list; own = v.own ++ drop (length v.read) list; has_turn = false }
 
 -- an even word was found: the seat has the turn and the slot, and the value has all that was seen
-pub record Takes {V E : Type 0} (entries : V → List E) (members : V → ℕ) (author : E → ℕ) (lawful : ℕ → List E → Type 0) (me : Me (Option V) (View E)) (found : ℕ) (after : Me (Option V) (View E)) : Type 0 where
+pub record Takes {V E : Type 0} (entries : V → List E) (members : V → ℕ) (author : E → ℕ) (lawful : ℕ → List E → Type 0)
+    (me : Me (Option V) (View E)) (found : ℕ) (after : Me (Option V) (View E)) : Type 0 where
   pub value : V
   pub word : found ≡ 2 * length (entries value)
   pub slot : after.1 ≡ (0, Some value) ∷ me.1
@@ -153,8 +157,10 @@ module _ {V E : Type 0} where
   abbrev pub Released : (V → List E) → Me (Option V) (View E) → Me (Option V) (View E) → Type 0
   Released entries me after = (value : V) × (me.1 ≡ (0, Some value) ∷ []) × (after ≡ (released (entries value) me.0, []))
 
--- the seat may give the turn back with the value in its slot: the value has the lock's number of callers, its list is lawful and goes on by this caller's entries alone, and the word is twice its length
-pub record Ready {V E : Type 0} (entries : V → List E) (members : V → ℕ) (author : E → ℕ) (lawful : ℕ → List E → Type 0) (me : Me (Option V) (View E)) (word : ℕ) : Type 0 where
+-- the seat may give the turn back with the value in its slot: the value has the lock's number of callers, its list is lawful
+-- and goes on by this caller's entries alone, and the word is twice its length
+pub record Ready {V E : Type 0} (entries : V → List E) (members : V → ℕ) (author : E → ℕ) (lawful : ℕ → List E → Type 0)
+    (me : Me (Option V) (View E)) (word : ℕ) : Type 0 where
   pub value : V
   pub caller : ℕ
   pub role : me.0.role ≡ Caller caller

@@ -6,8 +6,9 @@ use std::marker::Model;
 /// The right of one caller to take the turn, and what it knows of the history.
 ///
 /// Contracts see it as a `Knowledge`: its lock and caller number, what it has read, how long it saw
-/// the history, its own entries, and whether it has the turn. It may go to another thread wherever
-/// the value may.
+/// the history, its own entries, the words that its looks found while it hadn't the turn, the lists
+/// that the history is known to begin with, and whether it has the turn. It may go to another thread
+/// wherever the value may.
 #[derive(Drop)]
 pub struct Pass<V: Kept> {
     pub(crate) seat: Seat<Option<V>, View<V::Entry>>,

@@ -1,5 +1,5 @@
 -- One turn of the loop over a tuple's calculations.
-use Rattle.std.proofs.Common.{◌≡◌, ℕ, suc, ◌+◌, ◌-◌, ◌<◌, List, [], ◌∷◌, ◌++◌, refl, sym, ◌∙◌, ap, append_assoc, arith}
+use Rattle.std.proofs.Common.{◌≡◌, ℕ, suc, ◌+◌, ◌-◌, ◌<◌, List, [], ◌∷◌, ◌++◌, refl, sym, ◌∙◌, ap, append_assoc}
 use Rattle.std.specs.Prelude.{Some, None}
 use Rattle.te_terms.specs.Expressions.{Primitive, Calculation, one}
 use Rattle.te_reader.specs.declared.token.Sign.TheVariants as signs
@@ -7,10 +7,7 @@ use Rattle.te_reader.specs.Tokens.{Token}
 use Rattle.te_reader.specs.Heads.{sign_first}
 use Rattle.te_reader.specs.Reads.{Read, ◌>>=◌, read_primitive, read_calculations}
 use Rattle.te_reader.specs.Behind.{behind}
-
--- a turn is one of those that are left
-one_turn : (most i : ℕ) → i < most → most - i ≡ suc (most - (i + 1))
-one_turn most i h = omega arith
+use Rattle.te_reader.proofs.LoopSteps.{one_turn}
 
 opened : (most i : ℕ) (done : List Calculation) (channels : List (List ℕ)) (ts : List Token) (all : Read (List Calculation)) → i < most → behind done (read_calculations (most - i) channels ts) ≡ all → behind done (read_calculations (suc (most - (i + 1))) channels ts) ≡ all
 opened most i done channels ts all h e = rw (← one_turn most i h) e

@@ -3,11 +3,8 @@ use Rattle.std.proofs.Common.{◌≡◌, ◌≢◌, ℕ, zero, suc, ◌<◌, ◌
 use Rattle.std.proofs.lemmas.List.{append-nil}
 use Rattle.std.specs.List.{AllByRecursion}
 use Rattle.te_script.specs.Scripts.{AreDistinct, AreApart}
+use Rattle.te_script.proofs.Appending.{AllByRecursion-append}
 use Rattle.te_reader.specs.Grammar.{IsAt, IsNew, IsShort}
-
-pub all_push : {A : Type 0} (P : A → Type 0) (xs : List A) (x : A) → AllByRecursion P xs → P x → AllByRecursion P (xs ++ x ∷ [])
-all_push P [] x h p = (p, tt)
-all_push P (y ∷ ys) x h p = (h.0, all_push P ys x h.1 p)
 
 pub all_weaker : {A : Type 0} (P Q : A → Type 0) → ((x : A) → P x → Q x) → (xs : List A) → AllByRecursion P xs → AllByRecursion Q xs
 all_weaker P Q w [] h = tt
@@ -15,7 +12,7 @@ all_weaker P Q w (x ∷ xs) h = (w x h.0, all_weaker P Q w xs h.1)
 
 pub distinct_push : (xs : List (List ℕ)) (n : List ℕ) → AreDistinct xs → IsNew n xs → AreDistinct (xs ++ n ∷ [])
 distinct_push [] n d new = (tt, tt)
-distinct_push (x ∷ xs) n d new = (all_push (λ y. x ≢ y) xs n d.0 new.0, distinct_push xs n d.1 new.1)
+distinct_push (x ∷ xs) n d new = (AllByRecursion-append (λ y. x ≢ y) xs n d.0 new.0, distinct_push xs n d.1 new.1)
 
 -- a name that is no channel is apart from each
 pub new_apart : (n : List ℕ) (channels : List (List ℕ)) → IsNew n channels → AllByRecursion (λ y. n ≢ y) channels
@@ -70,6 +67,6 @@ grows_one channels registers n room short new no_channel = record {
   appended = refl;
   few = λ h. omega (arith, length-append registers (n ∷ []));
   distinct = λ h. distinct_push registers n h new;
-  short = λ h. all_push IsShort registers n h short;
-  apart = λ h. all_push (λ x. AllByRecursion (λ y. x ≢ y) channels) registers n h (new_apart n channels no_channel);
+  short = λ h. AllByRecursion-append IsShort registers n h short;
+  apart = λ h. AllByRecursion-append (λ x. AllByRecursion (λ y. x ≢ y) channels) registers n h (new_apart n channels no_channel);
 }

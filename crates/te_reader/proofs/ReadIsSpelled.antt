@@ -5,7 +5,9 @@ use Rattle.std.specs.List.{AllByRecursion}
 use Rattle.te_terms.specs.Values.{fits_i64}
 use Rattle.te_terms.specs.Expressions.{register, Primitive, int, chan, Calculation, one, Expression, whole, tuple}
 use Rattle.te_terms.specs.Terms.{Term, always, send, recv}
-use Rattle.te_script.specs.Scripts.{Scope, IsPrimitive, IsCalculation, IsExpression, IsEvent, nodes, height}
+use Rattle.te_terms.specs.Shape.{height}
+use Rattle.te_terms.specs.Settling.{node_count}
+use Rattle.te_script.specs.Scripts.{Scope, IsPrimitive, IsCalculation, IsExpression, IsEvent}
 use Rattle.te_reader.specs.declared.token.Word.TheVariants as words
 use Rattle.te_reader.specs.declared.token.Sign.TheVariants as signs
 use Rattle.te_reader.specs.Tokens.{Token, sign}
@@ -148,7 +150,7 @@ module _ (m : ℕ) (channels registers : List (List ℕ)) (many : length channel
   pub record ReadEvent (t : Term) (ts rest : List Token) : Type 0 where
     pub spelled : spells_event true alone (names_of channels registers) t ts rest
     pub scoped : IsEvent (scope_of m registers) t
-    pub leaf : (nodes t ≡ 1) × (height t ≡ 1)
+    pub leaf : (node_count t ≡ 1) × (height t ≡ 1)
     pub plain : IsPlainEvent t
 
   pub event_read : (t : Term) (ts rest : List Token) → read_event channels registers ts ≡ Some (t, rest) → ReadEvent t ts rest

@@ -11,7 +11,7 @@ use Rattle.te_terms.specs.Terms.{Term, always, never, throw, send, recv, and_the
 use Rattle.te_script.specs.Scripts.{AreDistinct}
 use Rattle.te_reader.specs.declared.token.Sign.TheVariants as signs
 use Rattle.te_reader.specs.Tokens as tokens
-use Rattle.te_reader.specs.Tokens.{Token, word, sign}
+use Rattle.te_reader.specs.Tokens.{Token}
 use Rattle.te_reader.specs.Heads.{word_first, sign_first, name_first, integer_first}
 use Rattle.te_reader.specs.Grammar.{IsAt, IsNew, IsShort, spells_primitive, spells_inside, spells_expression, spells_event, alone}
 use Rattle.te_reader.specs.FirstForm.{IsPlain, IsPlainExpression, IsPlainEvent}

@@ -194,7 +194,8 @@ read_body zero channels registers ts = brace_or_more registers None (sign_first 
 read_body (suc left) channels registers ts =
     brace_or_more registers
     (Some
-    (read_statement channels registers ts >>= λ s. read_body left channels s.0.1 s.1 >>= λ body. Some (record { statements = s.0.0 ∷ body.0.statements; registers = body.0.registers }, body.1)))
+    (read_statement channels registers ts >>= λ s. read_body left channels s.0.1 s.1 >>= λ body.
+    Some (record { statements = s.0.0 ∷ body.0.statements; registers = body.0.registers }, body.1)))
     (sign_first signs.CloseBrace ts)
 
 -- ---- threads and programs

@@ -7,6 +7,7 @@ mod event;
 mod expression;
 mod fault;
 mod integer;
+mod lexing;
 mod names;
 mod reserved;
 mod script;

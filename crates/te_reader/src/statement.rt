@@ -26,7 +26,8 @@ pub fn read_statement(
     registers: &mut Rows<Name>,
 ) -> Result<Stmt, ScriptFault>
     requires { length registers.old ≤ 8 }
-    ensures statement { Answers result (λ s. (statement_of s, registers.new)) cursor.old cursor.new (read_statement channels.now registers.old cursor.old.tokens) }
+    ensures statement { Answers result (λ s. (statement_of s, registers.new)) cursor.old cursor.new
+        (read_statement channels.now registers.old cursor.old.tokens) }
     ensures few { length registers.new ≤ 8 }
     ensures root { IfOk result HasRoot }
 {

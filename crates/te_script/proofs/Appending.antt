@@ -1,4 +1,4 @@
--- Statements in order, and one more behind them, are in order.
+-- Statements in order, and one more behind them, are in order; what holds of each element holds with one more of which it holds.
 use Rattle.std.proofs.Common.{ℕ, List, [], ◌∷◌, ◌++◌, sym, subst}
 use Rattle.std.specs.List.{AllByRecursion}
 use Rattle.te_script.specs.Scripts.{Statement, sync, emit, AreStatements, with_register}

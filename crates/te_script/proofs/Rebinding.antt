@@ -7,7 +7,8 @@ use Rattle.te_terms.specs.Terms.{replaced}
 use Rattle.te_script.specs.Scripts.{Statement, sync, emit}
 use Rattle.te_script.specs.Wishes.{register_to, written}
 use Rattle.te_script.specs.Cores.{without, under}
-use Rattle.te_script.proofs.Replacing.{expression_twice, replaced_twice}
+use Rattle.te_terms.proofs.BindingLaws.{replaced_twice}
+use Rattle.te_script.proofs.Replacing.{expression_twice}
 
 -- each register keeps its name or has a value; names and values stay
 pub record IsPartial (f : Variable → Variable) : Type 0 where

@@ -1,42 +1,15 @@
--- Replacing variables twice is replacing them once, and a replacement that keeps the variables of a scope changes nothing there.
+-- Replacing the variables of an expression twice is replacing them once, and a replacement that keeps the variables of a scope
+-- changes nothing there.
 use Rattle.std.proofs.Common.{◌≡◌, ℕ, ◌<◌, List, [], ◌∷◌, map, refl}
 use Rattle.std.specs.List.{AllByRecursion}
 use Rattle.te_terms.specs.Expressions.{Variable, register, name, known, Primitive, int, chan, part, Calculation, one, both, Expression, whole, tuple, in_primitive, in_calculation, in_expression}
 use Rattle.te_terms.specs.Terms.{Term, always, never, throw, send, recv, and_then, choose, catch, when, replaced}
+use Rattle.te_terms.proofs.BindingLaws.{replaced_twice}
 use Rattle.te_script.specs.Scripts.{Scope, one_more, IsNamed, IsPrimitive, IsCalculation, IsExpression, IsEvent}
 
--- ---- twice is once
-
-abbrev twice : (Variable → Variable) → (Variable → Variable) → Variable → Variable
-twice g f x = g (f x)
-
-primitive_twice : (g f : Variable → Variable) (p : Primitive) → in_primitive g (in_primitive f p) ≡ in_primitive (twice g f) p
-primitive_twice g f (int z) = refl
-primitive_twice g f (chan c) = refl
-primitive_twice g f (part x d) = refl
-
-calculation_twice : (g f : Variable → Variable) (c : Calculation) → in_calculation g (in_calculation f c) ≡ in_calculation (twice g f) c
-calculation_twice g f (one p) = λ i. one (primitive_twice g f p i)
-calculation_twice g f (both o p q) = λ i. both o (primitive_twice g f p i) (primitive_twice g f q i)
-
-calculations_twice : (g f : Variable → Variable) (cs : List Calculation) → map (in_calculation g) (map (in_calculation f) cs) ≡ map (in_calculation (twice g f)) cs
-calculations_twice g f [] = refl
-calculations_twice g f (c ∷ cs) = λ i. calculation_twice g f c i ∷ calculations_twice g f cs i
-
-pub expression_twice : (g f : Variable → Variable) (e : Expression) → in_expression g (in_expression f e) ≡ in_expression (twice g f) e
-expression_twice g f (whole x) = refl
-expression_twice g f (tuple cs) = λ i. tuple (calculations_twice g f cs i)
-
-pub replaced_twice : (g f : Variable → Variable) (t : Term) → replaced g (replaced f t) ≡ replaced (twice g f) t
-replaced_twice g f (always e) = λ i. always (expression_twice g f e i)
-replaced_twice g f never = refl
-replaced_twice g f (throw e) = λ i. throw (expression_twice g f e i)
-replaced_twice g f (send p e) = λ i. send (primitive_twice g f p i) (expression_twice g f e i)
-replaced_twice g f (recv p) = λ i. recv (primitive_twice g f p i)
-replaced_twice g f (and_then e n h) = λ i. and_then (replaced_twice g f e i) n (replaced_twice g f h i)
-replaced_twice g f (choose e h) = λ i. choose (replaced_twice g f e i) (replaced_twice g f h i)
-replaced_twice g f (catch e n h) = λ i. catch (replaced_twice g f e i) n (replaced_twice g f h i)
-replaced_twice g f (when t p q e h) = λ i. when t (primitive_twice g f p i) (primitive_twice g f q i) (replaced_twice g f e i) (replaced_twice g f h i)
+-- replacing twice is replacing once by both, as it is for the event that gives the expression
+pub expression_twice : (g f : Variable → Variable) (e : Expression) → in_expression g (in_expression f e) ≡ in_expression (λ x. g (f x)) e
+expression_twice g f e = let whole_event : always (in_expression g (in_expression f e)) ≡ always (in_expression (λ x. g (f x)) e) = replaced_twice g f (always e) in cc
 
 -- ---- nothing changes where each variable in scope is kept
 

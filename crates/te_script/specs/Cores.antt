@@ -58,7 +58,8 @@ pub record IsCore (t : Thread) (at len room : ℕ) : Type 0 where
   pub fits : len + emits_in (drop at t.statements) ≤ room
 
 -- where a thread stands once the emits before its next sync are done
-pub record Settles (regs : List (List Atom)) (before : List Statement) (emitted : List (List Atom)) (raised : Option (List Atom)) (after : List Statement) (now : List (List Atom)) : Type 0 where
+pub record Settles (regs : List (List Atom)) (before : List Statement) (emitted : List (List Atom))
+    (raised : Option (List Atom)) (after : List Statement) (now : List (List Atom)) : Type 0 where
   pub stands : stand_at (under (registers_to regs) before) emitted ≡ record { emitted = now; next = next_at raised regs after }
   pub settled : IsSettled after
   pub fits : length now + emits_in after ≤ length emitted + emits_in before

@@ -1,9 +1,11 @@
 -- Scripts as values: statements over terms whose registers are not yet replaced.
 -- All of it is this project's own.
-use Rattle.std.specs.Prelude.{◌≡◌, ◌≢◌, ℕ, suc, ◌+◌, ◌<◌, ◌≤◌, max, List, [], ◌∷◌, length, map, nat_lt, if◌then◌else◌}
+use Rattle.std.specs.Prelude.{◌≡◌, ◌≢◌, ℕ, suc, ◌<◌, ◌≤◌, List, [], ◌∷◌, length, map, nat_lt, if◌then◌else◌}
 use Rattle.std.specs.List.{AllByRecursion}
 use Rattle.te_terms.specs.Expressions.{Variable, register, name, known, Primitive, int, chan, part, Calculation, one, both, Expression, whole, tuple}
 use Rattle.te_terms.specs.Terms.{Term, always, never, throw, send, recv, and_then, choose, catch, when}
+use Rattle.te_terms.specs.Shape.{height}
+use Rattle.te_terms.specs.Settling.{node_count}
 
 -- `sync r t` writes what the event t gives to register r; `emit e` adds the value of e
 pub data Statement : Type 0 where
@@ -63,23 +65,8 @@ IsEvent s (when test p q e f) = IsPrimitive s p × IsPrimitive s q × IsEvent s 
 
 -- ---- limits of one event
 
-abbrev pub nodes : Term → ℕ
-nodes (and_then e n f) = suc (nodes e + nodes f)
-nodes (choose e f) = suc (nodes e + nodes f)
-nodes (catch e n h) = suc (nodes e + nodes h)
-nodes (when test p q e f) = suc (nodes e + nodes f)
-nodes t = 1
-
--- a leaf has height 1
-abbrev pub height : Term → ℕ
-height (and_then e n f) = suc (max (height e) (height f))
-height (choose e f) = suc (max (height e) (height f))
-height (catch e n h) = suc (max (height e) (height h))
-height (when test p q e f) = suc (max (height e) (height f))
-height t = 1
-
 pub record IsWithin (t : Term) : Type 0 where
-  pub nodes : nodes t ≤ 4096
+  pub nodes : node_count t ≤ 4096
   pub height : height t ≤ 32
 
 -- ---- threads and programs
@@ -92,13 +79,10 @@ with_register written r = if nat_lt r written then written else suc r
 abbrev pub AreStatements : ℕ → ℕ → ℕ → List Statement → Type 0
 AreStatements channels registers written [] = written ≡ registers
 AreStatements channels registers written (sync r t ∷ rest) =
-    (r ≤ written) × IsEvent (record { written = written; level = 0; channels = channels }) t × IsWithin t × AreStatements channels registers (with_register written r) rest
+    (r ≤ written) × IsEvent (record { written = written; level = 0; channels = channels }) t × IsWithin t
+    × AreStatements channels registers (with_register written r) rest
 AreStatements channels registers written (emit e ∷ rest) =
     IsExpression (record { written = written; level = 0; channels = channels }) e × AreStatements channels registers written rest
-
--- 1 to 32 bytes
-abbrev pub IsName : List ℕ → Type 0
-IsName bytes = (0 < length bytes) × (length bytes ≤ 32)
 
 -- no two are equal
 abbrev pub AreDistinct : List (List ℕ) → Type 0

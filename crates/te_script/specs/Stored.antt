@@ -37,7 +37,8 @@ coded_thread =
 
 abbrev pub coded_program : Coded Program
 coded_program =
-    code_by (List (List ℕ) × List Thread) (coded× (coded_list coded_bytes) (coded_list coded_thread)) (λ p. (p.channels, p.threads)) (λ p. record { channels = p.0; threads = p.1 })
+    code_by (List (List ℕ) × List Thread) (coded× (coded_list coded_bytes) (coded_list coded_thread)) (λ p. (p.channels, p.threads))
+    (λ p. record { channels = p.0; threads = p.1 })
     (λ _. refl)
 
 abbrev pub next_parts : Next → ℕ × (Term × List Statement) ⊎ Option (List Atom)
@@ -57,10 +58,13 @@ next_back (failed v) = refl
 
 abbrev pub coded_next : Coded Next
 coded_next =
-    code_by (ℕ × (Term × List Statement) ⊎ Option (List Atom)) (coded⊎ (coded× coded_ℕ (coded× coded_term (coded_list coded_statement))) (coded_option coded_value)) next_parts next_from next_back
+    code_by (ℕ × (Term × List Statement) ⊎ Option (List Atom))
+    (coded⊎ (coded× coded_ℕ (coded× coded_term (coded_list coded_statement))) (coded_option coded_value))
+    next_parts next_from next_back
 
 abbrev pub coded_at : Coded At
 coded_at =
-    code_by (Thread × (List (List Atom) × Next)) (coded× coded_thread (coded× (coded_list coded_value) coded_next)) (λ a. (a.thread, (a.stand.emitted, a.stand.next)))
+    code_by (Thread × (List (List Atom) × Next)) (coded× coded_thread (coded× (coded_list coded_value) coded_next))
+    (λ a. (a.thread, (a.stand.emitted, a.stand.next)))
     (λ p. record { thread = p.0; stand = record { emitted = p.1.0; next = p.1.1 } })
     (λ _. refl)

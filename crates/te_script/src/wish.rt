@@ -46,7 +46,10 @@ impl Model for Core {
     ghost use Rattle.std.specs.Prelude.{◌≤◌, ◌+◌, drop, length, vec_len, vec_capacity};
     ghost use Rattle.te_script.specs.Cores.{next_at, IsCore};
 
-    ghost view = { λ c. record { thread = c.text.value; stand = record { emitted = c.emitted.items; next = next_at c.raised c.regs (drop c.place c.text.value.statements) } } };
+    ghost view = { λ c. record {
+      thread = c.text.value;
+      stand = record { emitted = c.emitted.items; next = next_at c.raised c.regs (drop c.place c.text.value.statements) };
+    } };
 
     ghost invariant = { λ c. IsCore c.text.value c.place (vec_len c.emitted) (vec_capacity c.emitted) };
 }
@@ -182,7 +185,8 @@ struct Stop {
 // Does the emits from `from` on.
 fn past_emits(stmts: &[Stmt], from: usize, regs: &[Value; 8], emitted: &mut Vec<Value>) -> Stop
     requires { vec_len emitted.old + emits_in (drop from (map statement_of stmts.now)) ≤ vec_capacity emitted.old }
-    ensures settles { Settles regs.now (drop from (map statement_of stmts.now)) emitted.old.items result.raised (drop result.place (map statement_of stmts.now)) emitted.new.items }
+    ensures settles { Settles regs.now (drop from (map statement_of stmts.now)) emitted.old.items
+        result.raised (drop result.place (map statement_of stmts.now)) emitted.new.items }
     ensures place { from ≤ length stmts.now → result.place ≤ length stmts.now }
     ensures room { vec_capacity emitted.new ≡ vec_capacity emitted.old }
     ensures eight { length regs.now ≡ 8 }

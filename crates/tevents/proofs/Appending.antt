@@ -1,22 +1,13 @@
--- What one entry more changes: the state, what a thread has taken, and whether each entry is wished.
+-- What one entry more changes: what a thread has taken, and whether each entry is wished.
 use Rattle.std.proofs.Common.{◌≡◌, ℕ, Bool, true, false, cond, eqb, List, [], ◌∷◌, ◌++◌, refl, sym, ap, subst, ◌∙◌, append_assoc}
 use Rattle.std.proofs.lemmas.List.{append-nil}
 use Rattle.std.specs.Prelude.{slice_get}
-use Rattle.std.specs.List.{AllByRecursion}
 use Rattle.te_terms.specs.declared.event.Outcome.{Outcome}
 use Rattle.te_script.specs.Scripts.{Thread}
 use Rattle.tevents.specs.declared.history.Entry.{Entry}
 use Rattle.tevents.specs.declared.history.Entry.TheVariants as entries
-use Rattle.tevents.specs.State.{State, state, state_from, changed, opening}
 use Rattle.tevents.specs.Follows.{caller_of}
 use Rattle.tevents.specs.OfScript.{taken, taken_from, WishedBy, WishedFrom}
-
-state_from-append : (s : State) (xs ys : List Entry) → state_from s (xs ++ ys) ≡ state_from (state_from s xs) ys
-state_from-append s [] ys = refl
-state_from-append s (x ∷ xs) ys = state_from-append (changed s x) xs ys
-
-pub state_more : (callers : ℕ) (history : List Entry) (e : Entry) → state callers (history ++ e ∷ []) ≡ changed (state callers history) e
-state_more callers history e = state_from-append (opening callers) history (e ∷ [])
 
 taken_step : (t : ℕ) (e : Entry) (rest : List Outcome) → taken_from t e rest ≡ taken_from t e [] ++ rest
 taken_step t (entries.Take by ticket outcome) rest = at (eqb by t)
@@ -42,7 +33,3 @@ pub wished_more : (threads : List Thread) (before history : List Entry) (e : Ent
 wished_more threads before [] e h w = (subst (λ b. WishedBy (slice_get threads (caller_of e)) (taken (caller_of e) b) e) (append-nil before) w, tt)
 wished_more threads before (x ∷ xs) e h w =
     (h.0, wished_more threads (before ++ x ∷ []) xs e h.1 (subst (λ b. WishedBy (slice_get threads (caller_of e)) (taken (caller_of e) b) e) (sym (append_assoc before (x ∷ []) xs)) w))
-
-pub all_more : {A : Type 0} (P : A → Type 0) (xs : List A) (x : A) → AllByRecursion P xs → P x → AllByRecursion P (xs ++ x ∷ [])
-all_more P [] x h p = (p, tt)
-all_more P (y ∷ ys) x h p = (h.0, all_more P ys x h.1 p)

@@ -1,24 +1,24 @@
 -- What the looks and the ends at the close of a round keep.
-use Rattle.std.proofs.Common.{◌≡◌, ◌≢◌, ◌⊎◌, inl, inr, ℕ, zero, suc, ◌+◌, ◌≤◌, true, List, [], ◌∷◌, ◌++◌, length, take, drop, slice_set, Option, Some, None, Result, Ok, Err, refl, sym, ap, subst, ◌∙◌, arith, add-zero}
+use Rattle.std.proofs.Common.{◌≡◌, ◌≢◌, inl, ℕ, zero, suc, ◌+◌, ◌≤◌, true, List, [], ◌∷◌, ◌++◌, length, take, drop, slice_set, Option, Some, None, Result, Ok, Err, refl, sym, ap, subst, ◌∙◌, arith, add-zero}
 use Rattle.std.proofs.lemmas.List.{append-nil, length-take}
 use Rattle.std.proofs.lemmas.Option.{slice_get_within}
-use Rattle.std.specs.Prelude.{slice_get, IfSome, IfNone, OnOk}
+use Rattle.std.specs.Prelude.{slice_get, OnOk}
 use Rattle.std.specs.List.{AllByRecursion}
 use Rattle.te_terms.specs.Terms.{Term}
 use Rattle.te_terms.specs.declared.event.Parked.{Parked}
 use Rattle.te_script.proofs.Places.{slice_get_set_same}
+use Rattle.te_script.proofs.Appending.{AllByRecursion-append}
 use Rattle.tevents.specs.declared.history.How.TheVariants as ways
 use Rattle.tevents.specs.declared.history.Entry.{Entry}
 use Rattle.tevents.specs.declared.history.Entry.TheVariants as entries
 use Rattle.tevents.specs.declared.board.Place.{Place}
 use Rattle.tevents.specs.declared.board.Place.TheVariants as places
 use Rattle.tevents.specs.State.{Standing, idle, parked, given, ended, State, parked_by, parked_from, parked_list}
-use Rattle.tevents.specs.Follows.{Stands, IsRunning, IsParkedOrEnded}
+use Rattle.tevents.specs.Follows.{Stands, IsParkedOrEnded}
 use Rattle.tevents.specs.Rounds.{EndsOf, EndsStuck, IsStuckDue, IsLowestParked}
 use Rattle.tevents.specs.Boards.{ShowsPlace}
 use Rattle.tevents.specs.Houses.{Run, grown, state_of}
-use Rattle.tevents.specs.Runs.{NoneGiven, HasEndedAll, HasClosed}
-use Rattle.tevents.proofs.Appending.{all_more}
+use Rattle.tevents.specs.Runs.{HasEndedAll, HasClosed}
 use Rattle.tevents.proofs.RunStates.{grown_twice, state_grown}
 use Rattle.tevents.proofs.RoundsSoFar.{Callers, slice_at_cut, drop_next, take_next, drop_set, take_set, take-past}
 
@@ -59,7 +59,7 @@ looked_first s t ticket event h stood =
     let next = take_next s.callers t (parked ticket event) stood in
     let count = front_length s t (parked ticket event) stood in
     record {
-      settled = subst (λ (cs : List Standing). AllByRecursion IsParkedOrEnded cs) (sym next) (all_more IsParkedOrEnded (take t s.callers) (parked ticket event) h.settled tt);
+      settled = subst (λ (cs : List Standing). AllByRecursion IsParkedOrEnded cs) (sym next) (AllByRecursion-append IsParkedOrEnded (take t s.callers) (parked ticket event) h.settled tt);
       lowest_is = ap (λ (cs : List Standing). lowest_of (parked_from 0 cs)) next ∙ ap lowest_of (parked_more 0 (take t s.callers) (parked ticket event) ∙ none_yet (parked_from 0 (take t s.callers)) _ h.lowest_is) ∙ ap Some count;
     }
 
@@ -67,7 +67,7 @@ pub looked_other : (s : State) (t low ticket : ℕ) (event : Term) → LookedSoF
 looked_other s t low ticket event h stood =
     let next = take_next s.callers t (parked ticket event) stood in
     record {
-      settled = subst (λ (cs : List Standing). AllByRecursion IsParkedOrEnded cs) (sym next) (all_more IsParkedOrEnded (take t s.callers) (parked ticket event) h.settled tt);
+      settled = subst (λ (cs : List Standing). AllByRecursion IsParkedOrEnded cs) (sym next) (AllByRecursion-append IsParkedOrEnded (take t s.callers) (parked ticket event) h.settled tt);
       lowest_is = ap (λ (cs : List Standing). lowest_of (parked_from 0 cs)) next ∙ ap lowest_of (parked_more 0 (take t s.callers) (parked ticket event)) ∙ lowest_more (parked_from 0 (take t s.callers)) _ low h.lowest_is;
     }
 
@@ -75,36 +75,9 @@ pub looked_ended : (s : State) (t : ℕ) (lowest : Option ℕ) → LookedSoFar s
 looked_ended s t lowest h stood =
     let next = take_next s.callers t ended stood in
     record {
-      settled = subst (λ (cs : List Standing). AllByRecursion IsParkedOrEnded cs) (sym next) (all_more IsParkedOrEnded (take t s.callers) ended h.settled tt);
+      settled = subst (λ (cs : List Standing). AllByRecursion IsParkedOrEnded cs) (sym next) (AllByRecursion-append IsParkedOrEnded (take t s.callers) ended h.settled tt);
       lowest_is = ap (λ (cs : List Standing). lowest_of (parked_from 0 cs)) next ∙ ap lowest_of (parked_more 0 (take t s.callers) ended ∙ append-nil (parked_from 0 (take t s.callers))) ∙ h.lowest_is;
     }
-
-some_lowest : (ps : List Parked) (t : ℕ) → lowest_of ps ≡ Some t → (ps ≢ []) × IsLowestParked ps t
-some_lowest [] t e = absurd cc
-some_lowest (p ∷ ps) t e = ((λ same. differ same), sym (got e))
-  where
-    differ : p ∷ ps ≡ [] → ⊥
-    differ same = cc
-
-    got : Some p.thread ≡ Some t → p.thread ≡ t
-    got e = cc
-
-no_lowest : (ps : List Parked) → lowest_of ps ≡ None → ps ≡ []
-no_lowest [] e = refl
-no_lowest (p ∷ ps) e = absurd cc
-
-pub looked_some : (s : State) (t low : ℕ) → LookedSoFar s t (Some low) → length s.callers ≤ t → IsStuckDue s × IsLowestParked (parked_list s) low
-looked_some s t low h le =
-    let all = take-past s.callers t le in
-    let found = some_lowest (parked_list s) low (sym (ap (λ (cs : List Standing). lowest_of (parked_from 0 cs)) all) ∙ h.lowest_is) in
-    (record { settled = subst (λ (cs : List Standing). AllByRecursion IsParkedOrEnded cs) all h.settled; some_parked = found.0 }, found.1)
-
-pub looked_none : (s : State) (t : ℕ) → LookedSoFar s t None → length s.callers ≤ t → ¬ IsStuckDue s
-looked_none s t h le due = due.some_parked (no_lowest (parked_list s) (sym (ap (λ (cs : List Standing). lowest_of (parked_from 0 cs)) (take-past s.callers t le)) ∙ h.lowest_is))
-
-pub looked_all : (s : State) (t : ℕ) (lowest : Option ℕ) → LookedSoFar s t lowest → length s.callers ≤ t → IfSome lowest (λ low. IsStuckDue s × IsLowestParked (parked_list s) low) × IfNone lowest (¬ IsStuckDue s)
-looked_all s t (Some low) h le = (looked_some s t low h le, tt)
-looked_all s t None h le = (tt, looked_none s t h le)
 
 -- ---- what is shown of a place
 
@@ -127,25 +100,6 @@ all_at P [] t x h e = absurd cc
 all_at P (c ∷ cs) zero x h e = let same : c ≡ x = cc in subst P same h.0
 all_at P (c ∷ cs) (suc t) x h e = all_at P cs t x h.1 e
 
--- an idle thread, and one that holds an outcome, keep the board from being stuck
-pub shown_undue : (s : State) (t : ℕ) (o : Option Standing) (p : Place) → slice_get s.callers t ≡ o → ShowsPlace o p → (p ≡ places.Idle) ⊎ (p ≡ places.Given) → ¬ IsStuckDue s
-shown_undue s t o p e h (inl is) due = undue_idle o e (subst (ShowsPlace o) is h)
-  where
-    undue_idle : (o : Option Standing) → slice_get s.callers t ≡ o → ShowsPlace o places.Idle → ⊥
-    undue_idle (Some idle) e h = all_at IsParkedOrEnded s.callers t idle due.settled e
-    undue_idle (Some (parked ticket event)) e h = h
-    undue_idle (Some (given ticket outcome)) e h = h
-    undue_idle (Some ended) e h = h
-    undue_idle None e h = h
-shown_undue s t o p e h (inr is) due = undue_given o e (subst (ShowsPlace o) is h)
-  where
-    undue_given : (o : Option Standing) → slice_get s.callers t ≡ o → ShowsPlace o places.Given → ⊥
-    undue_given (Some idle) e h = h
-    undue_given (Some (parked ticket event)) e h = h
-    undue_given (Some (given ticket outcome)) e h = all_at IsParkedOrEnded s.callers t (given ticket outcome) due.settled e
-    undue_given (Some ended) e h = h
-    undue_given None e h = h
-
 -- ---- the ends of parked threads
 
 -- the parked threads before t have ended, in order; the others stand as at the start
@@ -156,9 +110,6 @@ pub record EndedSoFar (old now : Run) (t : ℕ) : Type 0 where
   pub stuck : (state_of now).stuck ≡ true
   pub behind : AllByRecursion (λ c. c ≡ ended) (take t (Callers now))
   pub ahead : drop t (Callers now) ≡ drop t (Callers old)
-
-pub none_ended : (run : Run) → (state_of run).stuck ≡ true → EndedSoFar run run 0
-none_ended run stuck = record { ends = []; are_ends = tt; grows = ap (λ (es : List Entry). record { threads = run.threads; history = es }) (sym (append-nil run.history)); stuck = stuck; behind = tt; ahead = refl }
 
 pub as_before : (old now : Run) (t : ℕ) (s : Standing) → EndedSoFar old now t → Stands (state_of now) t s → Stands (state_of old) t s
 as_before old now t s h stood = slice_at_cut (Callers old) t ∙ ap (λ (cs : List Standing). slice_get cs 0) (sym h.ahead) ∙ sym (slice_at_cut (Callers now) t) ∙ stood
@@ -185,7 +136,7 @@ ended_one old now new t ticket event h stood k =
       are_ends = subst (λ (ps : List Parked). EndsOf ps (h.ends ++ e ∷ [])) (sym list) (ends_more (parked_from 0 (take t (Callers old))) h.ends _ e h.are_ends (sym count));
       grows = k ∙ ap (λ (r : Run). grown r (e ∷ [])) h.grows ∙ grown_twice old h.ends (e ∷ []);
       stuck = ap (λ (s : State). s.stuck) shows ∙ h.stuck;
-      behind = subst (λ (cs : List Standing). AllByRecursion (λ c. c ≡ ended) cs) (sym (take_next (Callers new) t ended here)) (subst (λ (cs : List Standing). AllByRecursion (λ c. c ≡ ended) (cs ++ ended ∷ [])) (sym front) (all_more (λ c. c ≡ ended) (take t (Callers now)) ended h.behind refl));
+      behind = subst (λ (cs : List Standing). AllByRecursion (λ c. c ≡ ended) cs) (sym (take_next (Callers new) t ended here)) (subst (λ (cs : List Standing). AllByRecursion (λ c. c ≡ ended) (cs ++ ended ∷ [])) (sym front) (AllByRecursion-append (λ c. c ≡ ended) (take t (Callers now)) ended h.behind refl));
       ahead = ap (λ (cs : List Standing). drop (suc t) cs) callers ∙ drop_set (Callers now) t ended ∙ drop_next (Callers now) t ∙ ap (λ (cs : List Standing). drop 1 cs) h.ahead ∙ sym (drop_next (Callers old) t);
     }
 
@@ -198,7 +149,7 @@ ended_skip old now t h stood =
       are_ends = subst (λ (ps : List Parked). EndsOf ps h.ends) (sym list) h.are_ends;
       grows = h.grows;
       stuck = h.stuck;
-      behind = subst (λ (cs : List Standing). AllByRecursion (λ c. c ≡ ended) cs) (sym (take_next (Callers now) t ended stood)) (all_more (λ c. c ≡ ended) (take t (Callers now)) ended h.behind refl);
+      behind = subst (λ (cs : List Standing). AllByRecursion (λ c. c ≡ ended) cs) (sym (take_next (Callers now) t ended stood)) (AllByRecursion-append (λ c. c ≡ ended) (take t (Callers now)) ended h.behind refl);
       ahead = drop_next (Callers now) t ∙ ap (λ (cs : List Standing). drop 1 cs) h.ahead ∙ sym (drop_next (Callers old) t);
     }
 
@@ -255,6 +206,3 @@ closed_stuck old mid new t due low k ends =
 pub closed_answered : {X E : Type 0} (r : Result X E) (old mid new : Run) (t : ℕ) → IsStuckDue (state_of old) → IsLowestParked (parked_list (state_of old)) t → mid ≡ grown old (entries.Stuck t ∷ []) → OnOk r (HasEndedAll mid new) → OnOk r (HasClosed old new)
 closed_answered (Ok x) old mid new t due low k ends = closed_stuck old mid new t due low k ends
 closed_answered (Err e) old mid new t due low k ends = tt
-
-pub closed_open : (run : Run) → (¬ IsStuckDue (state_of run)) → IsRunning (state_of run) → NoneGiven (state_of run) → HasClosed run run
-closed_open run undue running none = record { closing = []; closes = inr (undue, refl); grows = ap (λ (es : List Entry). record { threads = run.threads; history = es }) (sym (append-nil run.history)); goes_on = inr (running, none) }

@@ -20,14 +20,6 @@ AreCoresOf-later old new t [] (c ∷ cs) same h = absurd h
 AreCoresOf-later old new t (s ∷ ss) [] same h = absurd h
 AreCoresOf-later old new t (s ∷ ss) (c ∷ cs) same h = (IsCoreOf-later old new t c s same h.0, AreCoresOf-later old new (suc t) ss cs same h.1)
 
--- the core and the standing at a place
-pub record CoreAt (history : List Entry) (ss : List Standing) (cs : List At) (t : ℕ) : Type 0 where
-  pub core : At
-  pub standing : Standing
-  pub core_is : slice_get cs t ≡ Some core
-  pub standing_is : slice_get ss t ≡ Some standing
-  pub is_core : IsCoreOf history t core standing
-
 pub core_from : (history : List Entry) (t i : ℕ) (ss : List Standing) (cs : List At) (c : At) → AreCoresOf history t ss cs → slice_get cs i ≡ Some c
     → (s : Standing) × (slice_get ss i ≡ Some s) × IsCoreOf history (t + i) c s
 core_from history t i [] [] c h e = absurd (cc)

@@ -3,17 +3,17 @@ use Rattle.std.proofs.Common.{◌≡◌, ◌≢◌, ℕ, zero, suc, ◌+◌, ◌
 use Rattle.std.proofs.lemmas.List.{append-nil, length-append, length-set}
 use Rattle.std.proofs.lemmas.Option.{slice_get_within}
 use Rattle.std.specs.Prelude.{slice_get, IfOk, IfSome, IfNone, OnErr, MatchOption}
-use Rattle.te_terms.specs.Joint.{CanCommit}
+use Rattle.te_terms.specs.Joint.{CanCommit, meeting}
 use Rattle.tevents.specs.declared.group.Group.{Group}
 use Rattle.std.specs.List.{AllByRecursion}
 use Rattle.te_terms.specs.declared.event.Outcome.{Outcome}
 use Rattle.te_terms.specs.Terms.{Term}
 use Rattle.te_terms.specs.Steps as steps
 use Rattle.te_terms.specs.Steps.{outcome_of}
-use Rattle.te_terms.specs.Joint.{meeting}
 use Rattle.te_script.specs.Wishes.{Next, waits, ended, failed}
 use Rattle.te_script.specs.Cores.{At, IsWaiting}
 use Rattle.te_script.proofs.Places.{slice_get_set_same, slice_get_set_other}
+use Rattle.te_script.proofs.Appending.{AllByRecursion-append}
 use Rattle.tevents.specs.declared.cert.Member.{Member}
 use Rattle.tevents.specs.declared.cert.Meeting.{Meeting}
 use Rattle.tevents.specs.declared.cert.Cert.{Cert}
@@ -25,14 +25,14 @@ use Rattle.tevents.specs.State.{Standing, parked, given, State, with_standing, w
 use Rattle.tevents.specs.Follows.{Stands, RiseAfter, ThreadsRise, AreEvents, Commits}
 use Rattle.tevents.specs.OfScript.{taken, WishedBy}
 use Rattle.tevents.specs.Rounds.{IsLowestOf}
-use Rattle.tevents.specs.Boards.{Log, now, appended}
-use Rattle.tevents.specs.Boards.{HasCommitted}
+use Rattle.tevents.specs.Boards.{Log, now, appended, HasCommitted}
 use Rattle.tevents.specs.Groups.{threads_of as group_threads}
 use Rattle.tevents.specs.Houses.{Run, grown, state_of, syncs_left, all_left, stuck_left, threads_of, CommitsTightly, AreCoresOf, IsHouse}
 use Rattle.tevents.specs.Runs.{IsGivenIn, HasCommittedGroup}
-use Rattle.tevents.proofs.Appending.{state_more, taken_more, wished_more, all_more}
+use Rattle.tevents.proofs.AfterEntry.{state-after, length-state}
+use Rattle.tevents.proofs.Appending.{taken_more, wished_more}
 use Rattle.tevents.proofs.CoresKept.{core_within, stands_otherwise, all_left_at, set_same, same_core, AreCoresOf-later}
-use Rattle.tevents.proofs.HouseState.{state_length, run_of, house_state}
+use Rattle.tevents.proofs.HouseState.{run_of, house_state}
 
 -- each member is parked under its ticket
 abbrev pub ParkedAll : State → List Member → Type 0
@@ -199,16 +199,16 @@ committed_kept log new cores threads h done =
     let parked_so = parked_of (now log) ms done.commits.group done.commits.events in
     let many = as_many_given (now log) done.cert done.outcomes done.commits in
     let gives = gives_all log.history cores (now log) ms done.outcomes h.cores_stand parked_so done.commits.rise many in
-    let now_is : now (appended log e) ≡ with_given ms done.outcomes (now log) = state_more log.callers log.history e in
+    let now_is : now (appended log e) ≡ with_given ms done.outcomes (now log) = state-after log.callers log.history e in
     let no_more : (u : ℕ) → taken u (log.history ++ e ∷ []) ≡ taken u log.history = λ u. taken_more u log.history e ∙ append-nil (taken u log.history) in
-    let lt : done.by < length cores = omega (arith, by_within (now log) ms done.by done.lowest parked_so, state_length log.callers log.history, h.callers) in
+    let lt : done.by < length cores = omega (arith, by_within (now log) ms done.by done.lowest parked_so, length-state log.callers log.history, h.callers) in
     let some = some_member ms done.commits.some_member in
     subst (λ (l : Log). IsHouse l cores) (sym done.appends)
     (record {
       callers = h.callers;
       cores_stand = subst (λ (s : State). AreCoresOf (log.history ++ e ∷ []) 0 s.callers cores) (sym now_is) (AreCoresOf-later log.history (log.history ++ e ∷ []) 0 (with_given ms done.outcomes (now log)).callers cores no_more gives.cores_stand);
       wished = wished_more (threads_of cores) [] log.history e h.wished (wished_any cores done.by done.by (taken done.by log.history) done.cert done.outcomes lt);
-      tight = all_more CommitsTightly log.history e h.tight done.tight;
+      tight = AllByRecursion-append CommitsTightly log.history e h.tight done.tight;
       few = subst (λ (s : State). length (log.history ++ e ∷ []) + all_left s.callers cores + stuck_left s.stuck ≤ 200000) (sym now_is) (omega (arith, h.few, length-append log.history (e ∷ []), gives.less, some, ap stuck_left gives.stuck));
     })
 
@@ -236,7 +236,7 @@ group_shown log new cores threads h done =
     let parked_so = parked_of (now log) ms done.commits.group done.commits.events in
     let many = as_many_given (now log) done.cert done.outcomes done.commits in
     let kept = committed_kept log new cores threads h done in
-    let shows : state_of (run_of new cores) ≡ with_given ms done.outcomes (now log) = house_state new cores kept ∙ ap now done.appends ∙ state_more log.callers log.history e in
+    let shows : state_of (run_of new cores) ≡ with_given ms done.outcomes (now log) = house_state new cores kept ∙ ap now done.appends ∙ state-after log.callers log.history e in
     let given_so = each_given (now log) ms done.outcomes parked_so done.commits.rise many in
     record {
       by = done.by;

@@ -1,41 +1,16 @@
 -- The state that a house shows is that of its board, and has one caller a core.
-use Rattle.std.proofs.Common.{◌≡◌, ℕ, zero, suc, ◌<◌, List, [], ◌∷◌, length, Some, refl, sym, ap, subst, ◌∙◌, arith}
-use Rattle.std.proofs.lemmas.List.{length-map, length-set, length-replicate}
+use Rattle.std.proofs.Common.{◌≡◌, ℕ, zero, suc, ◌<◌, List, [], ◌∷◌, length, Some, sym, ap, subst, ◌∙◌, arith}
+use Rattle.std.proofs.lemmas.List.{length-map}
 use Rattle.std.proofs.lemmas.Option.{slice_get_within}
 use Rattle.std.specs.Prelude.{slice_get}
 use Rattle.std.specs.List.{AllByRecursion}
-use Rattle.te_terms.specs.declared.event.Outcome.{Outcome}
 use Rattle.te_script.specs.Cores.{At}
 use Rattle.te_script.specs.Scripts.{Thread}
-use Rattle.tevents.specs.declared.cert.Member.{Member}
-use Rattle.tevents.specs.declared.history.Entry.{Entry}
-use Rattle.tevents.specs.declared.history.Entry.TheVariants as entries
-use Rattle.tevents.specs.State.{Standing, idle, given, State, state, state_from, opening, changed, with_standing, with_given}
+use Rattle.tevents.specs.State.{Standing, State, state}
 use Rattle.tevents.specs.Follows.{Stands}
 use Rattle.tevents.specs.Boards.{Log, now}
 use Rattle.tevents.specs.Houses.{Run, state_of, threads_of, IsHouse}
-
-given_length : (ms : List Member) (os : List Outcome) (s : State) → length (with_given ms os s).callers ≡ length s.callers
-given_length [] os s = refl
-given_length (m ∷ ms) [] s = refl
-given_length (m ∷ ms) (o ∷ os) s = given_length ms os (with_standing m.thread (given m.ticket o) s) ∙ length-set s.callers m.thread (given m.ticket o)
-
-changed_length : (s : State) (e : Entry) → length (changed s e).callers ≡ length s.callers
-changed_length s (entries.Post by ticket event) = length-set s.callers by _
-changed_length s (entries.Commit by cert outcomes) = given_length cert.members outcomes s
-changed_length s (entries.Withdraw by ticket) = length-set s.callers by _
-changed_length s (entries.Take by ticket outcome) = length-set s.callers by _
-changed_length s (entries.Rest by) = refl
-changed_length s (entries.Stuck by) = refl
-changed_length s (entries.End by how) = length-set s.callers by _
-
-from_length : (s : State) (es : List Entry) → length (state_from s es).callers ≡ length s.callers
-from_length s [] = refl
-from_length s (e ∷ es) = from_length (changed s e) es ∙ changed_length s e
-
--- as many callers as were there
-pub state_length : (callers : ℕ) (history : List Entry) → length (state callers history).callers ≡ callers
-state_length callers history = from_length (opening callers) history ∙ length-replicate callers idle
+use Rattle.tevents.proofs.AfterEntry.{length-state}
 
 abbrev pub run_of : Log → List At → Run
 run_of log cores = record { threads = threads_of cores; history = log.history }
@@ -45,14 +20,11 @@ house_state log cores h = ap (λ n. state n log.history) (length-map cores (λ c
 
 -- a caller that stands somewhere has a core
 pub stands_within : (log : Log) (cores : List At) (t : ℕ) (s : Standing) → IsHouse log cores → Stands (now log) t s → t < length cores
-stands_within log cores t s h stood = omega (arith, slice_get_within (now log).callers t s stood, state_length log.callers log.history, h.callers)
+stands_within log cores t s h stood = omega (arith, slice_get_within (now log).callers t s stood, length-state log.callers log.history, h.callers)
 
 -- what a fact says of the state that a house shows, it says of its board's
 pub of_board : (P : State → Type 0) (run : Run) (log : Log) (cores : List At) → run_of log cores ≡ run → IsHouse log cores → P (state_of run) → P (now log)
 of_board P run log cores is h p = subst P (house_state log cores h) (subst (λ (r : Run). P (state_of r)) (sym is) p)
-
-pub of_house : (P : State → Type 0) (run : Run) (log : Log) (cores : List At) → run_of log cores ≡ run → IsHouse log cores → P (now log) → P (state_of run)
-of_house P run log cores is h p = subst (λ (r : Run). P (state_of r)) is (subst P (sym (house_state log cores h)) p)
 
 -- each thread's fact, at its core
 pub each_core : (P : Thread → Type 0) (cores : List At) (t : ℕ) (c : At) → AllByRecursion P (threads_of cores) → slice_get cores t ≡ Some c → P c.thread

@@ -1,5 +1,5 @@
 -- Commits of one member and of two: that they may follow, and what the board keeps after them.
-use Rattle.std.proofs.Common.{◌≡◌, ◌≢◌, ℕ, zero, suc, ◌<◌, Bool, List, [], ◌∷◌, ◌++◌, length, set, Ok, refl, ap, sym, ◌∙◌, subst, arith}
+use Rattle.std.proofs.Common.{◌≡◌, ◌≢◌, ℕ, ◌<◌, List, [], ◌∷◌, ◌++◌, length, set, Ok, refl, ap, sym, ◌∙◌, subst, arith}
 use Rattle.std.specs.List.{slice_get}
 use Rattle.std.proofs.Math.ListN.{length-set}
 use Rattle.std.proofs.lemmas.Option.{slice_get_within, same_Some}
@@ -96,17 +96,6 @@ tight_one at side keeps i j low low' =
     let first' : j ≡ 0 = omega arith in
     ap side (first ∙ sym first')
 
-same_side : (side : ℕ → Bool) → side 0 ≡ side 1 → (i : ℕ) → i < 2 → side i ≡ side 0
-same_side side same zero low = refl
-same_side side same (suc zero) low = sym same
-same_side side same (suc (suc i)) low = absurd (omega arith)
-
-pub tight_sender_low : (low high : Party) → IsTight (cert_of_two low high sender_low)
-tight_sender_low low high side keeps i j below below' = same_side side keeps.0 i below ∙ sym (same_side side keeps.0 j below')
-
-pub tight_receiver_low : (low high : Party) → IsTight (cert_of_two low high receiver_low)
-tight_receiver_low low high side keeps i j below below' = same_side side (sym keeps.0) i below ∙ sym (same_side side (sym keeps.0) j below')
-
 -- ---- what the board keeps
 
 caller_within : (callers : ℕ) (history : List Entry) (t ticket : ℕ) (event : Term) → Stands (state callers history) t (parked ticket event) → t < callers
@@ -150,19 +139,6 @@ has_committed_one old new at outcome commits appends = record {
   outcomes = outcome ∷ [];
   commits = commits;
   tight = tight_one at;
-  lowest = refl;
-  threads_are = refl;
-  appends = appends;
-}
-
-pub has_committed_two : (old new : Log) (low high : Party) (low_gets high_gets : Outcome) (met : Meeting) → Commits (now old) (cert_of_two low high met) (low_gets ∷ high_gets ∷ []) → IsTight (cert_of_two low high met)
-    → new ≡ appended old (Commit low.thread (cert_of_two low high met) (low_gets ∷ high_gets ∷ [])) → HasCommitted old new (low.thread ∷ high.thread ∷ [])
-has_committed_two old new low high low_gets high_gets met commits tight appends = record {
-  by = low.thread;
-  cert = cert_of_two low high met;
-  outcomes = low_gets ∷ high_gets ∷ [];
-  commits = commits;
-  tight = tight;
   lowest = refl;
   threads_are = refl;
   appends = appends;

@@ -1,8 +1,7 @@
 -- What a board keeps goes on after each entry: posts, takes, ends and stuck boards.
-use Rattle.std.proofs.Common.{◌≡◌, ℕ, zero, suc, ◌+◌, ◌≤◌, ◌<◌, ◌==◌, Bool, List, [], ◌∷◌, ◌++◌, length, set, replicate, Option, Some, None, refl, ap, sym, ◌∙◌, subst, arith, add-one, ne_eqb, eq-eqb}
+use Rattle.std.proofs.Common.{◌≡◌, ℕ, suc, ◌+◌, ◌<◌, ◌==◌, Bool, List, [], ◌∷◌, ◌++◌, length, set, Option, Some, None, refl, ap, sym, ◌∙◌, subst, arith, add-one, ne_eqb, eq-eqb}
 use Rattle.std.specs.List.{slice_get, AllByRecursion}
 use Rattle.std.proofs.Math.ListN.{length-set}
-use Rattle.std.proofs.lemmas.List.{length-replicate}
 use Rattle.std.proofs.lemmas.Option.{slice_get_within}
 use Rattle.te_terms.specs.declared.event.Outcome.{Outcome}
 use Rattle.te_terms.specs.Terms.{Term}
@@ -22,21 +21,6 @@ use Rattle.tevents.specs.Boards.{IsOfKind}
 use Rattle.tevents.specs.Seats.{Shows, SeatShows, IsKept, Restands}
 use Rattle.tevents.proofs.AfterEntry.{state-after, counted, posts_by-after, length-state, legal-after}
 use Rattle.tevents.proofs.SeatLemmas.{shows_along, shows_set}
-
--- ---- the empty history
-
-new_shows : (n t : ℕ) → SeatShows 0 (slice_get (replicate n (record { posts = 0; stance = Idle })) t) (slice_get (replicate n idle) t)
-new_shows zero t = tt
-new_shows (suc n) zero = (refl, tt)
-new_shows (suc n) (suc t) = new_shows n t
-
-pub kept_new : (callers : ℕ) → callers ≤ 64 → IsKept callers [] (replicate callers (record { posts = 0; stance = Idle }))
-kept_new callers few = record {
-  few = few;
-  count = length-replicate callers _;
-  legal = tt;
-  shows = new_shows callers;
-}
 
 -- ---- one entry more
 

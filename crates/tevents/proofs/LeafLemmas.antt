@@ -1,5 +1,5 @@
 -- An event that has a value or a channel is under a node that has it.
-use Rattle.std.proofs.Common.{◌≡◌, ℕ, List, Some, refl, ap, sym, ◌∙◌, subst}
+use Rattle.std.proofs.Common.{◌≡◌, ℕ, List, Some, ap, sym, ◌∙◌, subst}
 use Rattle.std.specs.List.{slice_get}
 use Rattle.te_terms.specs.declared.value.Atom.{Atom}
 use Rattle.te_terms.specs.declared.code.Node.{Node}
@@ -48,18 +48,6 @@ plain_node under level regs (Then a b) kind is = no_kind _ kind (λ e' h. cc) (�
 plain_node under level regs (Choose a b) kind is = no_kind _ kind (λ e' h. cc) (λ p' e' h. cc) (λ p' h. cc) is
 plain_node under level regs (Catch a b) kind is = no_kind _ kind (λ e' h. cc) (λ p' e' h. cc) (λ p' h. cc) is
 plain_node under level regs (If c a b) kind is = no_kind _ kind (λ e' h. cc) (λ p' e' h. cc) (λ p' h. cc) is
-
--- a plain node is one of three
-pub not_plain : (regs : List (List Atom)) (node : Node) → IsPlainNode regs node → ((e : _) → node ≡ Always e → ⊥) → ((p : _) (e : _) → node ≡ Send p e → ⊥) → ((p : _) → node ≡ Recv p → ⊥) → ⊥
-not_plain regs (Always e) plain a s r = a e refl
-not_plain regs Never plain a s r = plain
-not_plain regs (Throw e) plain a s r = plain
-not_plain regs (Send p e) plain a s r = s p e refl
-not_plain regs (Recv p) plain a s r = r p refl
-not_plain regs (Then x y) plain a s r = plain
-not_plain regs (Choose x y) plain a s r = plain
-not_plain regs (Catch x y) plain a s r = plain
-not_plain regs (If c x y) plain a s r = plain
 
 -- ---- events and their nodes
 

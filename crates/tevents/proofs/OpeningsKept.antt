@@ -6,6 +6,7 @@ use Rattle.te_terms.specs.declared.value.Atom.{Atom}
 use Rattle.te_terms.specs.Terms.{Term}
 use Rattle.te_script.specs.Wishes.{Next, waits, ended, failed, syncs, wish_at, wish_of, stand_after}
 use Rattle.te_script.specs.Cores.{At, IsWaiting}
+use Rattle.te_script.proofs.Appending.{AllByRecursion-append}
 use Rattle.tevents.specs.declared.history.Entry.{Entry}
 use Rattle.tevents.specs.declared.history.Entry.TheVariants as entries
 use Rattle.tevents.specs.State.{Standing, idle, parked, ended as has_ended, State, changed, with_standing}
@@ -15,7 +16,8 @@ use Rattle.tevents.specs.Rounds.{OpensBy}
 use Rattle.tevents.specs.Boards.{Log, now, appended}
 use Rattle.tevents.specs.Runs.{BoardOpened, HasOpened}
 use Rattle.tevents.specs.Houses.{Run, grown, threads_of, CommitsTightly, entries_left, all_left, stuck_left, FitsNext, IsCoreOf, AreCoresOf, IsHouse}
-use Rattle.tevents.proofs.Appending.{state_more, taken_more, wished_more, all_more}
+use Rattle.tevents.proofs.AfterEntry.{state-after}
+use Rattle.tevents.proofs.Appending.{taken_more, wished_more}
 use Rattle.tevents.proofs.HouseState.{run_of}
 use Rattle.tevents.proofs.CoresKept.{core_from, stands_otherwise, all_left_at, set_same, same_core}
 
@@ -42,7 +44,7 @@ pub otherwise_kept : (log : Log) (cores : List At) (t : ℕ) (c : At) (e : Entry
     → changed (now log) e ≡ with_standing t new (now log) → caller_of e ≡ t → ((u : ℕ) → taken_from u e [] ≡ []) → IsWished (wish_at c.stand) e → CommitsTightly e
     → FitsNext new c.stand.next → entries_left new c.stand.next + 1 ≤ entries_left old c.stand.next → IsHouse (appended log e) cores
 otherwise_kept log cores t c e old new h is stood change by takes w tight fits less =
-    let now_is : now (appended log e) ≡ with_standing t new (now log) = state_more log.callers log.history e ∙ change in
+    let now_is : now (appended log e) ≡ with_standing t new (now log) = state-after log.callers log.history e ∙ change in
     let no_more : (u : ℕ) → taken u (log.history ++ e ∷ []) ≡ taken u log.history = λ u. taken_more u log.history e ∙ ap (λ os. taken u log.history ++ os) (takes u) ∙ append-nil (taken u log.history) in
     let same : slice_set cores t c ≡ cores = set_same cores t c is in
     let left = all_left_at t (now log).callers cores old new c c stood is in
@@ -50,7 +52,7 @@ otherwise_kept log cores t c e old new h is stood change by takes w tight fits l
       callers = h.callers;
       cores_stand = subst (λ (s : State). AreCoresOf (log.history ++ e ∷ []) 0 s.callers cores) (sym now_is) (stands_otherwise log.history (log.history ++ e ∷ []) 0 t (now log).callers cores new no_more h.cores_stand (λ c' is'. rw (same_core cores t c c' is is') fits));
       wished = wished_more (threads_of cores) [] log.history e h.wished (rw by (wished_by log cores t c e h is w));
-      tight = all_more CommitsTightly log.history e h.tight tight;
+      tight = AllByRecursion-append CommitsTightly log.history e h.tight tight;
       few = subst (λ (s : State). length (log.history ++ e ∷ []) + all_left s.callers cores + stuck_left s.stuck ≤ 200000) (sym now_is) (omega (arith, h.few, length-append log.history (e ∷ []), rw same at left, less));
     }
 

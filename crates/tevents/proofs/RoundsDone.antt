@@ -17,6 +17,7 @@ use Rattle.tevents.specs.SerialRuns.{IsSerialRun}
 use Rattle.tevents.specs.Houses.{Run, grown, state_of, IsKept}
 use Rattle.tevents.specs.Runs.{NoneGiven, HasOpenedAll, HasCommittedAll, HasClosed, HasRound}
 use Rattle.tevents.proofs.RunStates.{grown_twice}
+use Rattle.tevents.proofs.RoundsSoFar.{some_of_block}
 
 -- all parked or ended, and nobody parked: all have ended
 all_past : (u : ℕ) (cs : List Standing) → AllByRecursion IsParkedOrEnded cs → parked_from u cs ≡ [] → AllByRecursion (λ c. c ≡ ended) cs
@@ -29,20 +30,7 @@ all_past u (parked k x ∷ cs) h e = absurd (differ e)
     differ : record { thread = u; ticket = k; event = x } ∷ parked_from (suc u) cs ≡ [] → ⊥
     differ e = cc
 
--- nobody holds an outcome where all are parked or ended
-all_at : (P : Standing → Type 0) (cs : List Standing) (t : ℕ) (x : Standing) → AllByRecursion P cs → slice_get cs t ≡ Some x → P x
-all_at P [] t x h e = absurd cc
-all_at P (c ∷ cs) zero x h e = let same : c ≡ x = cc in subst P same h.0
-all_at P (c ∷ cs) (suc t) x h e = all_at P cs t x h.1 e
-
-pub settled_none : (s : State) → AllByRecursion IsParkedOrEnded s.callers → NoneGiven s
-settled_none s h t ticket o stood = all_at IsParkedOrEnded s.callers t (given ticket o) h stood
-
 -- ---- one round is no empty one
-
-some_of_block : (b : List Entry) → IsBlock b → 1 ≤ length b
-some_of_block [] h = absurd h
-some_of_block (e ∷ es) h = omega arith
 
 some_of_closing : (s : State) (closing : List Entry) → IsStuckAndEnds s closing → 1 ≤ length closing
 some_of_closing s [] h = absurd h
@@ -155,13 +143,6 @@ all_idle (suc n) (suc t) ticket o e = all_idle n t ticket o e
 pub run_begins : (script : Program) (run : Run) → run ≡ record { threads = script.threads; history = [] } → RunSoFar script run
 run_begins script run is =
     subst (λ (x : Run). RunSoFar script x) (sym is) (record { threads = refl; rounds = []; parts = refl; are_rounds = tt; goes_on = inr (refl, λ t ticket o stood. all_idle (length script.threads) t ticket o stood) })
-
-pub can_go_on : (script : Program) (run : Run) → RunSoFar script run → ¬ IsWhole (length run.threads) run.history → IsRunning (state_of run) × NoneGiven (state_of run)
-can_go_on script run h undone = at h.goes_on
-  where
-    at : IsWhole (length run.threads) run.history ⊎ (IsRunning (state_of run) × NoneGiven (state_of run)) → IsRunning (state_of run) × NoneGiven (state_of run)
-    at (inl whole) = absurd (undone whole)
-    at (inr go) = go
 
 rounds_end : (callers : ℕ) (before : List Entry) (rs : List Round) → RoundsFrom callers before rs → IsWhole callers (before ++ flat_map entries_of rs) → AreRounds callers before rs
 rounds_end callers before [] h whole = subst (IsWhole callers) (append-nil before) whole

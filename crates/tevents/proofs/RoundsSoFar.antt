@@ -7,6 +7,7 @@ use Rattle.std.specs.List.{AllByRecursion, flat_map}
 use Rattle.te_terms.specs.declared.event.Outcome.{Outcome}
 use Rattle.te_terms.specs.Joint.{CanCommit}
 use Rattle.te_script.proofs.Places.{slice_get_set_same}
+use Rattle.te_script.proofs.Appending.{AllByRecursion-append}
 use Rattle.tevents.specs.declared.history.Entry.{Entry}
 use Rattle.tevents.specs.declared.board.Place.{Place}
 use Rattle.tevents.specs.declared.board.Place.TheVariants as places
@@ -16,7 +17,6 @@ use Rattle.tevents.specs.Rounds.{OpensBy, OpensFrom, IsBlock}
 use Rattle.tevents.specs.Boards.{ShowsPlace}
 use Rattle.tevents.specs.Houses.{Run, grown, state_of}
 use Rattle.tevents.specs.Runs.{NoneGiven, HasOpened, HasOpenedAll, HasCommittedBlock, HasCommittedAll}
-use Rattle.tevents.proofs.Appending.{all_more}
 use Rattle.tevents.proofs.RunStates.{grown_twice, opened_state, opens_idle, opens_other, blocks_more}
 
 -- the threads before t have opened, and the others stand as at the start
@@ -87,7 +87,7 @@ skipped old now t s h stood settled = record {
   opens = subst (λ (cs : List Standing). OpensFrom 0 cs h.entries) (sym (take_next (Callers old) t s (as_at_start old now t s h stood))) (opens_other 0 (take t (Callers old)) h.entries s settled h.opens);
   grows = h.grows;
   running = h.running;
-  behind = subst (λ (cs : List Standing). AllByRecursion IsParkedOrEnded cs) (sym (take_next (Callers now) t s stood)) (all_more IsParkedOrEnded (take t (Callers now)) s h.behind settled);
+  behind = subst (λ (cs : List Standing). AllByRecursion IsParkedOrEnded cs) (sym (take_next (Callers now) t s stood)) (AllByRecursion-append IsParkedOrEnded (take t (Callers now)) s h.behind settled);
   ahead = drop_next (Callers now) t ∙ ap (λ (cs : List Standing). drop 1 cs) h.ahead ∙ sym (drop_next (Callers old) t);
   few = h.few;
 }
@@ -106,13 +106,10 @@ opened_one old now new t h stood k =
       opens = subst (λ (cs : List Standing). OpensFrom 0 cs (h.entries ++ k.entry ∷ [])) (sym (take_next (Callers old) t idle at_start)) (opens_idle 0 (take t (Callers old)) h.entries k.entry h.opens (subst (λ i. OpensBy i k.entry) (sym count) k.opens));
       grows = k.grows ∙ ap (λ (r : Run). grown r (k.entry ∷ [])) h.grows ∙ grown_twice old h.entries (k.entry ∷ []);
       running = after.stuck ∙ h.running;
-      behind = subst (λ (cs : List Standing). AllByRecursion IsParkedOrEnded cs) (sym (take_next (Callers new) t after.standing here)) (subst (λ (cs : List Standing). AllByRecursion IsParkedOrEnded (cs ++ after.standing ∷ [])) (sym front) (all_more IsParkedOrEnded (take t (Callers now)) after.standing h.behind after.settled));
+      behind = subst (λ (cs : List Standing). AllByRecursion IsParkedOrEnded cs) (sym (take_next (Callers new) t after.standing here)) (subst (λ (cs : List Standing). AllByRecursion IsParkedOrEnded (cs ++ after.standing ∷ [])) (sym front) (AllByRecursion-append IsParkedOrEnded (take t (Callers now)) after.standing h.behind after.settled));
       ahead = ap (λ (cs : List Standing). drop (suc t) cs) after.callers ∙ drop_set (Callers now) t after.standing ∙ drop_next (Callers now) t ∙ ap (λ (cs : List Standing). drop 1 cs) h.ahead ∙ sym (drop_next (Callers old) t);
       few = k.few;
     }
-
-pub none_opened : (run : Run) → IsRunning (state_of run) → length run.history ≤ 200000 → OpenedSoFar run run 0
-none_opened run running few = record { entries = []; opens = tt; grows = ap (λ (es : List Entry). record { threads = run.threads; history = es }) (sym (append-nil run.history)); running = running; behind = tt; ahead = refl; few = few }
 
 pub all_opened : (old now : Run) (t : ℕ) → OpenedSoFar old now t → length (Callers old) ≤ t → length (Callers now) ≤ t → HasOpenedAll old now
 all_opened old now t h le le' = record {
@@ -157,7 +154,7 @@ none_while old now t h none ticket o stood = none t ticket o (as_at_start old no
 pub block_more : (old now new : Run) → BlocksSoFar old now → HasCommittedBlock now new → BlocksSoFar old new
 block_more old now new h k = record {
   blocks = h.blocks ++ k.block ∷ [];
-  are_blocks = all_more IsBlock h.blocks k.block h.are_blocks k.is_block;
+  are_blocks = AllByRecursion-append IsBlock h.blocks k.block h.are_blocks k.is_block;
   grows = k.grows ∙ ap (λ (r : Run). grown r k.block) h.grows ∙ blocks_more old h.blocks k.block;
   running = k.running;
   none = k.none;
@@ -167,12 +164,12 @@ block_more old now new h k = record {
 pub no_blocks : (run : Run) → IsRunning (state_of run) → NoneGiven (state_of run) → length run.history ≤ 200000 → BlocksSoFar run run
 no_blocks run running none few = record { blocks = []; are_blocks = tt; grows = ap (λ (es : List Entry). record { threads = run.threads; history = es }) (sym (append-nil run.history)); running = running; none = none; few = few }
 
-some_entry : (block : List Entry) → IsBlock block → 1 ≤ length block
-some_entry [] h = absurd h
-some_entry (e ∷ es) h = omega arith
+pub some_of_block : (block : List Entry) → IsBlock block → 1 ≤ length block
+some_of_block [] h = absurd h
+some_of_block (e ∷ es) h = omega arith
 
 pub block_longer : (now new : Run) → HasCommittedBlock now new → length now.history < length new.history
-block_longer now new k = omega (arith, ap (λ (r : Run). length r.history) k.grows, length-append now.history k.block, some_entry k.block k.is_block)
+block_longer now new k = omega (arith, ap (λ (r : Run). length r.history) k.grows, length-append now.history k.block, some_of_block k.block k.is_block)
 
 pub all_committed : (old now new : Run) → BlocksSoFar old now → new ≡ now → (¬ CanCommit (parked_list (state_of now))) → HasCommittedAll old new
 all_committed old now new h same none_left = subst (λ (r : Run). HasCommittedAll old r) (sym same) (record { blocks = h.blocks; are_blocks = h.are_blocks; grows = h.grows; running = h.running; none = h.none; none_left = none_left; few = h.few })

@@ -18,14 +18,14 @@ use Rattle.tevents.specs.Follows.{Stands, IsRunning, IsParkedOrEnded, ThreadsRis
 use Rattle.tevents.specs.Rounds.{OpensBy, OpensFrom, TakesBy, TakesOf}
 use Rattle.tevents.specs.Houses.{Run, grown, state_of}
 use Rattle.tevents.specs.Runs.{NoneGiven, IsGivenIn, HasOpened, HasTakenOne, HasCommittedGroup, HasCommittedBlock}
-use Rattle.tevents.proofs.Appending.{state_more}
+use Rattle.tevents.proofs.AfterEntry.{state-after}
 
 pub grown_twice : (run : Run) (xs ys : List Entry) → grown (grown run xs) ys ≡ grown run (xs ++ ys)
 grown_twice run xs ys = λ i. record { threads = run.threads; history = append_assoc run.history xs ys i }
 
 -- one entry more
 pub state_grown : (old new : Run) (e : Entry) → new ≡ grown old (e ∷ []) → state_of new ≡ changed (state_of old) e
-state_grown old new e is = ap state_of is ∙ state_more (length old.threads) old.history e
+state_grown old new e is = ap state_of is ∙ state-after (length old.threads) old.history e
 
 -- ---- after an opening
 
@@ -118,8 +118,8 @@ given_stuck [] os s = refl
 given_stuck (m ∷ ms) [] s = refl
 given_stuck (m ∷ ms) (o ∷ os) s = given_stuck ms os (with_standing m.thread (given m.ticket o) s)
 
-commits_running : (old new : Run) (ts : List ℕ) → HasCommittedGroup old new ts → IsRunning (state_of old) → IsRunning (state_of new)
-commits_running old new ts h running = ap (λ (s : State). s.stuck) (state_grown old new (entries.Commit h.by h.cert h.outcomes) h.grows) ∙ given_stuck h.cert.members h.outcomes (state_of old) ∙ running
+pub still_running : (old new : Run) (ts : List ℕ) → HasCommittedGroup old new ts → IsRunning (state_of old) → IsRunning (state_of new)
+still_running old new ts h running = ap (λ (s : State). s.stuck) (state_grown old new (entries.Commit h.by h.cert h.outcomes) h.grows) ∙ given_stuck h.cert.members h.outcomes (state_of old) ∙ running
 
 -- who stands where after a take
 after_take : (old new : State) (t u : ℕ) (s : Standing) → TakenState old new t → u ≢ t → Stands new u s → Stands old u s
@@ -148,7 +148,7 @@ block_alone old mid new t c k running none =
       block = commit ∷ k.entry ∷ [];
       is_block = (c.lowest, takes_alone c.cert.members t k.entry c.threads_are k.takes);
       grows = k.grows ∙ ap (λ (r : Run). grown r (k.entry ∷ [])) c.grows ∙ grown_twice old (commit ∷ []) (k.entry ∷ []);
-      running = after.stuck ∙ commits_running old mid (t ∷ []) c running;
+      running = after.stuck ∙ still_running old mid (t ∷ []) c running;
       none = λ u ticket o stood.
           let ne = not_given (state_of mid) (state_of new) t u ticket o after (given_within (state_of mid) t c.given.0) stood in
           none u ticket o (sym (c.others u (ne, tt)) ∙ after_take (state_of mid) (state_of new) t u (given ticket o) after ne stood);
@@ -168,7 +168,7 @@ block_pair old mid last new low high c k l running none =
       block = commit ∷ k.entry ∷ l.entry ∷ [];
       is_block = (c.lowest, takes_pair c.cert.members low high k.entry l.entry c.threads_are k.takes l.takes);
       grows = l.grows ∙ ap (λ (r : Run). grown r (l.entry ∷ [])) (k.grows ∙ ap (λ (r : Run). grown r (k.entry ∷ [])) c.grows ∙ grown_twice old (commit ∷ []) (k.entry ∷ [])) ∙ grown_twice old (commit ∷ k.entry ∷ []) (l.entry ∷ []);
-      running = second.stuck ∙ first.stuck ∙ commits_running old mid (low ∷ high ∷ []) c running;
+      running = second.stuck ∙ first.stuck ∙ still_running old mid (low ∷ high ∷ []) c running;
       none = λ u ticket o stood.
           let ne = not_given (state_of last) (state_of new) high u ticket o second (given_within (state_of last) high high_given) stood in
           let before = after_take (state_of last) (state_of new) high u (given ticket o) second ne stood in
@@ -183,9 +183,6 @@ high_given old mid last low high c k =
     let lt = pair_rises c.cert.members low high c.threads_are c.rise in
     let apart : high ≢ low = λ e. absurd (omega arith) in
     still_given (state_of mid) (state_of last) low high (taken_state mid last low k) apart c.given.1.0
-
-pub still_running : (old mid : Run) (ts : List ℕ) → HasCommittedGroup old mid ts → IsRunning (state_of old) → IsRunning (state_of mid)
-still_running old mid ts c running = commits_running old mid ts c running
 
 -- ---- blocks, one more
 

@@ -1,10 +1,11 @@
 -- What the seats of a board show, and how they go with each entry.
-use Rattle.std.proofs.Common.{◌≡◌, ◌≢◌, ℕ, zero, suc, ◌<◌, List, [], ◌∷◌, length, set, Option, Some, None, refl, ap, sym, ◌∙◌, subst, arith, inl, inr}
+use Rattle.std.proofs.Common.{◌≡◌, ◌≢◌, ℕ, ◌<◌, List, length, set, Option, Some, None, refl, ap, sym, ◌∙◌, subst, arith, inl, inr}
 use Rattle.std.specs.List.{slice_get}
 use Rattle.std.proofs.lemmas.Option.{slice_get_within}
 use Rattle.std.proofs.lemmas.Bool.Decides.{eqb_tells}
 use Rattle.te_terms.specs.declared.event.Outcome.{Outcome}
 use Rattle.te_terms.specs.Terms.{Term}
+use Rattle.te_script.proofs.Places.{slice_get_set_same, slice_get_set_other}
 use Rattle.tevents.specs.declared.kind.Kind.{Kind}
 use Rattle.tevents.specs.declared.history.Entry.{Entry}
 use Rattle.tevents.specs.declared.seat.Stance.{Stance}
@@ -16,20 +17,6 @@ use Rattle.tevents.specs.Follows.{Stands}
 use Rattle.tevents.specs.Boards.{IsOfKind}
 use Rattle.tevents.specs.Seats.{Shows, SeatShows, IsKept, HasStance, IsParkedAs}
 use Rattle.tevents.proofs.AfterEntry.{length-state}
-
--- ---- lists with one element changed
-
-pub slice_get-set_same : {X : Type 0} (xs : List X) (i : ℕ) (x : X) → i < length xs → slice_get (set xs i x) i ≡ Some x
-slice_get-set_same [] i x within = absurd (omega arith)
-slice_get-set_same (y ∷ ys) zero x within = refl
-slice_get-set_same (y ∷ ys) (suc i) x within = slice_get-set_same ys i x (omega arith)
-
-pub slice_get-set_other : {X : Type 0} (xs : List X) (i j : ℕ) (x : X) → j ≢ i → slice_get (set xs i x) j ≡ slice_get xs j
-slice_get-set_other [] i j x other = refl
-slice_get-set_other (y ∷ ys) zero zero x other = absurd (other refl)
-slice_get-set_other (y ∷ ys) zero (suc j) x other = refl
-slice_get-set_other (y ∷ ys) (suc i) zero x other = refl
-slice_get-set_other (y ∷ ys) (suc i) (suc j) x other = slice_get-set_other ys i j x (λ same. other (ap suc same))
 
 -- ---- what seats show
 
@@ -87,9 +74,9 @@ shows_set posts posts' seats standings by seat standing within within' before po
     elim (eqb_tells t by) [
       | inl same ↦
           subst (λ (k : ℕ). SeatShows (posts' k) (slice_get (set seats by seat) k) (slice_get (set standings by standing) k)) (sym same.1)
-          (shows_along {a = Some seat} {c = Some standing} refl (sym (slice_get-set_same seats by seat within)) (sym (slice_get-set_same standings by standing within')) (posts_are, here))
+          (shows_along {a = Some seat} {c = Some standing} refl (sym (slice_get_set_same seats by seat within)) (sym (slice_get_set_same standings by standing within')) (posts_are, here))
       | inr other ↦
-          shows_along (others t other.1) (sym (slice_get-set_other seats by t seat other.1)) (sym (slice_get-set_other standings by t standing other.1)) (before t)
+          shows_along (others t other.1) (sym (slice_get_set_other seats by t seat other.1)) (sym (slice_get_set_other standings by t standing other.1)) (before t)
     ]
 
 -- ---- standings that stances show

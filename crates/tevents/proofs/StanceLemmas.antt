@@ -1,5 +1,5 @@
 -- What is known of the first callers, once one more has been looked at.
-use Rattle.std.proofs.Common.{◌≡◌, ◌≢◌, ℕ, ◌<◌, ◌+◌, List, length, get_or, Option, Some, None, IfNone, refl, ap, sym, ◌∙◌, arith, below_more}
+use Rattle.std.proofs.Common.{◌≡◌, ◌≢◌, ℕ, ◌<◌, ◌+◌, List, length, get_or, Option, Some, None, IfNone, refl, ap, sym, ◌∙◌, below_more}
 use Rattle.std.proofs.lemmas.Option.{same_Some, slice_get_read}
 use Rattle.te_terms.specs.declared.value.Atom.{Atom}
 use Rattle.tevents.specs.declared.kind.Kind.TheVariants.{Always, Send, Recv}
@@ -29,12 +29,6 @@ found_at_read seats at thread seat stance within read same is = rw same (has_sta
 -- and no other
 pub is_stance_read : (seats : List Seat) (at : ℕ) (seat : Seat) (stance : Stance) → at < length seats → seat ≡ get_or seats at seat → HasStance seats at stance → seat.stance ≡ stance
 is_stance_read seats at seat stance within read has = one_stance seats at seat.stance stance (has_stance_read seats at seat seat.stance within read refl) has
-
-pub none_at_first : (seats : List Seat) → NoneBelow seats 0
-none_at_first seats = record {
-  alone = λ t ticket value low has. absurd (omega arith);
-  meets = λ s r channel at_s at_r value low low_r sends receives. absurd (omega arith);
-}
 
 -- one more caller, which neither has a value nor is on a channel with one below
 pub none_at_next : (seats : List Seat) (at : ℕ) (stance : Stance) → HasStance seats at stance → NoneBelow seats at

@@ -5,6 +5,7 @@ use Rattle.std.specs.Prelude.{slice_get, OnOk, OnErr}
 use Rattle.te_terms.specs.declared.event.Outcome.{Outcome}
 use Rattle.te_terms.specs.Terms.{Term}
 use Rattle.te_script.specs.Cores.{At}
+use Rattle.te_script.proofs.Appending.{AllByRecursion-append}
 use Rattle.tevents.specs.declared.history.How.TheVariants as ways
 use Rattle.tevents.specs.declared.history.Entry.{Entry}
 use Rattle.tevents.specs.declared.history.Entry.TheVariants as entries
@@ -13,7 +14,8 @@ use Rattle.tevents.specs.Follows.{Stands, Ends, IsRunning}
 use Rattle.tevents.specs.OfScript.{taken, WishedBy}
 use Rattle.tevents.specs.Boards.{Log, now, appended}
 use Rattle.tevents.specs.Houses.{all_left, stuck_left, threads_of, CommitsTightly, AreCoresOf, IsHouse}
-use Rattle.tevents.proofs.Appending.{state_more, taken_more, wished_more, all_more}
+use Rattle.tevents.proofs.AfterEntry.{state-after}
+use Rattle.tevents.proofs.Appending.{taken_more, wished_more}
 use Rattle.tevents.proofs.CoresKept.{core_within, AreCoresOf-later}
 use Rattle.tevents.proofs.HouseState.{stands_within}
 use Rattle.tevents.proofs.OpeningsKept.{otherwise_kept}
@@ -27,14 +29,14 @@ wished_stuck (c ∷ cs) (suc i) t outs lt = wished_stuck cs i t outs (omega arit
 pub stuck_kept : (log : Log) (cores : List At) (t ticket : ℕ) (event : Term) → IsHouse log cores → IsRunning (now log) → Stands (now log) t (parked ticket event) → IsHouse (appended log (entries.Stuck t)) cores
 stuck_kept log cores t ticket event h running stood =
     let e : Entry = entries.Stuck t in
-    let now_is = state_more log.callers log.history e in
+    let now_is = state-after log.callers log.history e in
     let no_more : (u : ℕ) → taken u (log.history ++ e ∷ []) ≡ taken u log.history = λ u. taken_more u log.history e ∙ append-nil (taken u log.history) in
     let lt = stands_within log cores t (parked ticket event) h stood in
     record {
       callers = h.callers;
       cores_stand = subst (λ (s : State). AreCoresOf (log.history ++ e ∷ []) 0 s.callers cores) (sym now_is) (AreCoresOf-later log.history (log.history ++ e ∷ []) 0 (now log).callers cores no_more h.cores_stand);
       wished = wished_more (threads_of cores) [] log.history e h.wished (wished_stuck cores t t (taken t log.history) lt);
-      tight = all_more CommitsTightly log.history e h.tight tt;
+      tight = AllByRecursion-append CommitsTightly log.history e h.tight tt;
       few = subst (λ (s : State). length (log.history ++ e ∷ []) + all_left s.callers cores + stuck_left s.stuck ≤ 200000) (sym now_is) (omega (arith, h.few, length-append log.history (e ∷ []), ap stuck_left running));
     }
 

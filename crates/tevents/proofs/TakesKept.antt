@@ -9,20 +9,21 @@ use Rattle.te_terms.specs.declared.event.Outcome.{Outcome}
 use Rattle.te_terms.specs.declared.event.Outcome.TheVariants.{Gives, Raises}
 use Rattle.te_terms.specs.Expressions.{value_of}
 use Rattle.te_script.specs.Scripts.{Statement, sync, emit, Thread}
-use Rattle.te_script.specs.Wishes.{Next, waits, ended, failed, Stand, stand_at, emits, moved, goes_by, stand_after, written}
+use Rattle.te_script.specs.Wishes.{Next, waits, ended, failed, Stand, stand_at, emits, moved, stand_after, written}
 use Rattle.te_script.specs.Cores.{At, IsWaiting, core_after}
 use Rattle.tevents.specs.declared.history.Entry.{Entry}
 use Rattle.tevents.specs.declared.history.Entry.TheVariants as entries
 use Rattle.tevents.specs.State.{idle, given, State, with_standing}
 use Rattle.tevents.specs.Follows.{Stands}
 use Rattle.tevents.specs.OfScript.{taken, WishedBy}
-use Rattle.tevents.specs.Boards.{Log, now, appended}
-use Rattle.tevents.specs.Boards.{HasTaken}
+use Rattle.tevents.specs.Boards.{Log, now, appended, HasTaken}
 use Rattle.tevents.specs.Runs.{HasTakenOne}
 use Rattle.tevents.specs.Houses.{Run, grown, syncs_in, syncs_left, all_left, stuck_left, threads_of, CommitsTightly, IsCoreOf, AreCoresOf, IsHouse}
-use Rattle.tevents.proofs.Appending.{state_more, taken_more, wished_more, all_more}
+use Rattle.tevents.proofs.AfterEntry.{state-after}
+use Rattle.tevents.proofs.Appending.{taken_more, wished_more}
 use Rattle.tevents.proofs.CoresKept.{core_within, moves_on, all_left_at, same_core}
 use Rattle.te_script.proofs.OneMore.{one_more}
+use Rattle.te_script.proofs.Appending.{AllByRecursion-append}
 use Rattle.tevents.proofs.HouseState.{stands_within, run_of}
 use Rattle.tevents.proofs.OpeningsKept.{thread_of}
 use Rattle.tevents.proofs.GroupsKept.{run_grown}
@@ -72,7 +73,7 @@ taken_kept log new cores t c c' o h done is moved_so =
     let found = core_at log cores t done.ticket o h done.was_given in
     let core : IsCoreOf log.history t c (given done.ticket o) = subst (λ (x : At). IsCoreOf log.history t x (given done.ticket o)) (same_core cores t c found.0 is found.1) found.2 in
     let lt = stands_within log cores t (given done.ticket o) h done.was_given in
-    let now_is : now (appended log e) ≡ with_standing t idle (now log) = state_more log.callers log.history e in
+    let now_is : now (appended log e) ≡ with_standing t idle (now log) = state-after log.callers log.history e in
     let mine : taken t (log.history ++ e ∷ []) ≡ taken t log.history ++ o ∷ [] = taken_more t log.history e ∙ ap (λ b. taken t log.history ++ cond b (o ∷ []) []) (eq-eqb t t refl) in
     let others : (u : ℕ) → u ≢ 0 + t → taken u (log.history ++ e ∷ []) ≡ taken u log.history = λ u ne. taken_more u log.history e ∙ ap (λ os. taken u log.history ++ os) (not_mine u (eqb t u) refl (λ same. ne (sym same ∙ sym (zero-add t)))) ∙ append-nil (taken u log.history) in
     let stand : stand_after c.thread (taken t (log.history ++ e ∷ [])) ≡ moved (stand_after c.thread (taken t log.history)).emitted (stand_after c.thread (taken t log.history)).next o = ap (stand_after c.thread) mine ∙ one_more (stand_at c.thread.statements []) (taken t log.history) o in
@@ -89,7 +90,7 @@ taken_kept log new cores t c c' o h done is moved_so =
       callers = h.callers ∙ sym (length-set cores t c');
       cores_stand = subst (λ (s : State). AreCoresOf (log.history ++ e ∷ []) 0 s.callers (slice_set cores t c')) (sym now_is) (moves_on log.history (log.history ++ e ∷ []) 0 t (now log).callers cores idle c' others h.cores_stand lt is_core);
       wished = rw (threads_same cores t c c' is same_thread) (wished_more (threads_of cores) [] log.history e h.wished (subst (λ th. WishedBy th (taken t log.history) e) (sym (thread_of cores t c is)) tt));
-      tight = all_more CommitsTightly log.history e h.tight tt;
+      tight = AllByRecursion-append CommitsTightly log.history e h.tight tt;
       few = subst (λ (s : State). length (log.history ++ e ∷ []) + all_left s.callers (slice_set cores t c') + stuck_left s.stuck ≤ 200000) (sym now_is) (omega (arith, h.few, length-append log.history (e ∷ []), left, less));
     })
   where

@@ -1,5 +1,5 @@
 -- What one turn of a loop over the threads makes of what the loop keeps, and what the loop tells at its end.
-use Rattle.std.proofs.Common.{◌≡◌, ◌≢◌, ◌⊎◌, inl, inr, ℕ, suc, ◌+◌, ◌≤◌, List, [], ◌∷◌, length, Option, Some, None, refl, sym, ap, subst, ◌∙◌, arith}
+use Rattle.std.proofs.Common.{◌≡◌, ◌≢◌, ◌⊎◌, inl, inr, ℕ, suc, ◌+◌, ◌≤◌, List, [], ◌∷◌, length, Option, Some, None, refl, sym, ap, subst, arith}
 use Rattle.std.specs.Prelude.{slice_get, true, false}
 use Rattle.std.specs.Option.{is_some}
 use Rattle.std.specs.List.{AllByRecursion}
@@ -13,7 +13,7 @@ use Rattle.tevents.specs.Follows.{IsParkedOrEnded}
 use Rattle.tevents.specs.Boards.{ShowsPlace}
 use Rattle.tevents.specs.Houses.{Run, grown, state_of}
 use Rattle.tevents.specs.Runs.{NoneGiven, HasOpened, HasOpenedAll, HasEndedAll}
-use Rattle.tevents.proofs.HouseState.{state_length}
+use Rattle.tevents.proofs.AfterEntry.{length-state}
 use Rattle.tevents.proofs.RoundsSoFar.{OpenedSoFar, Callers, skipped, opened_one, shown_idle, shown_settled, none_while, all_opened}
 use Rattle.tevents.proofs.ClosingsSoFar.{LookedSoFar, looked_first, looked_other, looked_ended, EndedSoFar, ended_one, ended_skip, ended_all, shown_parked, shown_ended, shown_past}
 
@@ -23,8 +23,8 @@ turn_of t = omega arith
 -- a run that has only grown has as many threads
 callers_within : (old now : Run) (es : List Entry) (n t : ℕ) → now ≡ grown old es → n ≡ length old.threads → n ≤ t → (length (Callers old) ≤ t) × (length (Callers now) ≤ t)
 callers_within old now es n t grows is le = (
-  let at = state_length (length old.threads) old.history in omega (arith, at, is, le),
-  let at = state_length (length now.threads) now.history in let same : length now.threads ≡ length old.threads = ap (λ (r : Run). length r.threads) grows in omega (arith, at, same, is, le),
+  let at = length-state (length old.threads) old.history in omega (arith, at, is, le),
+  let at = length-state (length now.threads) now.history in let same : length now.threads ≡ length old.threads = ap (λ (r : Run). length r.threads) grows in omega (arith, at, same, is, le),
 )
 
 -- ---- openings
@@ -35,18 +35,9 @@ opened_next old now new last t p h shows is opens same =
     subst (λ n. OpenedSoFar old last n) (turn_of t) (subst (λ (r : Run). OpenedSoFar old r (suc t)) (sym same) (opened_one old now new t h stood opens))
 
 not_idle : (p : Place) → (p ≡ places.Parked) ⊎ (p ≡ places.Given) ⊎ (p ≡ places.Ended) → p ≢ places.Idle
-not_idle p (inl is) e = differ (sym is ∙ e)
-  where
-    differ : places.Parked ≡ places.Idle → ⊥
-    differ e = cc
-not_idle p (inr (inl is)) e = differ (sym is ∙ e)
-  where
-    differ : places.Given ≡ places.Idle → ⊥
-    differ e = cc
-not_idle p (inr (inr is)) e = differ (sym is ∙ e)
-  where
-    differ : places.Ended ≡ places.Idle → ⊥
-    differ e = cc
+not_idle p (inl is) e = cc
+not_idle p (inr (inl is)) e = cc
+not_idle p (inr (inr is)) e = cc
 
 pub skipped_next : (old now last : Run) (t : ℕ) (p : Place) → OpenedSoFar old now t → NoneGiven (state_of old) → ShowsPlace (slice_get (Callers now) t) p → (p ≡ places.Parked) ⊎ (p ≡ places.Given) ⊎ (p ≡ places.Ended) → last ≡ now → OpenedSoFar old last (t + 1)
 skipped_next old now last t p h none shows is same =
@@ -64,18 +55,9 @@ ended_next old now new last t p h shows is k same =
     subst (λ n. EndedSoFar old last n) (turn_of t) (subst (λ (r : Run). EndedSoFar old r (suc t)) (sym same) (ended_one old now new t stood.0 stood.1 h stood.2 k))
 
 not_parked : (p : Place) → (p ≡ places.Idle) ⊎ (p ≡ places.Given) ⊎ (p ≡ places.Ended) → p ≢ places.Parked
-not_parked p (inl is) e = differ (sym is ∙ e)
-  where
-    differ : places.Idle ≡ places.Parked → ⊥
-    differ e = cc
-not_parked p (inr (inl is)) e = differ (sym is ∙ e)
-  where
-    differ : places.Given ≡ places.Parked → ⊥
-    differ e = cc
-not_parked p (inr (inr is)) e = differ (sym is ∙ e)
-  where
-    differ : places.Ended ≡ places.Parked → ⊥
-    differ e = cc
+not_parked p (inl is) e = cc
+not_parked p (inr (inl is)) e = cc
+not_parked p (inr (inr is)) e = cc
 
 pub ended_past : (old now last : Run) (t : ℕ) (p : Place) → EndedSoFar old now t → AllByRecursion IsParkedOrEnded (Callers old) → ShowsPlace (slice_get (Callers now) t) p → (p ≡ places.Idle) ⊎ (p ≡ places.Given) ⊎ (p ≡ places.Ended) → last ≡ now → EndedSoFar old last (t + 1)
 ended_past old now last t p h settled shows is same =

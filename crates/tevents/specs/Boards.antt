@@ -1,9 +1,8 @@
 -- What a board is seen as, and what its calls do to it: the history of so many callers.
-use Rattle.std.specs.Prelude.{◌≡◌, ℕ, List, [], ◌∷◌, ◌++◌, Option, Some, map}
+use Rattle.std.specs.Prelude.{◌≡◌, ℕ, List, [], ◌∷◌, ◌++◌, Option, Some, Ok, map}
 use Rattle.te_terms.specs.declared.event.Outcome.{Outcome}
 use Rattle.te_terms.specs.Expressions.{Primitive, Expression, value_of, channel_value}
 use Rattle.te_terms.specs.Terms.{Term, always, send, recv}
-use Rattle.std.specs.Prelude.{Ok}
 use Rattle.tevents.specs.declared.cert.Cert.{Cert}
 use Rattle.tevents.specs.declared.history.Entry.{Entry}
 use Rattle.tevents.specs.declared.history.Entry.TheVariants as entries

@@ -1,6 +1,5 @@
 -- The threads of a script on one board, and how many entries they can still make.
-use Rattle.std.specs.Prelude.{◌≡◌, ℕ, suc, ◌+◌, ◌-◌, ◌*◌, ◌≤◌, Bool, true, false, List, [], ◌∷◌, ◌++◌, length, map}
-use Rattle.std.specs.Prelude.{refl}
+use Rattle.std.specs.Prelude.{◌≡◌, ℕ, suc, ◌+◌, ◌-◌, ◌*◌, ◌≤◌, Bool, true, false, List, [], ◌∷◌, ◌++◌, length, map, refl}
 use Rattle.std.specs.Coded.{Coded, code_by, coded×, coded_list}
 use Rattle.te_script.specs.Stored.{coded_thread}
 use Rattle.std.specs.List.{AllByRecursion}
@@ -98,7 +97,9 @@ pub record IsFirstThread (t : Thread) : Type 0 where
 -- a run is stored as its two parts
 abbrev pub coded_run : Coded Entry → Coded Run
 coded_run entry =
-    code_by (List Thread × List Entry) (coded× (coded_list coded_thread) (coded_list entry)) (λ run. (run.threads, run.history)) (λ p. record { threads = p.0; history = p.1 }) (λ _. refl)
+    code_by (List Thread × List Entry) (coded× (coded_list coded_thread) (coded_list entry)) (λ run. (run.threads, run.history))
+    (λ p. record { threads = p.0; history = p.1 })
+    (λ _. refl)
 
 -- what the history of a house always is
 pub record IsKept (run : Run) : Type 0 where

@@ -18,7 +18,8 @@ HasChannel p = (c : ℕ) × (channel_value p ≡ Ok c)
 -- over these registers the node has its value, or its channel
 abbrev pub IsPlainNode : List (List Atom) → Node → Type 0
 IsPlainNode regs (nodes.Always e) = HasValue (in_expression (registers_to regs) (expression_of e))
-IsPlainNode regs (nodes.Send p e) = HasChannel (in_primitive (registers_to regs) (primitive_of p)) × HasValue (in_expression (registers_to regs) (expression_of e))
+IsPlainNode regs (nodes.Send p e) =
+    HasChannel (in_primitive (registers_to regs) (primitive_of p)) × HasValue (in_expression (registers_to regs) (expression_of e))
 IsPlainNode regs (nodes.Recv p) = HasChannel (in_primitive (registers_to regs) (primitive_of p))
 IsPlainNode regs _ = ⊥
 

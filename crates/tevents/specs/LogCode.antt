@@ -6,4 +6,7 @@ use Rattle.tevents.specs.contracts.history.Entry as entry
 use Rattle.tevents.specs.Boards.{Log}
 
 abbrev pub log_code : Coded Log
-log_code = code_by (ℕ × List Entry) (coded× coded_ℕ (coded_list entry.the_row.coded)) (λ l. (l.callers, l.history)) (λ p. record { callers = p.0; history = p.1 }) (λ l. refl)
+log_code =
+    code_by (ℕ × List Entry) (coded× coded_ℕ (coded_list entry.the_row.coded)) (λ l. (l.callers, l.history))
+    (λ p. record { callers = p.0; history = p.1 })
+    (λ l. refl)

@@ -5,7 +5,7 @@ use Rattle.te_terms.specs.declared.event.Outcome.{Outcome}
 use Rattle.te_terms.specs.Terms.{Term}
 use Rattle.te_terms.specs.Steps.{Member, giving, quiet_step, outcome_of, with_head}
 use Rattle.te_terms.specs.Joint.{Label, choice, meeting, Message, after_choice, sending, receiving}
-use Rattle.te_script.specs.Scripts.{nodes}
+use Rattle.te_terms.specs.Settling.{node_count}
 use Rattle.tevents.specs.declared.cert.Meeting.{Meeting}
 
 -- why a play fails: a member lacks a letter; the ends of a meeting don't fit; a member isn't final; letters are left over
@@ -72,7 +72,7 @@ advance_within (suc turns) i p = takes_turn (advance_within turns i) i p (turn_o
 
 -- the member at place i advances until it stands at a send, a receive or never, or is final
 abbrev pub advanced : ℕ → Player → Result Advance PlayFault
-advanced i p = advance_within (2 * nodes p.member.term) i p
+advanced i p = advance_within (2 * node_count p.member.term) i p
 
 -- ---- all members advance, in order
 
@@ -95,7 +95,10 @@ pub record Ends : Type 0 where
 
 abbrev pub met_by : Player → Player → Option Message → Option ℕ → Option Ends
 met_by s r (Some m) (Some c) =
-    if m.channel == c then Some (record { sender = with_term s (with_head (giving []) s.member.term); receiver = with_term r (with_head (giving m.value) r.member.term) }) else None
+    if m.channel == c then Some (record {
+      sender = with_term s (with_head (giving []) s.member.term);
+      receiver = with_term r (with_head (giving m.value) r.member.term);
+    }) else None
 met_by s r _ _ = None
 
 abbrev pub met : Option Player → Option Player → Option Ends

@@ -73,9 +73,11 @@ HasStance seats t stance = (posts : ℕ) × (slice_get seats t ≡ Some (record 
 abbrev pub IsFound : List Seat → Found → Type 0
 IsFound seats (founds.Alone at value) = HasStance seats at.thread (stances.Parked at.ticket (kinds.Always value))
 IsFound seats (founds.Meets from to value) =
-    (channel : ℕ) × HasStance seats from.thread (stances.Parked from.ticket (kinds.Send channel value)) × HasStance seats to.thread (stances.Parked to.ticket (kinds.Recv channel))
+    (channel : ℕ) × HasStance seats from.thread (stances.Parked from.ticket (kinds.Send channel value))
+    × HasStance seats to.thread (stances.Parked to.ticket (kinds.Recv channel))
 
 -- among the first callers none has a value, and no two are on one channel
 pub record NoneBelow (seats : List Seat) (most : ℕ) : Type 0 where
   pub alone : (t ticket : ℕ) (value : List Atom) → t < most → HasStance seats t (stances.Parked ticket (kinds.Always value)) → ⊥
-  pub meets : (s r channel at_s at_r : ℕ) (value : List Atom) → s < most → r < most → HasStance seats s (stances.Parked at_s (kinds.Send channel value)) → HasStance seats r (stances.Parked at_r (kinds.Recv channel)) → ⊥
+  pub meets : (s r channel at_s at_r : ℕ) (value : List Atom) → s < most → r < most
+      → HasStance seats s (stances.Parked at_s (kinds.Send channel value)) → HasStance seats r (stances.Parked at_r (kinds.Recv channel)) → ⊥

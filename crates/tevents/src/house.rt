@@ -114,7 +114,9 @@ impl House {
     /// Commits one group, where one can commit.
     pub(crate) fn commit(&mut self) -> Result<Option<Group>, NoMemory>
         requires { IsRunning (state_of self.old) }
-        ensures { IfOk result (λ found. MatchOption found ((self.new ≡ self.old) × (¬ CanCommit (parked_list (state_of self.old)))) (λ group. HasCommittedGroup self.old self.new (threads_of group))) }
+        ensures { IfOk result (λ found. MatchOption found
+            ((self.new ≡ self.old) × (¬ CanCommit (parked_list (state_of self.old))))
+            (λ group. HasCommittedGroup self.old self.new (threads_of group))) }
     {
         self.board.commit_one()
     }

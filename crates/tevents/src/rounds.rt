@@ -37,7 +37,9 @@ fn open_all(house: &mut House) -> Result<(), NoMemory>
 fn commit_block(house: &mut House) -> Result<bool, NoMemory>
     requires running { IsRunning (state_of house.old) }
     requires none { NoneGiven (state_of house.old) }
-    ensures { IfOk result (λ some. MatchBool some (HasCommittedBlock house.old house.new) ((house.new ≡ house.old) × (¬ CanCommit (parked_list (state_of house.old))))) }
+    ensures { IfOk result (λ some. MatchBool some
+        (HasCommittedBlock house.old house.new)
+        ((house.new ≡ house.old) × (¬ CanCommit (parked_list (state_of house.old))))) }
 {
     match house.commit()? {
         None => Ok(false),

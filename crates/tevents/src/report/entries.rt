@@ -70,7 +70,8 @@ fn put_commit(
     cert: &Cert,
     outcomes: &[Outcome],
 ) -> Result<(), NoMemory>
-    ensures { OnOk result (out.new.items ≡ out.old.items ++ codes "commit " ++ name_of script.now by ++ codes ": " ++ commit_text script.now cert.now outcomes.now) }
+    ensures { OnOk result (out.new.items ≡ out.old.items
+        ++ codes "commit " ++ name_of script.now by ++ codes ": " ++ commit_text script.now cert.now outcomes.now) }
 {
     put_named(out, script, b"commit ", by)?;
     out.extend_from_slice(b": ")?;
@@ -86,7 +87,8 @@ fn put_take(
     ticket: u32,
     outcome: &Outcome,
 ) -> Result<(), NoMemory>
-    ensures { OnOk result (out.new.items ≡ out.old.items ++ codes "take " ++ name_of script.now by ++ codes " " ++ decimal ticket ++ codes " " ++ outcome_text script.now outcome.now) }
+    ensures { OnOk result (out.new.items ≡ out.old.items
+        ++ codes "take " ++ name_of script.now by ++ codes " " ++ decimal ticket ++ codes " " ++ outcome_text script.now outcome.now) }
 {
     put_ticket(out, script, b"take ", by, ticket)?;
     out.extend_from_slice(b" ")?;

@@ -1,5 +1,5 @@
 -- The report of the run of the script that was read is an answer to the bytes, and the fault line is one where none was read.
-use Rattle.std.proofs.Common.{◌≡◌, List, ℕ, Err, inl, ap, ◌∙◌}
+use Rattle.std.proofs.Common.{◌≡◌, Err, inl, ap, ◌∙◌}
 use Rattle.tevents.specs.Report.{report_text}
 use Rattle.tevents.specs.SerialRuns.{IsSerialRun}
 use Rattle.tevents.specs.declared.report.Ending.TheVariants as endings

@@ -1,7 +1,7 @@
 use Rattle.std.proofs.Common.{length, ◌<◌, sym, ◌∙◌}
 use Rattle.te_reader.proofs.TokenSteps.{comment_goes, comment_begins, blank_goes, all_gap, kept}
-use Rattle.te_reader.proofs.cursor.gap_len.Goals as goal
-use Rattle.te_reader.proofs.cursor.gap_len.Goals.{then-in_comment, else-in_comment+then-b-eq35, else-in_comment+else-b-eq35+else-not-is_blank}
+use Rattle.te_reader.proofs.lexing.gap_len.Goals as goal
+use Rattle.te_reader.proofs.lexing.gap_len.Goals.{then-in_comment, else-in_comment+then-b-eq35, else-in_comment+else-b-eq35+else-not-is_blank}
 
 pub loop-i-preserved : goal.loop-i-preserved
 loop-i-preserved c =

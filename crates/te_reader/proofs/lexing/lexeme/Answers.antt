@@ -1,7 +1,7 @@
 use Rattle.std.proofs.Common.{rules, ◌≡◌, ◌<◌, length, sym, ◌∙◌, ap}
 use Rattle.te_reader.specs.Lexed.{lexed, IsAtToken}
 use Rattle.te_reader.proofs.TokenSteps.{no_text, sign_first, IsSignByte}
-use Rattle.te_reader.proofs.cursor.lexeme.Goals as goal
+use Rattle.te_reader.proofs.lexing.lexeme.Goals as goal
 
 pub returns-then-is_empty-clause-tokens : goal.returns-then-is_empty-clause-tokens
 returns-then-is_empty-clause-tokens c =

@@ -3,7 +3,7 @@ use Rattle.std.specs.List.{prefix_len}
 use Rattle.std.proofs.lemmas.List.Sums.{prefix_len-le-length}
 use Rattle.std.specs.Char.{is_ascii_digit}
 use Rattle.te_reader.proofs.TokenSteps.{minus_first, negative_first}
-use Rattle.te_reader.proofs.cursor.minus.Goals as goal
+use Rattle.te_reader.proofs.lexing.minus.Goals as goal
 
 pub returns-then-len-eq0-clause-tokens : goal.returns-then-len-eq0-clause-tokens
 returns-then-len-eq0-clause-tokens c =

@@ -1,7 +1,7 @@
 use Rattle.std.proofs.Common.{refl, arith}
 use Rattle.te_reader.proofs.TokenSteps.{arrow_first, less_first}
-use Rattle.te_reader.proofs.cursor.less.Goals as goal
-use Rattle.te_reader.proofs.cursor.less.Goals.{else-text-gt1-via-then-text-gt1+else-text-eq45, else-text-gt1-via-else-text-gt1}
+use Rattle.te_reader.proofs.lexing.less.Goals as goal
+use Rattle.te_reader.proofs.lexing.less.Goals.{else-text-gt1-via-then-text-gt1+else-text-eq45, else-text-gt1-via-else-text-gt1}
 
 pub returns-then-text-eq45-clause-tokens : goal.returns-then-text-eq45-clause-tokens
 returns-then-text-eq45-clause-tokens c = rw (arrow_first c.args.text.now c.requires c.if-text-eq45.true, c.behind.ensures) refl

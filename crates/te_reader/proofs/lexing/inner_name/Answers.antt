@@ -2,7 +2,7 @@ use Rattle.std.proofs.Common.{refl, arith}
 use Rattle.std.proofs.lemmas.List.Sums.{prefix_len-le-length}
 use Rattle.te_reader.specs.Tokens.{is_word_byte}
 use Rattle.te_reader.proofs.TokenSteps.{inner_first}
-use Rattle.te_reader.proofs.cursor.inner_name.Goals as goal
+use Rattle.te_reader.proofs.lexing.inner_name.Goals as goal
 
 pub split_at-requires : goal.split_at-requires
 split_at-requires c = omega (arith, c.word_len.ensures, prefix_len-le-length is_word_byte c.args.text.now)
