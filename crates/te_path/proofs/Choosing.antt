@@ -1,13 +1,12 @@
 -- A place at a choice that goes to one of its parts.
-use Rattle.std.proofs.Common.{◌≡◌, ℕ, ◌+◌, ◌<◌, Bool, true, false, cond, length, reverse, Some, refl, ap, ◌∙◌, arith}
+use Rattle.std.proofs.Common.{◌≡◌, ℕ, ◌<◌, Bool, true, false, cond, length, reverse, Some, refl, ap, ◌∙◌, arith}
 use Rattle.std.specs.Prelude.{slice_get}
 use Rattle.std.specs.Option.{option_map}
-use Rattle.te_terms.specs.declared.code.Node.{Node}
 use Rattle.te_terms.specs.declared.code.Node.TheVariants as nodes
-use Rattle.te_terms.specs.Terms.{Term, choose}
-use Rattle.te_terms.specs.Steps.{head, with_head}
+use Rattle.te_terms.specs.Terms.{choose}
+use Rattle.te_terms.specs.Steps.{with_head}
 use Rattle.te_terms.specs.Joint.{after_choice, chosen_from}
-use Rattle.te_terms.specs.Codes.{term_at, over}
+use Rattle.te_terms.specs.Codes.{term_at}
 use Rattle.te_terms.specs.Shape.{height, IsForest, NamesEarlier}
 use Rattle.te_path.specs.declared.place.Head.TheVariants as heads
 use Rattle.te_path.specs.declared.place.Place.{Place}

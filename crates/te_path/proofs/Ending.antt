@@ -1,19 +1,18 @@
 -- A place whose outcome has been handed to its frames.
-use Rattle.std.proofs.Common.{◌≡◌, ℕ, suc, ◌+◌, ◌≤◌, List, [], ◌∷◌, ◌++◌, length, take, map, reverse, Option, Some, None, refl, sym, ap, ◌∙◌, subst, arith}
+use Rattle.std.proofs.Common.{◌≡◌, suc, ◌≤◌, List, [], ◌∷◌, ◌++◌, length, take, reverse, Option, Some, None, sym, ap, ◌∙◌, subst, arith}
 use Rattle.smallvec.specs.SmallVec.{SmallVec}
 use Rattle.te_terms.specs.declared.value.Atom.{Atom}
 use Rattle.te_terms.specs.declared.event.Outcome.{Outcome}
 use Rattle.te_path.specs.declared.frame.Frame.{Frame}
-use Rattle.te_path.specs.declared.frame.Taker.{Taker}
 use Rattle.te_path.specs.declared.place.Head.TheVariants as heads
 use Rattle.te_path.specs.declared.place.Place.{Place}
 use Rattle.te_path.specs.Layers.{in_layers}
-use Rattle.te_path.specs.Unwinding.{unwound, Unwound}
-use Rattle.te_path.specs.Places.{term_of, layers_of, layer_of, ended, IsPlace, NodeFits, FramesFit, nodes_left, frames_left, node_left, node_term, Alike}
+use Rattle.te_path.specs.Unwinding.{value_in, unwound, Unwound}
+use Rattle.te_path.specs.Places.{term_of, layers_of, ended, IsPlace, nodes_left, frames_left, Alike}
 use Rattle.te_path.proofs.Unwinds.{ComesTo, Resumes, comes_to, length_bound, fit_above}
 
 -- its frames, unwound
-unwinds_so : (p : Place) (placed : IsPlace p) (o : Outcome) (rest : List Frame) (taker : Option Taker) → record { rest = rest; taker = taker } ≡ unwound o (reverse p.frames.items) →
+unwinds_so : (p : Place) (placed : IsPlace p) (o : Outcome) (rest : List Frame) (taker : Option Frame) → record { rest = rest; taker = taker } ≡ unwound o (reverse p.frames.items) →
     ComesTo p.code.value p.regs placed.room p.inner.items (reverse p.frames.items) o rest taker
 unwinds_so p placed o rest taker e =
     subst (λ (w : Unwound). ComesTo p.code.value p.regs placed.room p.inner.items (reverse p.frames.items) o w.rest w.taker) (sym e)
@@ -45,17 +44,17 @@ module _ (p : Place) (placed : IsPlace p) (o : Outcome) (frames : SmallVec Frame
   end_leaves = rw comes.0 (omega arith)
 
 -- a frame took it
-module _ (p : Place) (placed : IsPlace p) (o : Outcome) (f : Frame) (v : List Atom) (inner : SmallVec (List Atom)) (frames : SmallVec Frame)
-    (inner_capacity : inner.capacity ≡ p.inner.capacity) (capacity : frames.capacity ≡ p.frames.capacity) (items : inner.items ≡ take f.level p.inner.items ++ v ∷ [])
-    (e : record { rest = reverse frames.items; taker = Some (record { frame = f; value = v }) } ≡ unwound o (reverse p.frames.items)) where
+module _ (p : Place) (placed : IsPlace p) (o : Outcome) (f : Frame) (inner : SmallVec (List Atom)) (frames : SmallVec Frame)
+    (inner_capacity : inner.capacity ≡ p.inner.capacity) (capacity : frames.capacity ≡ p.frames.capacity) (items : inner.items ≡ take f.level p.inner.items ++ value_in o ∷ [])
+    (e : record { rest = reverse frames.items; taker = Some f } ≡ unwound o (reverse p.frames.items)) where
   abbrev resumed : Place
   resumed = record p { head = heads.Node f.second; inner = inner; frames = frames }
 
-  resumes : Resumes p.code.value p.regs placed.room p.inner.items (reverse p.frames.items) o (reverse frames.items) f v
-  resumes = unwinds_so p placed o (reverse frames.items) (Some (record { frame = f; value = v })) e
+  resumes : Resumes p.code.value p.regs placed.room p.inner.items (reverse p.frames.items) o (reverse frames.items) f
+  resumes = unwinds_so p placed o (reverse frames.items) (Some f) e
 
   level_then : length inner.items ≡ suc f.level
-  level_then = ap length items ∙ length_bound p.inner.items f.level v resumes.low
+  level_then = ap length items ∙ length_bound p.inner.items f.level (value_in o) resumes.low
 
   pub resumed_is_place : IsPlace resumed
   resumed_is_place = record {

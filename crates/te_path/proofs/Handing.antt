@@ -5,10 +5,9 @@ use Rattle.std.specs.Option.{option_map}
 use Rattle.te_terms.specs.declared.value.Atom.{Atom}
 use Rattle.te_terms.specs.Terms.{Term, always, never, throw, send, recv, and_then, choose, catch, when}
 use Rattle.te_terms.specs.Steps.{giving, head, with_head}
-use Rattle.te_terms.specs.Settling.{settled}
 use Rattle.te_path.specs.declared.place.Place.{Place}
 use Rattle.te_path.specs.Layers.{in_layers}
-use Rattle.te_path.specs.Paths.{member, HasSettled, StepsTo}
+use Rattle.te_path.specs.Paths.{HasSettled, StepsTo}
 use Rattle.te_path.specs.Places.{term_of, layers_of, head_term, IsPath, Alike}
 use Rattle.te_path.proofs.InLayers.{with_head_in_layers}
 use Rattle.te_path.proofs.Standing.{no_then, no_catch}

@@ -1,11 +1,10 @@
 -- What a head does, the term in its layers does.
-use Rattle.std.proofs.Common.{◌≡◌, ◌≢◌, ◌⊎◌, inl, inr, ℕ, List, [], ◌∷◌, Option, Some, None, refl, sym, ap, ◌∙◌}
+use Rattle.std.proofs.Common.{◌≡◌, ◌≢◌, ◌⊎◌, inl, inr, ℕ, true, false, List, [], ◌∷◌, Some, None, refl, sym, ap, ◌∙◌}
 use Rattle.std.specs.Option.{option_map}
-use Rattle.te_terms.specs.declared.value.Atom.{Atom}
 use Rattle.te_terms.specs.declared.event.Outcome.{Outcome}
 use Rattle.te_terms.specs.declared.event.Outcome.TheVariants.{Gives, Raises}
-use Rattle.te_terms.specs.Terms.{Term, and_then, catch, bound}
-use Rattle.te_terms.specs.Steps.{Member, quiet_step, quiet_of, outcome_of, goes_on, is_caught, giving, raising, head, with_head}
+use Rattle.te_terms.specs.Terms.{Term, bound}
+use Rattle.te_terms.specs.Steps.{Member, quiet_of, outcome_of, goes_on, is_caught, giving, raising, head, with_head}
 use Rattle.te_terms.specs.Settling.{settled, then_settled, catch_settled}
 use Rattle.te_terms.proofs.Settles.{settled_after}
 use Rattle.te_terms.proofs.UnderFirst.{settled_under_then, settled_under_catch}
@@ -13,7 +12,7 @@ use Rattle.te_path.specs.declared.frame.Awaits.{Awaits}
 use Rattle.te_path.specs.declared.frame.Awaits.TheVariants.{Given, Raised}
 use Rattle.te_path.specs.Layers.{Layer, in_layer, in_layers}
 use Rattle.te_path.specs.Paths.{member}
-use Rattle.te_path.specs.Unwinding.{taken_by}
+use Rattle.te_path.specs.Unwinding.{takes, value_in}
 use Rattle.te_path.specs.Places.{Alike, ended}
 
 -- ---- heads
@@ -70,34 +69,34 @@ outcome_of_ended : (o : Outcome) → outcome_of (ended o) ≡ Some o
 outcome_of_ended (Gives v) = refl
 outcome_of_ended (Raises v) = refl
 
-passed : (a : Awaits) (n : ℕ) (f : Term) (o : Outcome) → taken_by a o ≡ None → after_end a n f o ≡ ended o
+passed : (a : Awaits) (n : ℕ) (f : Term) (o : Outcome) → takes a o ≡ false → after_end a n f o ≡ ended o
 passed Given n f (Gives v) e = absurd cc
 passed Given n f (Raises v) e = refl
 passed Raised n f (Gives v) e = refl
 passed Raised n f (Raises v) e = absurd cc
 
-taken : (a : Awaits) (n : ℕ) (f : Term) (o : Outcome) (v : List Atom) → taken_by a o ≡ Some v → after_end a n f o ≡ bound n v f
-taken Given n f (Gives w) v e = let same : w ≡ v = cc in ap (λ x. bound n x f) same
-taken Given n f (Raises w) v e = absurd cc
-taken Raised n f (Gives w) v e = absurd cc
-taken Raised n f (Raises w) v e = let same : w ≡ v = cc in ap (λ x. bound n x f) same
+taken : (a : Awaits) (n : ℕ) (f : Term) (o : Outcome) → takes a o ≡ true → after_end a n f o ≡ bound n (value_in o) f
+taken Given n f (Gives v) e = refl
+taken Given n f (Raises v) e = absurd cc
+taken Raised n f (Gives v) e = absurd cc
+taken Raised n f (Raises v) e = refl
 
 ended_in_layer : (a : Awaits) (n : ℕ) (f : Term) (o : Outcome) → Alike (in_layer a n f (ended o)) (after_end a n f o)
 ended_in_layer a n f o = alike_by_step (in_layer a n f (ended o)) (after_end a n f o) (end_steps a n f (ended o) o (outcome_of_ended o))
 
 -- a layer that doesn't take an outcome passes it on
-pub layer_passes : (l : Layer) (ls : List Layer) (o : Outcome) → taken_by l.awaits o ≡ None → Alike (in_layers (l ∷ ls) (ended o)) (in_layers ls (ended o))
+pub layer_passes : (l : Layer) (ls : List Layer) (o : Outcome) → takes l.awaits o ≡ false → Alike (in_layers (l ∷ ls) (ended o)) (in_layers ls (ended o))
 layer_passes l ls o e =
     let one : Alike (in_layer l.awaits l.level l.rest (ended o)) (ended o) =
     λ thread. ended_in_layer l.awaits l.level l.rest o thread ∙ ap (λ x. settled (member thread x)) (passed l.awaits l.level l.rest o e) in
     alike_in_layers ls (in_layer l.awaits l.level l.rest (ended o)) (ended o) one
 
 -- one that takes it goes on with its second part
-pub layer_takes : (l : Layer) (ls : List Layer) (o : Outcome) (v : List Atom) → taken_by l.awaits o ≡ Some v → Alike (in_layers (l ∷ ls) (ended o)) (in_layers ls (bound l.level v l.rest))
-layer_takes l ls o v e =
-    let one : Alike (in_layer l.awaits l.level l.rest (ended o)) (bound l.level v l.rest) =
-    λ thread. ended_in_layer l.awaits l.level l.rest o thread ∙ ap (λ x. settled (member thread x)) (taken l.awaits l.level l.rest o v e) in
-    alike_in_layers ls (in_layer l.awaits l.level l.rest (ended o)) (bound l.level v l.rest) one
+pub layer_takes : (l : Layer) (ls : List Layer) (o : Outcome) → takes l.awaits o ≡ true → Alike (in_layers (l ∷ ls) (ended o)) (in_layers ls (bound l.level (value_in o) l.rest))
+layer_takes l ls o e =
+    let one : Alike (in_layer l.awaits l.level l.rest (ended o)) (bound l.level (value_in o) l.rest) =
+    λ thread. ended_in_layer l.awaits l.level l.rest o thread ∙ ap (λ x. settled (member thread x)) (taken l.awaits l.level l.rest o e) in
+    alike_in_layers ls (in_layer l.awaits l.level l.rest (ended o)) (bound l.level (value_in o) l.rest) one
 
 -- in layers a final term is as good as its outcome
 pub final_is_ended : (ls : List Layer) (t : Term) (o : Outcome) → ls ≢ [] → outcome_of t ≡ Some o → Alike (in_layers ls t) (in_layers ls (ended o))

@@ -1,14 +1,13 @@
 -- What comes of a node at the head, by its form.
-use Rattle.std.proofs.Common.{◌≡◌, ℕ, suc, ◌+◌, ◌<◌, max, true, false, List, length, take, Option, Some, Ok, Result, Bool, refl, sym, ap, ◌∙◌, subst, arith}
+use Rattle.std.proofs.Common.{◌≡◌, ℕ, ◌<◌, true, false, List, length, Some, Ok, refl, ap, ◌∙◌, arith}
 use Rattle.std.specs.Prelude.{slice_get}
 use Rattle.std.proofs.Math.Seq.{take-length}
 use Rattle.te_terms.specs.declared.value.Atom.{Atom}
-use Rattle.te_terms.specs.declared.value.Trap.{Trap}
 use Rattle.te_terms.specs.declared.code.Node.{Node}
 use Rattle.te_terms.specs.declared.code.Node.TheVariants as nodes
 use Rattle.te_terms.specs.declared.expr.Cond.{Cond}
 use Rattle.te_terms.specs.Expressions.{in_primitive, test_value}
-use Rattle.te_terms.specs.Terms.{Term, and_then, catch, when, replaced, scoped}
+use Rattle.te_terms.specs.Terms.{replaced, scoped}
 use Rattle.te_terms.specs.Steps.{quiet_of, decided}
 use Rattle.te_terms.specs.Codes.{primitive_of, over, term_at}
 use Rattle.te_terms.specs.Shape.{height, NamesEarlier, IsForest}
@@ -16,9 +15,8 @@ use Rattle.te_terms.specs.Settling.{node_count}
 use Rattle.te_terms.proofs.TermLemmas.{term_at_is}
 use Rattle.te_terms.proofs.QuietStepsEnd.{some_nodes}
 use Rattle.te_path.specs.declared.frame.Awaits.TheVariants.{Given, Raised}
-use Rattle.te_path.specs.Layers.{in_layer}
-use Rattle.te_path.specs.Places.{node_term, node_left, layer_of}
-use Rattle.te_path.specs.Leading.{IsLower, GoesTo, EntersAt}
+use Rattle.te_path.specs.Places.{node_term}
+use Rattle.te_path.specs.Leading.{GoesTo, EntersAt}
 
 module _ (code : List Node) (regs inner : List (List Atom)) (i : ℕ) (forest : IsForest code) (within : i < length code) where
   pub term_at_node : (level : ℕ) (node : Node) → slice_get code i ≡ Some node → term_at code level i ≡ over (term_at code) level (Some node)

@@ -1,13 +1,12 @@
 -- A term stands at one stop alone.
-use Rattle.std.proofs.Common.{◌≡◌, ℕ, true, List, Option, Some, None, refl, sym, ap, ◌∙◌}
+use Rattle.std.proofs.Common.{◌≡◌, ℕ, true, Option, Some, None, refl, sym, ap, ◌∙◌}
 use Rattle.std.specs.Option.{option_map}
-use Rattle.te_terms.specs.declared.value.Atom.{Atom}
 use Rattle.te_terms.specs.declared.event.Outcome.{Outcome}
 use Rattle.te_terms.specs.declared.event.Outcome.TheVariants.{Gives, Raises}
-use Rattle.te_terms.specs.Terms.{Term, never, choose}
+use Rattle.te_terms.specs.Terms.{Term, choose}
 use Rattle.te_terms.specs.Steps.{outcome_of, head, with_head}
 use Rattle.te_terms.specs.Joint.{Message, chosen_from, after_choice, sending, receiving}
-use Rattle.te_terms.proofs.OneThing.{end_is_alone, choice_rests, send_is_alone, receive_is_alone, never_is_alone}
+use Rattle.te_terms.proofs.OneThing.{choice_rests, send_is_alone, receive_is_alone, never_is_alone}
 use Rattle.te_path.specs.declared.path.Stop.{Stop}
 use Rattle.te_path.specs.declared.path.Stop.TheVariants as stops
 use Rattle.te_path.specs.Paths.{StandsAt}

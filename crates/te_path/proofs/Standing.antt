@@ -1,5 +1,5 @@
 -- Where a settled place stands, by the node at its head.
-use Rattle.std.proofs.Common.{◌≡◌, ℕ, ◌<◌, List, [], ◌∷◌, length, reverse, Option, Some, None, Result, Ok, Err, refl, sym, ap, ◌∙◌, subst}
+use Rattle.std.proofs.Common.{◌≡◌, ℕ, List, [], ◌∷◌, length, reverse, Option, Some, None, Result, Ok, Err, refl, sym, ap, ◌∙◌, subst}
 use Rattle.std.specs.Prelude.{slice_get}
 use Rattle.std.specs.Option.{option_map}
 use Rattle.te_terms.specs.declared.value.Atom.{Atom}
@@ -13,10 +13,10 @@ use Rattle.te_terms.specs.declared.code.Node.TheVariants as nodes
 use Rattle.te_terms.specs.declared.event.Outcome.{Outcome}
 use Rattle.te_terms.specs.declared.event.Outcome.TheVariants.{Gives, Raises}
 use Rattle.te_terms.specs.Values.{trap_value}
-use Rattle.te_terms.specs.Expressions.{in_primitive, in_expression, channel_value, value_of, test_value}
+use Rattle.te_terms.specs.Expressions.{in_primitive, in_expression, channel_value, value_of}
 use Rattle.te_terms.specs.Terms.{Term, always, never, throw, send, recv, and_then, choose, catch, when, replaced, scoped}
-use Rattle.te_terms.specs.Steps.{quiet_of, outcome_of, given_by, raised_by, thrown, send_trap, recv_trap, decided, raising, head}
-use Rattle.te_terms.specs.Joint.{sending, receiving, message, channel_at, sent_from, received_on}
+use Rattle.te_terms.specs.Steps.{quiet_of, outcome_of, given_by, raised_by, thrown, recv_trap, raising, head}
+use Rattle.te_terms.specs.Joint.{sending, receiving, channel_at, sent_from, received_on}
 use Rattle.te_terms.specs.Codes.{primitive_of, expression_of, over, term_at}
 use Rattle.te_terms.specs.Shape.{IsForest}
 use Rattle.te_path.specs.declared.place.Head.TheVariants as heads

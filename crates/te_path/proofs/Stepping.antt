@@ -1,19 +1,18 @@
 -- What comes of the node at the head, of the place.
-use Rattle.std.proofs.Common.{◌≡◌, ◌≢◌, ◌⊎◌, inl, inr, ℕ, List, [], ◌∷◌, reverse, map, Some, None, refl, ap, ◌∙◌, subst, sym}
+use Rattle.std.proofs.Common.{◌≡◌, ◌≢◌, ◌⊎◌, inl, inr, ℕ, List, [], ◌∷◌, reverse, map, None, refl, ap, ◌∙◌, sym}
 use Rattle.std.specs.Option.{option_map}
 use Rattle.te_terms.specs.declared.value.Atom.{Atom}
 use Rattle.te_terms.specs.declared.code.Node.{Node}
 use Rattle.te_terms.specs.declared.event.Outcome.{Outcome}
 use Rattle.te_terms.specs.Terms.{Term, closed}
-use Rattle.te_terms.specs.Steps.{outcome_of, head, with_head}
+use Rattle.te_terms.specs.Steps.{outcome_of}
 use Rattle.te_terms.specs.Settling.{settled}
 use Rattle.te_terms.specs.Codes.{term_under}
 use Rattle.te_terms.proofs.Settles.{settled_already}
 use Rattle.te_terms.proofs.BindingLaws.{closed_scoped}
-use Rattle.te_path.specs.declared.frame.Frame.{Frame}
 use Rattle.te_path.specs.declared.place.Head.TheVariants as heads
 use Rattle.te_path.specs.declared.place.Place.{Place}
-use Rattle.te_path.specs.Layers.{Layer, in_layers}
+use Rattle.te_path.specs.Layers.{in_layers}
 use Rattle.te_path.specs.Leading.{Rests, GoesTo, EndsAs}
 use Rattle.te_path.specs.Paths.{member, HasSettled, SettlesAs}
 use Rattle.te_path.specs.Places.{term_of, layers_of, layer_of, head_term, ended, IsPlace, IsPath, Alike}

@@ -1,5 +1,5 @@
 -- Frames unwound to the one that takes an outcome: to which term they come, and what is kept.
-use Rattle.std.proofs.Common.{◌≡◌, ℕ, zero, suc, ◌+◌, ◌≤◌, List, [], ◌∷◌, ◌++◌, length, take, map, Option, Some, None, refl, sym, ap, ◌∙◌, length-append, add-one, arith}
+use Rattle.std.proofs.Common.{◌≡◌, ℕ, zero, suc, ◌+◌, ◌≤◌, Bool, true, false, List, [], ◌∷◌, ◌++◌, length, take, map, Option, Some, None, refl, sym, ap, ◌∙◌, length-append, arith}
 use Rattle.std.proofs.lemmas.List.{take-append-le, length-take-le}
 use Rattle.te_terms.specs.declared.value.Atom.{Atom}
 use Rattle.te_terms.specs.declared.code.Node.{Node}
@@ -8,9 +8,8 @@ use Rattle.te_terms.specs.Terms.{replaced, scoped, bound}
 use Rattle.te_terms.specs.Codes.{term_at}
 use Rattle.te_terms.proofs.BindingLaws.{bound_scoped}
 use Rattle.te_path.specs.declared.frame.Frame.{Frame}
-use Rattle.te_path.specs.declared.frame.Taker.{Taker}
 use Rattle.te_path.specs.Layers.{in_layers}
-use Rattle.te_path.specs.Unwinding.{taken_by, unwound, or_outer}
+use Rattle.te_path.specs.Unwinding.{takes, value_in, unwound, or_outer}
 use Rattle.te_path.specs.Places.{Alike, ended, layer_of, node_term, NodeFits, FramesFit, node_left, frames_left}
 use Rattle.te_path.proofs.InLayers.{layer_passes, layer_takes}
 
@@ -50,24 +49,24 @@ module _ (code : List Node) (regs : List (List Atom)) where
       ∙ bound_scoped regs (take f.level inner) v (term_at code (suc f.level) f.second)
       ∙ ap (λ n. replaced (scoped regs (take f.level inner ++ v ∷ [])) (term_at code n f.second)) (sym (length_bound inner f.level v within))
 
-  -- the frame f goes on with the value v
-  pub record Resumes (room : ℕ) (inner : List (List Atom)) (fs : List Frame) (o : Outcome) (rest : List Frame) (f : Frame) (v : List Atom) : Type 0 where
+  -- the frame f goes on with the outcome's value
+  pub record Resumes (room : ℕ) (inner : List (List Atom)) (fs : List Frame) (o : Outcome) (rest : List Frame) (f : Frame) : Type 0 where
     pub low : f.level ≤ length inner
     pub fits : NodeFits code room (length rest) (suc f.level) f.second
     pub frames_fit : FramesFit code room f.level rest
-    pub alike : Alike (in_layers (map (layer_of code regs inner) fs) (ended o)) (in_layers (map (layer_of code regs (take f.level inner ++ v ∷ [])) rest) (node_term code regs (take f.level inner ++ v ∷ []) f.second))
+    pub alike : Alike (in_layers (map (layer_of code regs inner) fs) (ended o)) (in_layers (map (layer_of code regs (take f.level inner ++ value_in o ∷ [])) rest) (node_term code regs (take f.level inner ++ value_in o ∷ []) f.second))
     pub left : node_left code (suc f.level) f.second + frames_left code rest ≤ frames_left code fs
 
   -- what the frames come to: the outcome itself, where none takes it
-  abbrev pub ComesTo : ℕ → List (List Atom) → List Frame → Outcome → List Frame → Option Taker → Type 0
+  abbrev pub ComesTo : ℕ → List (List Atom) → List Frame → Outcome → List Frame → Option Frame → Type 0
   ComesTo room inner fs o rest None = (rest ≡ []) × Alike (in_layers (map (layer_of code regs inner) fs) (ended o)) (ended o)
-  ComesTo room inner fs o rest (Some t) = Resumes room inner fs o rest t.frame t.value
+  ComesTo room inner fs o rest (Some f) = Resumes room inner fs o rest f
 
-  passes : (room : ℕ) (inner : List (List Atom)) (f : Frame) (fs : List Frame) (o : Outcome) (rest : List Frame) (taker : Option Taker) → taken_by f.awaits o ≡ None →
+  passes : (room : ℕ) (inner : List (List Atom)) (f : Frame) (fs : List Frame) (o : Outcome) (rest : List Frame) (taker : Option Frame) → takes f.awaits o ≡ false →
       ComesTo room inner fs o rest taker → ComesTo room inner (f ∷ fs) o rest taker
   passes room inner f fs o rest None e comes =
       (comes.0, λ thread. layer_passes (layer_of code regs inner f) (map (layer_of code regs inner) fs) o e thread ∙ comes.1 thread)
-  passes room inner f fs o rest (Some t) e comes = record {
+  passes room inner f fs o rest (Some g) e comes = record {
     low = comes.low;
     fits = comes.fits;
     frames_fit = comes.frames_fit;
@@ -75,28 +74,28 @@ module _ (code : List Node) (regs : List (List Atom)) where
     left = omega (arith, comes.left);
   }
 
-  takes : (room level : ℕ) (inner : List (List Atom)) (f : Frame) (fs : List Frame) (o : Outcome) (v : List Atom) → level ≤ length inner → FramesFit code room level (f ∷ fs) →
-      taken_by f.awaits o ≡ Some v → Resumes room inner (f ∷ fs) o fs f v
-  takes room level inner f fs o v within fit e =
+  resumes : (room level : ℕ) (inner : List (List Atom)) (f : Frame) (fs : List Frame) (o : Outcome) → level ≤ length inner → FramesFit code room level (f ∷ fs) →
+      takes f.awaits o ≡ true → Resumes room inner (f ∷ fs) o fs f
+  resumes room level inner f fs o within fit e =
       let low : f.level ≤ length inner = omega (arith, fit.0) in
-      let term = bound_second inner f v low in
-      let layers = layers_below room inner (v ∷ []) f.level f.level fs low (omega arith) fit.2 in
+      let term = bound_second inner f (value_in o) low in
+      let layers = layers_below room inner (value_in o ∷ []) f.level f.level fs low (omega arith) fit.2 in
       record {
         low = low;
         fits = fit.1;
         frames_fit = fit.2;
-        alike = λ thread. layer_takes (layer_of code regs inner f) (map (layer_of code regs inner) fs) o v e thread ∙ rw (layers, term) refl;
+        alike = λ thread. layer_takes (layer_of code regs inner f) (map (layer_of code regs inner) fs) o e thread ∙ rw (layers, term) refl;
         left = omega arith;
       }
 
-  by_taking : (room level : ℕ) (inner : List (List Atom)) (f : Frame) (fs : List Frame) (o : Outcome) (r : Option (List Atom)) → level ≤ length inner → FramesFit code room level (f ∷ fs) →
-      taken_by f.awaits o ≡ r → ComesTo room inner fs o (unwound o fs).rest (unwound o fs).taker →
+  by_taking : (room level : ℕ) (inner : List (List Atom)) (f : Frame) (fs : List Frame) (o : Outcome) (r : Bool) → level ≤ length inner → FramesFit code room level (f ∷ fs) →
+      takes f.awaits o ≡ r → ComesTo room inner fs o (unwound o fs).rest (unwound o fs).taker →
       ComesTo room inner (f ∷ fs) o (or_outer f fs r (unwound o fs)).rest (or_outer f fs r (unwound o fs)).taker
-  by_taking room level inner f fs o (Some v) within fit e outer = takes room level inner f fs o v within fit e
-  by_taking room level inner f fs o None within fit e outer = passes room inner f fs o (unwound o fs).rest (unwound o fs).taker e outer
+  by_taking room level inner f fs o true within fit e outer = resumes room level inner f fs o within fit e
+  by_taking room level inner f fs o false within fit e outer = passes room inner f fs o (unwound o fs).rest (unwound o fs).taker e outer
 
   pub comes_to : (room level : ℕ) (inner : List (List Atom)) (fs : List Frame) (o : Outcome) → level ≤ length inner → FramesFit code room level fs →
       ComesTo room inner fs o (unwound o fs).rest (unwound o fs).taker
   comes_to room level inner [] o within fit = (refl, λ thread. refl)
   comes_to room level inner (f ∷ fs) o within fit =
-      by_taking room level inner f fs o (taken_by f.awaits o) within fit refl (comes_to room f.level inner fs o (omega (arith, fit.0)) fit.2)
+      by_taking room level inner f fs o (takes f.awaits o) within fit refl (comes_to room f.level inner fs o (omega (arith, fit.0)) fit.2)

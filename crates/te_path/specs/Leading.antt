@@ -1,5 +1,5 @@
 -- What comes of a node at the head. No public clause cites this module.
-use Rattle.std.specs.Prelude.{◌≡◌, ◌≢◌, ◌⊎◌, ℕ, suc, ◌+◌, ◌<◌, List, [], ◌∷◌, length, Option, Some, None, Result, Ok, Err}
+use Rattle.std.specs.Prelude.{◌≡◌, ◌≢◌, ◌⊎◌, ℕ, suc, ◌+◌, ◌<◌, List, [], length, Some, None, Result, Ok, Err}
 use Rattle.te_terms.specs.declared.value.Atom.{Atom}
 use Rattle.te_terms.specs.declared.value.Trap.{Trap}
 use Rattle.te_terms.specs.declared.code.Node.{Node}
@@ -13,7 +13,7 @@ use Rattle.te_path.specs.declared.frame.Frame.{Frame}
 use Rattle.te_path.specs.declared.place.Message.{Message}
 use Rattle.te_path.specs.declared.place.Next.{Next}
 use Rattle.te_path.specs.declared.place.Next.TheVariants as nexts
-use Rattle.te_path.specs.Layers.{Layer, in_layer}
+use Rattle.te_path.specs.Layers.{in_layer}
 use Rattle.te_path.specs.Places.{node_term, node_left, layer_of, ended}
 
 -- node j is one of the code's, lower than node i

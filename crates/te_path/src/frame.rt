@@ -1,7 +1,7 @@
 // What stands round the head of a path: the second parts of `then` and `catch`, each with what it awaits.
 
 ghost use Rattle.std.specs.Prelude.{◌≡◌, reverse};
-ghost use Rattle.te_path.specs.Unwinding.{taken_by, unwound, Unwound};
+ghost use Rattle.te_path.specs.Unwinding.{takes, unwound, Unwound, value_in};
 
 use smallvec::SmallVec;
 use te_terms::{Outcome, Value};
@@ -34,40 +34,42 @@ impl Default for Frame {
     }
 }
 
-/// A frame that takes an outcome, with the value with which it goes on.
-#[derive(Clone, Copy)]
-pub(crate) struct Taker {
-    pub(crate) frame: Frame,
-    pub(crate) value: Value,
-}
-
 impl Frame {
-    /// The value with which the second part goes on, where it takes the outcome.
-    fn takes(&self, outcome: &Outcome) -> Option<Value>
-        ensures { result ≡ taken_by self.now.awaits outcome.now }
+    /// Whether the second part goes on with this outcome.
+    fn takes(&self, outcome: &Outcome) -> bool
+        ensures { result ≡ takes self.now.awaits outcome.now }
     {
         match self.awaits {
             Awaits::Given => match outcome {
-                Outcome::Gives(value) => Some(*value),
-                Outcome::Raises(_) => None,
+                Outcome::Gives(_) => true,
+                Outcome::Raises(_) => false,
             },
             Awaits::Raised => match outcome {
-                Outcome::Gives(_) => None,
-                Outcome::Raises(value) => Some(*value),
+                Outcome::Gives(_) => false,
+                Outcome::Raises(_) => true,
             },
         }
     }
 }
 
 /// Takes frames off, from the innermost on, up to the first that takes the outcome; the others pass it on.
-pub(crate) fn unwind(frames: &mut SmallVec<Frame, 4>, outcome: &Outcome) -> Option<Taker>
+pub(crate) fn unwind(frames: &mut SmallVec<Frame, 4>, outcome: &Outcome) -> Option<Frame>
     ensures unwinds { record { rest = reverse frames.new.items; taker = result } ≡ unwound outcome.now (reverse frames.old.items) }
     ensures capacity { frames.new.capacity ≡ frames.old.capacity }
 {
     while let Some(frame) = frames.pop() {
-        if let Some(value) = frame.takes(outcome) {
-            return Some(Taker { frame, value });
+        if frame.takes(outcome) {
+            return Some(frame);
         }
     }
     None
+}
+
+/// The value that is given or raised.
+pub(crate) fn value_in(outcome: &Outcome) -> Value
+    ensures { result ≡ value_in outcome.now }
+{
+    match outcome {
+        Outcome::Gives(value) | Outcome::Raises(value) => *value,
+    }
 }

@@ -8,7 +8,7 @@ ghost use Rattle.te_terms.specs.Expressions.{in_primitive, in_expression, channe
 ghost use Rattle.te_terms.specs.Terms.{closed, scoped};
 ghost use Rattle.te_terms.specs.Joint.{after_choice};
 ghost use Rattle.te_terms.specs.Codes.{term_under, primitive_of, expression_of};
-ghost use Rattle.te_terms.specs.Shape.{NamesEarlier, IsForest};
+ghost use Rattle.te_terms.specs.Shape.{IsForest};
 ghost use Rattle.te_path.specs.declared.place.Head.TheVariants.{Node as AtNode};
 ghost use Rattle.te_path.specs.declared.place.Next.TheVariants.{Stays, Ends};
 ghost use Rattle.te_path.specs.Paths.{StandsAt, IsChoice};
@@ -16,7 +16,7 @@ ghost use Rattle.te_path.specs.Layers.{in_layers};
 ghost use Rattle.te_path.specs.Places.{term_of, ended, layers_of, IsPlace, IsPath, nodes_left, frames_left, Alike};
 ghost use Rattle.te_path.specs.Leading.{Leads, Sends};
 
-use crate::frame::{Awaits, Frame, unwind};
+use crate::frame::{Awaits, Frame, unwind, value_in};
 use crate::path::Stop;
 use smallvec::SmallVec;
 use std::alloc::Global;
@@ -125,29 +125,29 @@ impl Place {
         ensures { Leads self.now.code.value self.now.regs self.now.inner.items (reverse self.now.frames.items) i result }
     {
         match self.node(i) {
-            Node::Always(e) => match self.value(&e) {
+            Node::Always(e) => match self.value(e) {
                 Ok(value) => self.ending(Outcome::Gives(value)),
                 Err(trap) => raised(trap),
             },
-            Node::Throw(e) => match self.value(&e) {
+            Node::Throw(e) => match self.value(e) {
                 Ok(value) => self.ending(Outcome::Raises(value)),
                 Err(trap) => raised(trap),
             },
-            Node::Send(p, e) => match self.message(&p, &e) {
+            Node::Send(p, e) => match self.message(p, e) {
                 Ok(_) => Next::Stays,
                 Err(trap) => raised(trap),
             },
-            Node::Recv(p) => match self.channel(&p) {
+            Node::Recv(p) => match self.channel(p) {
                 Ok(_) => Next::Stays,
                 Err(_) => raised(Trap::Kind),
             },
-            Node::If(cond, a, b) => match self.holds(&cond) {
-                Ok(true) => Next::Goes(a),
-                Ok(false) => Next::Goes(b),
+            Node::If(cond, a, b) => match self.holds(cond) {
+                Ok(true) => Next::Goes(*a),
+                Ok(false) => Next::Goes(*b),
                 Err(trap) => raised(trap),
             },
-            Node::Then(a, b) => Next::Enters(self.frame(Awaits::Given, b), a),
-            Node::Catch(a, b) => Next::Enters(self.frame(Awaits::Raised, b), a),
+            Node::Then(a, b) => Next::Enters(self.frame(Awaits::Given, *b), *a),
+            Node::Catch(a, b) => Next::Enters(self.frame(Awaits::Raised, *b), *a),
             Node::Choose(_, _) | Node::Never => Next::Stays,
         }
     }
@@ -183,21 +183,20 @@ impl Place {
     {
         match unwind(&mut self.frames, &outcome) {
             None => self.head = Head::Ended(outcome),
-            Some(taker) => {
-                self.inner.truncate(taker.frame.level as usize);
-                self.inner.push_reserved(taker.value);
-                self.head = Head::Node(taker.frame.second);
+            Some(frame) => {
+                self.inner.truncate(frame.level as usize);
+                self.inner.push_reserved(value_in(&outcome));
+                self.head = Head::Node(frame.second);
             }
         }
     }
 
-    fn node(&self, i: u32) -> Node
+    fn node(&self, i: u32) -> &Node
         requires { i < length self.now.code.value }
-        ensures is { slice_get self.now.code.value i ≡ Some result }
-        ensures earlier { NamesEarlier i result }
+        ensures is { slice_get self.now.code.value i ≡ Some result.now }
         ensures forest { IsForest self.now.code.value }
     {
-        match self.code.node(i) {
+        match self.code.as_slice().get(i as usize) {
             Some(node) => node,
             None => unreachable!(),
         }
@@ -250,19 +249,19 @@ impl Place {
         ensures { StandsAt (term_of self.now) result }
     {
         match self.node(i) {
-            Node::Always(e) => match self.value(&e) {
+            Node::Always(e) => match self.value(e) {
                 Ok(value) => Stop::Done(value),
                 Err(_) => unreachable!(),
             },
-            Node::Throw(e) => match self.value(&e) {
+            Node::Throw(e) => match self.value(e) {
                 Ok(value) => Stop::Raised(value),
                 Err(_) => unreachable!(),
             },
-            Node::Send(p, e) => match self.message(&p, &e) {
+            Node::Send(p, e) => match self.message(p, e) {
                 Ok(message) => Stop::Send(message.channel, message.value),
                 Err(_) => unreachable!(),
             },
-            Node::Recv(p) => match self.channel(&p) {
+            Node::Recv(p) => match self.channel(p) {
                 Ok(channel) => Stop::Recv(channel),
                 Err(_) => unreachable!(),
             },
@@ -285,7 +284,7 @@ impl Place {
         let Node::Choose(a, b) = self.node(i) else {
             unreachable!()
         };
-        self.head = Head::Node(if left { a } else { b });
+        self.head = Head::Node(if left { *a } else { *b });
     }
 
     /// The same place once more, with as much room.

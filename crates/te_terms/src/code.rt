@@ -131,6 +131,16 @@ impl EventCode {
         self.nodes.get(i as usize).copied()
     }
 
+    /// The nodes, in order. It is public for the crates above alone, which read nodes where they lie: a node
+    /// is large to copy.
+    #[doc(hidden)]
+    pub fn as_slice(&self) -> &[Node]
+        ensures value { result.now ≡ self.now }
+        ensures forest { IsForest self.now }
+    {
+        self.nodes.as_slice()
+    }
+
     fn is_free(&self, i: u32) -> bool
         ensures { IsTrue result ↔ IsFree self.now i }
     {

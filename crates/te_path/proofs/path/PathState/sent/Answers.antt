@@ -1,4 +1,4 @@
-use Rattle.std.proofs.Common.{[], sym, ◌∙◌}
+use Rattle.std.proofs.Common.{[], ◌∙◌}
 use Rattle.te_terms.specs.Joint.{sending}
 use Rattle.te_path.specs.Places.{term_of}
 use Rattle.te_path.proofs.Handing.{hands_on}

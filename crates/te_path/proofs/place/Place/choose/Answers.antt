@@ -6,7 +6,7 @@ use Rattle.te_path.proofs.place.Place.choose.Goals as goal
 
 pub unreachable-requires-in_default-node : goal.unreachable-requires-in_default-node
 unreachable-requires-in_default-node c =
-    let is = node_at_choice c.args.self.now c.requires.path c.in-Node.i c.in-Node.is c.node.ensures.forest c.node.result c.node.ensures.is c.requires.choice in
+    let is = node_at_choice c.args.self.now c.requires.path c.in-Node.i c.in-Node.is c.node.ensures.forest c.node.result.now c.node.ensures.is c.requires.choice in
     c.in_default-node.not-Choose is.0 is.1.0 is.1.1
 
 -- the part that is left
