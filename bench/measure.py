@@ -96,4 +96,5 @@ def main():
         print(f"  {len(text):7} bytes  {spent * 1e3:8.1f} ms{growth}")
 
 
-main()
+if __name__ == "__main__":
+    main()

@@ -6,16 +6,16 @@ use Rattle.te_terms.specs.declared.value.Atom.{Atom}
 use Rattle.te_terms.specs.declared.code.Node.{Node}
 use Rattle.te_terms.specs.declared.code.Node.TheVariants as nodes
 use Rattle.te_terms.specs.declared.expr.Cond.{Cond}
-use Rattle.te_terms.specs.Expressions.{in_primitive, test_value}
 use Rattle.te_terms.specs.Terms.{replaced, scoped}
 use Rattle.te_terms.specs.Steps.{quiet_of, decided}
-use Rattle.te_terms.specs.Codes.{primitive_of, over, term_at}
+use Rattle.te_terms.specs.Codes.{over, term_at}
 use Rattle.te_terms.specs.Shape.{height, NamesEarlier, IsForest}
 use Rattle.te_terms.specs.Settling.{node_count}
 use Rattle.te_terms.proofs.TermLemmas.{term_at_is}
 use Rattle.te_terms.proofs.QuietStepsEnd.{some_nodes}
 use Rattle.te_path.specs.declared.frame.Awaits.TheVariants.{Given, Raised}
 use Rattle.te_path.specs.Places.{node_term}
+use Rattle.te_path.specs.Scopes.{test_over}
 use Rattle.te_path.specs.Leading.{GoesTo, EntersAt}
 
 module _ (code : List Node) (regs inner : List (List Atom)) (i : ℕ) (forest : IsForest code) (within : i < length code) where
@@ -56,7 +56,7 @@ module _ (code : List Node) (regs inner : List (List Atom)) (i : ℕ) (forest : 
   -- the part of a test to which it goes
   goes_to : (c : Cond) (a b j : ℕ) → slice_get code i ≡ Some (nodes.If c a b) → j < i → node_count (term_at code (length inner) j) < node_count (term_at code (length inner) i) →
       height (term_at code (length inner) j) < height (term_at code (length inner) i) →
-      decided (test_value c.test (in_primitive (scoped regs inner) (primitive_of c.left)) (in_primitive (scoped regs inner) (primitive_of c.right))) (node_term code regs inner a) (node_term code regs inner b) ≡ node_term code regs inner j →
+      decided (test_over regs inner c) (node_term code regs inner a) (node_term code regs inner b) ≡ node_term code regs inner j →
       GoesTo code regs inner i j
   goes_to c a b j is earlier fewer lower part = record {
     lower = record { within = omega (arith, earlier); low = lower };
@@ -65,14 +65,14 @@ module _ (code : List Node) (regs inner : List (List Atom)) (i : ℕ) (forest : 
   }
 
   pub true_goes : (c : Cond) (a b : ℕ) → slice_get code i ≡ Some (nodes.If c a b) →
-      test_value c.test (in_primitive (scoped regs inner) (primitive_of c.left)) (in_primitive (scoped regs inner) (primitive_of c.right)) ≡ Ok true → GoesTo code regs inner i a
+      test_over regs inner c ≡ Ok true → GoesTo code regs inner i a
   true_goes c a b is holds =
       let at = term_at_node (length inner) (nodes.If c a b) is in
       let named : NamesEarlier i (nodes.If c a b) = forest.earlier i (nodes.If c a b) is in
       goes_to c a b a is named.0 (omega (arith, ap node_count at, some_nodes (term_at code (length inner) b))) (omega (arith, ap height at)) (ap (λ r. decided r (node_term code regs inner a) (node_term code regs inner b)) holds)
 
   pub false_goes : (c : Cond) (a b : ℕ) → slice_get code i ≡ Some (nodes.If c a b) →
-      test_value c.test (in_primitive (scoped regs inner) (primitive_of c.left)) (in_primitive (scoped regs inner) (primitive_of c.right)) ≡ Ok false → GoesTo code regs inner i b
+      test_over regs inner c ≡ Ok false → GoesTo code regs inner i b
   false_goes c a b is holds =
       let at = term_at_node (length inner) (nodes.If c a b) is in
       let named : NamesEarlier i (nodes.If c a b) = forest.earlier i (nodes.If c a b) is in

@@ -1,5 +1,5 @@
 -- Where a settled place stands, by the node at its head.
-use Rattle.std.proofs.Common.{◌≡◌, ℕ, List, [], ◌∷◌, length, reverse, Option, Some, None, Result, Ok, Err, refl, sym, ap, ◌∙◌, subst}
+use Rattle.std.proofs.Common.{◌≡◌, ℕ, List, [], ◌∷◌, length, reverse, Option, Some, None, Ok, Err, refl, sym, ap, ◌∙◌, subst}
 use Rattle.std.specs.Prelude.{slice_get}
 use Rattle.std.specs.Option.{option_map}
 use Rattle.te_terms.specs.declared.value.Atom.{Atom}
@@ -13,15 +13,15 @@ use Rattle.te_terms.specs.declared.code.Node.TheVariants as nodes
 use Rattle.te_terms.specs.declared.event.Outcome.{Outcome}
 use Rattle.te_terms.specs.declared.event.Outcome.TheVariants.{Gives, Raises}
 use Rattle.te_terms.specs.Values.{trap_value}
-use Rattle.te_terms.specs.Expressions.{in_primitive, in_expression, channel_value, value_of}
 use Rattle.te_terms.specs.Terms.{Term, always, never, throw, send, recv, and_then, choose, catch, when, replaced, scoped}
 use Rattle.te_terms.specs.Steps.{quiet_of, outcome_of, given_by, raised_by, thrown, recv_trap, raising, head}
 use Rattle.te_terms.specs.Joint.{sending, receiving, channel_at, sent_from, received_on}
-use Rattle.te_terms.specs.Codes.{primitive_of, expression_of, over, term_at}
+use Rattle.te_terms.specs.Codes.{over, term_at}
 use Rattle.te_terms.specs.Shape.{IsForest}
 use Rattle.te_path.specs.declared.place.Head.TheVariants as heads
 use Rattle.te_path.specs.declared.place.Place.{Place}
 use Rattle.te_path.specs.Layers.{Layer, in_layers}
+use Rattle.te_path.specs.Scopes.{value_over, channel_over}
 use Rattle.te_path.specs.Leading.{Sends}
 use Rattle.te_path.specs.Paths.{member, IsChoice, HasSettled}
 use Rattle.te_path.specs.Places.{term_of, layers_of, node_term, head_term, IsPath, HeadFits, NodeFits}
@@ -112,22 +112,16 @@ module _ (p : Place) (path : IsPath p) (i : ℕ) (at : p.head ≡ heads.Node i) 
 
   -- ---- by the form of the node
 
-  abbrev value_there : Expr → Result (List Atom) Trap
-  value_there e = value_of (in_expression (scoped p.regs p.inner.items) (expression_of e))
-
-  abbrev channel_there : Operand → Result ℕ Trap
-  channel_there q = channel_value (in_primitive (scoped p.regs p.inner.items) (primitive_of q))
-
-  pub always_has_value : (e : Expr) (t : Trap) → slice_get p.code.value i ≡ Some (nodes.Always e) → value_there e ≡ Err t → ⊥
+  pub always_has_value : (e : Expr) (t : Trap) → slice_get p.code.value i ≡ Some (nodes.Always e) → value_over p.regs p.inner.items e ≡ Err t → ⊥
   always_has_value e t is r = cannot_move _ (raising (trap_value t)) (node_is (nodes.Always e) is) (ap thrown r) (ap given_by r)
 
-  pub throw_has_value : (e : Expr) (t : Trap) → slice_get p.code.value i ≡ Some (nodes.Throw e) → value_there e ≡ Err t → ⊥
+  pub throw_has_value : (e : Expr) (t : Trap) → slice_get p.code.value i ≡ Some (nodes.Throw e) → value_over p.regs p.inner.items e ≡ Err t → ⊥
   throw_has_value e t is r = cannot_move _ (raising (trap_value t)) (node_is (nodes.Throw e) is) (ap thrown r) (ap raised_by r)
 
-  pub send_has_message : (q : Operand) (e : Expr) (t : Trap) → slice_get p.code.value i ≡ Some (nodes.Send q e) → Sends (channel_there q) (value_there e) (Err t) → ⊥
+  pub send_has_message : (q : Operand) (e : Expr) (t : Trap) → slice_get p.code.value i ≡ Some (nodes.Send q e) → Sends (channel_over p.regs p.inner.items q) (value_over p.regs p.inner.items e) (Err t) → ⊥
   send_has_message q e t is r = cannot_move _ (raising (trap_value t)) (node_is (nodes.Send q e) is) r refl
 
-  pub receive_has_channel : (q : Operand) (t : Trap) → slice_get p.code.value i ≡ Some (nodes.Recv q) → channel_there q ≡ Err t → ⊥
+  pub receive_has_channel : (q : Operand) (t : Trap) → slice_get p.code.value i ≡ Some (nodes.Recv q) → channel_over p.regs p.inner.items q ≡ Err t → ⊥
   receive_has_channel q t is r = cannot_move _ (raising (trap_value Kind)) (node_is (nodes.Recv q) is) (ap recv_trap r) refl
 
   pub test_is_past : (c : Cond) (a b : ℕ) → slice_get p.code.value i ≡ Some (nodes.If c a b) → ⊥
@@ -139,17 +133,17 @@ module _ (p : Place) (path : IsPath p) (i : ℕ) (at : p.head ≡ heads.Node i) 
   pub catch_is_past : (a b : ℕ) → slice_get p.code.value i ≡ Some (nodes.Catch a b) → ⊥
   catch_is_past a b is = is_no_catch _ _ _ (node_is (nodes.Catch a b) is)
 
-  pub always_gives : (e : Expr) (v : List Atom) → slice_get p.code.value i ≡ Some (nodes.Always e) → value_there e ≡ Ok v → outcome_of (term_of p) ≡ Some (Gives v)
+  pub always_gives : (e : Expr) (v : List Atom) → slice_get p.code.value i ≡ Some (nodes.Always e) → value_over p.regs p.inner.items e ≡ Ok v → outcome_of (term_of p) ≡ Some (Gives v)
   always_gives e v is r = ends _ (Gives v) (node_is (nodes.Always e) is) (ap given_by r)
 
-  pub throw_raises : (e : Expr) (v : List Atom) → slice_get p.code.value i ≡ Some (nodes.Throw e) → value_there e ≡ Ok v → outcome_of (term_of p) ≡ Some (Raises v)
+  pub throw_raises : (e : Expr) (v : List Atom) → slice_get p.code.value i ≡ Some (nodes.Throw e) → value_over p.regs p.inner.items e ≡ Ok v → outcome_of (term_of p) ≡ Some (Raises v)
   throw_raises e v is r = ends _ (Raises v) (node_is (nodes.Throw e) is) (ap raised_by r)
 
-  pub send_sends : (q : Operand) (e : Expr) (c : ℕ) (v : List Atom) → slice_get p.code.value i ≡ Some (nodes.Send q e) → channel_there q ≡ Ok c → value_there e ≡ Ok v →
+  pub send_sends : (q : Operand) (e : Expr) (c : ℕ) (v : List Atom) → slice_get p.code.value i ≡ Some (nodes.Send q e) → channel_over p.regs p.inner.items q ≡ Ok c → value_over p.regs p.inner.items e ≡ Ok v →
       sending (term_of p) ≡ Some (record { channel = c; value = v })
   send_sends q e c v is r s = ap sent_from (head_is _ (node_is (nodes.Send q e) is)) ∙ rw (r, s) refl
 
-  pub receive_receives : (q : Operand) (c : ℕ) → slice_get p.code.value i ≡ Some (nodes.Recv q) → channel_there q ≡ Ok c → receiving (term_of p) ≡ Some c
+  pub receive_receives : (q : Operand) (c : ℕ) → slice_get p.code.value i ≡ Some (nodes.Recv q) → channel_over p.regs p.inner.items q ≡ Ok c → receiving (term_of p) ≡ Some c
   receive_receives q c is r = ap received_on (head_is _ (node_is (nodes.Recv q) is)) ∙ ap channel_at r
 
   -- at a choice the node is one

@@ -10,9 +10,9 @@ use Rattle.te_terms.specs.Steps.{quiet_of, outcome_of, head, raising, send_trap}
 use Rattle.te_terms.specs.Codes.{term_at}
 use Rattle.te_terms.specs.Shape.{height}
 use Rattle.te_path.specs.declared.frame.Frame.{Frame}
-use Rattle.te_path.specs.declared.place.Message.{Message}
-use Rattle.te_path.specs.declared.place.Next.{Next}
-use Rattle.te_path.specs.declared.place.Next.TheVariants as nexts
+use Rattle.te_path.specs.declared.looking.Message.{Message}
+use Rattle.te_path.specs.declared.looking.Next.{Next}
+use Rattle.te_path.specs.declared.looking.Next.TheVariants as nexts
 use Rattle.te_path.specs.Layers.{in_layer}
 use Rattle.te_path.specs.Places.{node_term, node_left, layer_of, ended}
 

@@ -2,6 +2,7 @@
 #![tactic(auto)]
 
 mod frame;
+mod looking;
 mod path;
 mod place;
 
