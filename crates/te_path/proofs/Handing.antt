@@ -3,27 +3,15 @@ use Rattle.std.proofs.Common.{◌≡◌, List, Option, Some, None, refl, sym, ap
 use Rattle.std.specs.Prelude.{IsSome}
 use Rattle.std.specs.Option.{option_map}
 use Rattle.te_terms.specs.declared.value.Atom.{Atom}
-use Rattle.te_terms.specs.Terms.{Term, always, never, throw, send, recv, and_then, choose, catch, when}
-use Rattle.te_terms.specs.Steps.{giving, head, with_head}
+use Rattle.te_terms.specs.Terms.{Term}
+use Rattle.te_terms.specs.Steps.{giving, with_head}
+use Rattle.te_terms.proofs.OneThing.{with_own}
 use Rattle.te_path.specs.declared.place.Place.{Place}
 use Rattle.te_path.specs.Layers.{in_layers}
 use Rattle.te_path.specs.Paths.{HasSettled, StepsTo}
 use Rattle.te_path.specs.Places.{term_of, layers_of, head_term, IsPath, Alike}
 use Rattle.te_path.proofs.InLayers.{with_head_in_layers}
-use Rattle.te_path.proofs.Standing.{no_then, no_catch}
 use Rattle.te_path.proofs.Stepping.{settles_as}
-
--- what is put in the place of a term that is its own head
-pub with_own : (u h : Term) → head h ≡ h → with_head u h ≡ u
-with_own u (always e) own = refl
-with_own u never own = refl
-with_own u (throw e) own = refl
-with_own u (send p e) own = refl
-with_own u (recv p) own = refl
-with_own u (and_then e n f) own = absurd (no_then e e f n own)
-with_own u (choose e f) own = refl
-with_own u (catch e n f) own = absurd (no_catch e e f n own)
-with_own u (when test p q e f) own = refl
 
 handed : (p : Place) (path : IsPath p) (u : Term) → with_head u (term_of p) ≡ in_layers (layers_of p) u
 handed p path u =

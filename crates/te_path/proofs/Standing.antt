@@ -13,11 +13,12 @@ use Rattle.te_terms.specs.declared.code.Node.TheVariants as nodes
 use Rattle.te_terms.specs.declared.event.Outcome.{Outcome}
 use Rattle.te_terms.specs.declared.event.Outcome.TheVariants.{Gives, Raises}
 use Rattle.te_terms.specs.Values.{trap_value}
-use Rattle.te_terms.specs.Terms.{Term, always, never, throw, send, recv, and_then, choose, catch, when, replaced, scoped}
+use Rattle.te_terms.specs.Terms.{Term, never, and_then, choose, catch, replaced, scoped}
 use Rattle.te_terms.specs.Steps.{quiet_of, outcome_of, given_by, raised_by, thrown, recv_trap, raising, head}
 use Rattle.te_terms.specs.Joint.{sending, receiving, channel_at, sent_from, received_on}
 use Rattle.te_terms.specs.Codes.{over, term_at}
 use Rattle.te_terms.specs.Shape.{IsForest}
+use Rattle.te_terms.proofs.OneThing.{no_then, no_catch}
 use Rattle.te_path.specs.declared.place.Head.TheVariants as heads
 use Rattle.te_path.specs.declared.place.Place.{Place}
 use Rattle.te_path.specs.Layers.{Layer, in_layers}
@@ -34,31 +35,6 @@ unmapped f (Some x) e = absurd cc
 
 pub quiet_is_none : (t : Term) → HasSettled t → (thread : ℕ) → quiet_of thread t ≡ None
 quiet_is_none t settled thread = unmapped (λ x. member thread x) (quiet_of thread t) (settled thread)
-
--- ---- heads
-
--- no head is a `then` or a `catch`
-pub no_then : (t e f : Term) (n : ℕ) → head t ≡ and_then e n f → ⊥
-no_then (always x) e f n p = cc
-no_then never e f n p = cc
-no_then (throw x) e f n p = cc
-no_then (send q x) e f n p = cc
-no_then (recv q) e f n p = cc
-no_then (and_then a m b) e f n p = no_then a e f n p
-no_then (choose a b) e f n p = cc
-no_then (catch a m b) e f n p = no_then a e f n p
-no_then (when test q r a b) e f n p = cc
-
-pub no_catch : (t e f : Term) (n : ℕ) → head t ≡ catch e n f → ⊥
-no_catch (always x) e f n p = cc
-no_catch never e f n p = cc
-no_catch (throw x) e f n p = cc
-no_catch (send q x) e f n p = cc
-no_catch (recv q) e f n p = cc
-no_catch (and_then a m b) e f n p = no_catch a e f n p
-no_catch (choose a b) e f n p = cc
-no_catch (catch a m b) e f n p = no_catch a e f n p
-no_catch (when test q r a b) e f n p = cc
 
 -- a final head that has no quiet step stands in no layer
 alone : (ls : List Layer) (t : Term) (o : Outcome) → ((thread : ℕ) → quiet_of thread (in_layers ls t) ≡ None) → outcome_of t ≡ Some o → outcome_of (in_layers ls t) ≡ Some o

@@ -190,6 +190,41 @@ head_of_with u (choose e f) = refl
 head_of_with u (catch e n f) = head_of_with u e
 head_of_with u (when test p q e f) = refl
 
+-- no head is a `then` or a `catch`
+pub no_then : (t e f : Term) (n : ℕ) → head t ≡ and_then e n f → ⊥
+no_then (always x) e f n p = cc
+no_then never e f n p = cc
+no_then (throw x) e f n p = cc
+no_then (send q x) e f n p = cc
+no_then (recv q) e f n p = cc
+no_then (and_then a m b) e f n p = no_then a e f n p
+no_then (choose a b) e f n p = cc
+no_then (catch a m b) e f n p = no_then a e f n p
+no_then (when test q r a b) e f n p = cc
+
+pub no_catch : (t e f : Term) (n : ℕ) → head t ≡ catch e n f → ⊥
+no_catch (always x) e f n p = cc
+no_catch never e f n p = cc
+no_catch (throw x) e f n p = cc
+no_catch (send q x) e f n p = cc
+no_catch (recv q) e f n p = cc
+no_catch (and_then a m b) e f n p = no_catch a e f n p
+no_catch (choose a b) e f n p = cc
+no_catch (catch a m b) e f n p = no_catch a e f n p
+no_catch (when test q r a b) e f n p = cc
+
+-- what is its own head is replaced whole
+pub with_own : (u t : Term) → head t ≡ t → with_head u t ≡ u
+with_own u (always e) own = refl
+with_own u never own = refl
+with_own u (throw e) own = refl
+with_own u (send p e) own = refl
+with_own u (recv p) own = refl
+with_own u (and_then e n f) own = absurd (no_then e e f n own)
+with_own u (choose e f) own = refl
+with_own u (catch e n f) own = absurd (no_catch e e f n own)
+with_own u (when test p q e f) own = refl
+
 -- ---- of members
 
 pub settled_from : (m : Member) → quiet_of m.thread m.term ≡ None → IsSettled m

@@ -1,6 +1,6 @@
 // The laws of steps, each the contract of a function with nothing to do: what stands on terms goes by these.
 
-ghost use Rattle.std.specs.Prelude.{◌≡◌, ℕ, Bool, Some, None, List, [], ◌∷◌, ◌++◌, length};
+ghost use Rattle.std.specs.Prelude.{◌≡◌, ◌≢◌, ℕ, Bool, Some, None, List, [], ◌∷◌, ◌++◌, length};
 ghost use Rattle.std.specs.Option.{option_map};
 ghost use Rattle.te_terms.specs.declared.value.Atom.{Atom};
 ghost use Rattle.te_terms.specs.declared.event.Outcome.{Outcome};
@@ -51,10 +51,14 @@ pub fn first_parts_step()
     ensures choice_catch { (left : Bool) (e : Term) (n : ℕ) (h : Term) → after_choice left (catch e n h) ≡ option_map (λ t. catch t n h) (after_choice left e) }
 {}
 
-/// A term is its head in its head's place, and what is put there has its own head.
+/// A term is its head in its head's place, what is put there has its own head, what is its own head is replaced
+/// whole, and no head is a `then` or a `catch`.
 pub fn heads_are_replaced()
     ensures own { (t : Term) → with_head (head t) t ≡ t }
     ensures other { (u t : Term) → head (with_head u t) ≡ head u }
+    ensures whole { (u t : Term) → head t ≡ t → with_head u t ≡ u }
+    ensures no_then { (t e f : Term) (n : ℕ) → head t ≢ and_then e n f }
+    ensures no_catch { (t e f : Term) (n : ℕ) → head t ≢ catch e n f }
 {}
 
 /// A term is closed over no inner values at first, and binding the next inner name adds its value to those
