@@ -7,3 +7,4 @@ pub mod Stepping
 pub mod Choosing
 pub mod Handing
 pub mod Ending
+pub mod PathsWorked
