@@ -1,5 +1,5 @@
 -- What a head does, the term in its layers does.
-use Rattle.std.proofs.Common.{◌≡◌, ◌≢◌, ◌⊎◌, inl, inr, ℕ, true, false, List, [], ◌∷◌, Some, None, refl, sym, ap, ◌∙◌}
+use Rattle.std.proofs.Common.{◌≡◌, ◌≢◌, ◌⊎◌, inl, inr, ℕ, true, false, List, [], ◌∷◌, Some, None, refl, sym, ap, subst, ◌∙◌}
 use Rattle.std.specs.Option.{option_map}
 use Rattle.te_terms.specs.declared.event.Outcome.{Outcome}
 use Rattle.te_terms.specs.declared.event.Outcome.TheVariants.{Gives, Raises}
@@ -7,6 +7,7 @@ use Rattle.te_terms.specs.Terms.{Term, bound}
 use Rattle.te_terms.specs.Steps.{Member, quiet_of, outcome_of, goes_on, is_caught, giving, raising, head, with_head}
 use Rattle.te_terms.specs.Settling.{settled, then_settled, catch_settled}
 use Rattle.te_terms.proofs.Settles.{settled_after}
+use Rattle.te_terms.proofs.OneThing.{Rests, rests}
 use Rattle.te_terms.proofs.UnderFirst.{settled_under_then, settled_under_catch}
 use Rattle.te_path.specs.declared.frame.Awaits.{Awaits}
 use Rattle.te_path.specs.declared.frame.Awaits.TheVariants.{Given, Raised}
@@ -108,18 +109,12 @@ final_is_ended (l ∷ ls) t o some e =
 
 -- ---- a head without a quiet step
 
--- in layers what rests and isn't final has neither a quiet step nor an outcome
-still_in_layer : (thread : ℕ) (a : Awaits) (n : ℕ) (f t : Term) → quiet_of thread t ≡ None → outcome_of t ≡ None →
-    (quiet_of thread (in_layer a n f t) ≡ None) × (outcome_of (in_layer a n f t) ≡ None)
-still_in_layer thread Given n f t quiet open_end = (rw (open_end, quiet) refl, refl)
-still_in_layer thread Raised n f t quiet open_end = (rw (open_end, quiet) refl, refl)
-
-pub still_in_layers : (thread : ℕ) (ls : List Layer) (t : Term) → quiet_of thread t ≡ None → (outcome_of t ≡ None) ⊎ (ls ≡ []) → quiet_of thread (in_layers ls t) ≡ None
-still_in_layers thread [] t quiet alone = quiet
-still_in_layers thread (l ∷ ls) t quiet (inr none) = absurd cc
-still_in_layers thread (l ∷ ls) t quiet (inl open_end) =
-    let one = still_in_layer thread l.awaits l.level l.rest t quiet open_end in
-    still_in_layers thread ls (in_layer l.awaits l.level l.rest t) one.0 (inl one.1)
+-- in layers a head that rests and isn't final has no quiet step either
+pub still_in_layers : (thread : ℕ) (ls : List Layer) (t : Term) → head t ≡ t → quiet_of thread t ≡ None → (outcome_of t ≡ None) ⊎ (ls ≡ []) → quiet_of thread (in_layers ls t) ≡ None
+still_in_layers thread [] t own quiet alone = quiet
+still_in_layers thread (l ∷ ls) t own quiet (inr none) = absurd cc
+still_in_layers thread (l ∷ ls) t own quiet (inl open_end) =
+    (rests thread (in_layers (l ∷ ls) t) (subst (Rests thread) (sym (head_in_layers (l ∷ ls) t ∙ own)) (quiet, open_end))).0
 
 -- ---- a head with a quiet step
 

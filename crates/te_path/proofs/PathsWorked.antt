@@ -1,9 +1,9 @@
 -- Worked paths: a message that is sent on, a raise that is caught after a meeting, and a choice, by computing.
-use Rattle.std.proofs.Common.{true, false, [], ◌∷◌, Some, refl}
+use Rattle.std.proofs.Common.{true, false, [], ◌∷◌, refl}
 use Rattle.std.specs.Prelude.{pos, negsuc}
 use Rattle.te_terms.specs.declared.value.Atom.TheVariants.{Int}
 use Rattle.te_terms.specs.declared.expr.Arith.TheVariants.{Add}
-use Rattle.te_terms.specs.Expressions.{Variable, Expression, name, known, int, chan, part, one, both, whole, tuple}
+use Rattle.te_terms.specs.Expressions.{Variable, Expression, name, known, int, chan, part, both, whole, tuple}
 use Rattle.te_terms.specs.Terms.{Term, always, never, throw, send, recv, and_then, choose, catch}
 use Rattle.te_terms.specs.Joint.{after_choice}
 use Rattle.te_terms.specs.Settling.{settled}

@@ -13,7 +13,7 @@ use Rattle.te_terms.proofs.BindingLaws.{closed_scoped}
 use Rattle.te_path.specs.declared.place.Head.TheVariants as heads
 use Rattle.te_path.specs.declared.place.Place.{Place}
 use Rattle.te_path.specs.Layers.{in_layers}
-use Rattle.te_path.specs.Leading.{Rests, GoesTo, EndsAs}
+use Rattle.te_path.specs.Leading.{RestsIn, GoesTo, EndsAs}
 use Rattle.te_path.specs.Paths.{member, HasSettled, SettlesAs}
 use Rattle.te_path.specs.Places.{term_of, layers_of, layer_of, head_term, ended, IsPlace, IsPath, Alike}
 use Rattle.te_path.proofs.InLayers.{alike_by_step, alike_in_layers, final_is_ended, still_in_layers}
@@ -31,10 +31,10 @@ module _ (p : Place) (i : ℕ) (at : p.head ≡ heads.Node i) where
   no_layers (inl open_end) = inl open_end
   no_layers (inr none) = inr (ap (map (layer_of p.code.value p.regs p.inner.items)) none)
 
-  pub stays : IsPlace p → Rests (at_node p i) (reverse p.frames.items) → IsPath p
+  pub stays : IsPlace p → RestsIn (at_node p i) (reverse p.frames.items) → IsPath p
   stays placed rests = record {
     place = placed;
-    settled = λ thread. rw is_at (ap (option_map (λ t. member thread t)) (still_in_layers thread (layers_of p) (at_node p i) (rests.quiet thread) (no_layers rests.alone)));
+    settled = λ thread. rw is_at (ap (option_map (λ t. member thread t)) (still_in_layers thread (layers_of p) (at_node p i) rests.own_head (rests.quiet thread) (no_layers rests.alone)));
     own_head = rw at rests.own_head;
   }
 

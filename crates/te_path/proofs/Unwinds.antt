@@ -1,6 +1,6 @@
 -- Frames unwound to the one that takes an outcome: to which term they come, and what is kept.
-use Rattle.std.proofs.Common.{◌≡◌, ℕ, zero, suc, ◌+◌, ◌≤◌, Bool, true, false, List, [], ◌∷◌, ◌++◌, length, take, map, Option, Some, None, refl, sym, ap, ◌∙◌, length-append, arith}
-use Rattle.std.proofs.lemmas.List.{take-append-le, length-take-le}
+use Rattle.std.proofs.Common.{◌≡◌, ℕ, suc, ◌+◌, ◌≤◌, Bool, true, false, List, [], ◌∷◌, ◌++◌, length, take, map, Option, Some, None, refl, sym, ap, ◌∙◌, length-append, arith}
+use Rattle.std.proofs.lemmas.List.{take-append-le, take-take, length-take-le}
 use Rattle.te_terms.specs.declared.value.Atom.{Atom}
 use Rattle.te_terms.specs.declared.code.Node.{Node}
 use Rattle.te_terms.specs.declared.event.Outcome.{Outcome}
@@ -15,16 +15,10 @@ use Rattle.te_path.proofs.InLayers.{layer_passes, layer_takes}
 
 -- ---- the inner values below a level
 
-take_shorter : {A : Type 0} (k l : ℕ) (xs : List A) → k ≤ l → take k (take l xs) ≡ take k xs
-take_shorter zero l xs h = refl
-take_shorter (suc k) zero xs h = absurd (omega arith)
-take_shorter (suc k) (suc l) [] h = refl
-take_shorter (suc k) (suc l) (x ∷ xs) h = ap (λ ys. x ∷ ys) (take_shorter k l xs (omega arith))
-
 take_below : {A : Type 0} (k l : ℕ) (xs more : List A) → k ≤ l → l ≤ length xs → take k (take l xs ++ more) ≡ take k xs
 take_below k l xs more h within =
     let long : k ≤ length (take l xs) = omega (arith, length-take-le l xs within) in
-    take-append-le k (take l xs) more long ∙ take_shorter k l xs h
+    take-append-le k (take l xs) more long ∙ take-take k l xs h
 
 pub length_bound : (inner : List (List Atom)) (l : ℕ) (v : List Atom) → l ≤ length inner → length (take l inner ++ v ∷ []) ≡ suc l
 length_bound inner l v within = omega (arith, length-append (take l inner) (v ∷ []), length-take-le l inner within)

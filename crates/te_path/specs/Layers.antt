@@ -1,4 +1,4 @@
--- A head and what stands round it: `then` and `catch` of which it is the first part.
+-- A head and what stands round it: `then` and `catch` of which it is the first part. No public clause cites this module.
 use Rattle.std.specs.Prelude.{ℕ, List, [], ◌∷◌}
 use Rattle.te_path.specs.declared.frame.Awaits.{Awaits}
 use Rattle.te_path.specs.declared.frame.Awaits.TheVariants.{Given, Raised}

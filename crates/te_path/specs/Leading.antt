@@ -22,7 +22,7 @@ pub record IsLower (code : List Node) (level : ℕ) (i : ℕ) (l : ℕ) (j : ℕ
   pub low : height (term_at code l j) < height (term_at code level i)
 
 -- no quiet step is left of the node's term: it is final and stands alone, or it is its own head and not final
-pub record Rests (t : Term) (frames : List Frame) : Type 0 where
+pub record RestsIn (t : Term) (frames : List Frame) : Type 0 where
   pub quiet : (thread : ℕ) → quiet_of thread t ≡ None
   pub own_head : head t ≡ t
   pub alone : (outcome_of t ≡ None) ⊎ (frames ≡ [])
@@ -46,7 +46,7 @@ abbrev pub EndsAs : Term → List Frame → Outcome → Type 0
 EndsAs t frames o = ((outcome_of t ≡ Some o) × (frames ≢ [])) ⊎ ((thread : ℕ) → quiet_of thread t ≡ Some (ended o))
 
 abbrev pub Leads : List Node → List (List Atom) → List (List Atom) → List Frame → ℕ → Next → Type 0
-Leads code regs inner frames i nexts.Stays = Rests (node_term code regs inner i) frames
+Leads code regs inner frames i nexts.Stays = RestsIn (node_term code regs inner i) frames
 Leads code regs inner frames i (nexts.Goes j) = GoesTo code regs inner i j
 Leads code regs inner frames i (nexts.Enters f j) = EntersAt code regs inner i f j
 Leads code regs inner frames i (nexts.Ends o) = EndsAs (node_term code regs inner i) frames o

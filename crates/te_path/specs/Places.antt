@@ -89,7 +89,7 @@ frames_left code (f ∷ fs) = node_left code (suc f.level) f.second + frames_lef
 abbrev pub nodes_left : Place → ℕ
 nodes_left p = head_left p.code.value (length p.inner.items) p.head + frames_left p.code.value (reverse p.frames.items)
 
--- ---- moves
+-- ---- places compared
 
 -- both terms settle as one, whatever the thread
 abbrev pub Alike : Term → Term → Type 0

@@ -8,7 +8,8 @@ use std::alloc::Global;
 use std::marker::Model;
 use te_terms::{Event, NoMemory, Outcome, Value};
 
-/// Where a path stands.
+/// Where a path stands, by the head of its term. Sends, receives and choices are those of Donnelly and Fluet,
+/// Transactional Events, JFP 18(5-6), 2008.
 #[derive(Clone, Copy, Debug, PartialEq, Eq)]
 pub enum Stop {
     /// At its end: it gives the value.
@@ -25,8 +26,9 @@ pub enum Stop {
     Dead,
 }
 
-/// An event as far as a path through it has come, with no quiet step left: it is seen as the term. A state is a
-/// node of the event's code, which all its copies share, with the values of the registers and of the inner
+/// An event as far as a path through it has come, with no quiet step left: it is seen as the term. Its steps are
+/// those of Donnelly and Fluet, Transactional Events, JFP 18(5-6), 2008, with this project's own traps, throw,
+/// catch and if. A state is a node of the event's code, which all its copies share, with the values of the registers and of the inner
 /// names and what stands round the node; no second term is ever built.
 #[derive(Drop)]
 pub struct PathState {
@@ -50,7 +52,7 @@ impl Model for PathState {
 
 impl PathState {
     /// The event after its quiet steps. It takes the room for all moves from there on, none at all where the
-    /// event's height is at most 4. The one refusal is want of memory.
+    /// event's height is at most 5. The one refusal is want of memory.
     pub fn start(alloc: Global, event: &Event) -> Result<PathState, NoMemory>
         ensures { IfOk result (λ path. SettlesAs event.now path) }
     {

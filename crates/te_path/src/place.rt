@@ -34,8 +34,8 @@ pub(crate) struct Place {
 }
 
 impl Place {
-    /// The place at a root, with room for every move from there on: frames and inner values together are never
-    /// more than the height.
+    /// The place at a root, with room for every move from there on: frames and inner values together are always
+    /// fewer than the height.
     pub(crate) fn at_root(
         alloc: Global,
         code: &Arc<EventCode>,
@@ -46,7 +46,7 @@ impl Place {
         ensures place { IfOk result IsPlace }
         ensures term { IfOk result (λ place. term_of place ≡ closed regs.now (term_under code.now.value root)) }
     {
-        let room = code.height(root) as usize;
+        let room = code.height(root) as usize - 1;
         let Ok(code) = Arc::try_clone(code) else {
             return Err(NoMemory);
         };

@@ -343,6 +343,35 @@ fn names_end_with_their_parts(rt: HostRuntime) -> Result<(), Fail> {
     Ok(())
 }
 
+#[test]
+fn catches_stand_in_catches(rt: HostRuntime) -> Result<(), Fail> {
+    // try { try { if (channel 0) < 1 { never } else { always (1) } } catch _0 { throw (_0.0 - 1) } }
+    // catch _0 { always _0 }
+    let traps = Node::If(
+        Cond {
+            test: Test::Less,
+            left: Prim::Chan(0),
+            right: Prim::Int(1),
+        },
+        0,
+        1,
+    );
+    let nested = [
+        Node::Never,
+        Node::Always(number(1)),
+        traps,
+        Node::Throw(difference(first(0), Prim::Int(1))),
+        Node::Catch(2, 3),
+        Node::Always(whole(0)),
+        Node::Catch(4, 5),
+    ];
+    assert_eq!(rt;
+        stop_after(rt.alloc(), &nested, &[])?,
+        Stop::Done(ints(&[-3]))
+    );
+    Ok(())
+}
+
 // Thirty-one times `then`, each in the first part of the next: recv 0, and then one more each time.
 fn tall_to_the_left(alloc: Global) -> Result<Vec<Node>, Fail> {
     let mut nodes = Vec::new(alloc);
@@ -354,14 +383,35 @@ fn tall_to_the_left(alloc: Global) -> Result<Vec<Node>, Fail> {
     Ok(nodes)
 }
 
+// do { _0 <- recv 0; .. _30 <- recv 0; always (_0.0 + _30.0) }
+fn tall_to_the_right(alloc: Global) -> Result<Vec<Node>, Fail> {
+    let mut nodes = Vec::new(alloc);
+    nodes.push(Node::Always(sum(first(0), first(30))))?;
+    for i in 0..31 {
+        nodes.push(Node::Recv(Prim::Chan(0)))?;
+        nodes.push(Node::Then(2 * i + 1, 2 * i))?;
+    }
+    Ok(nodes)
+}
+
 #[test]
 fn the_tallest_events_are_walked(rt: HostRuntime) -> Result<(), Fail> {
-    let nodes = tall_to_the_left(rt.alloc())?;
+    let alloc = rt.alloc();
+    let nodes = tall_to_the_left(alloc)?;
     let steps = [Step::Received(ints(&[100]))];
-    assert_eq!(rt; stop_after(rt.alloc(), &nodes, &[])?, Stop::Recv(0));
+    assert_eq!(rt; stop_after(alloc, &nodes, &[])?, Stop::Recv(0));
     assert_eq!(rt;
-        stop_after(rt.alloc(), &nodes, &steps)?,
+        stop_after(alloc, &nodes, &steps)?,
         Stop::Done(ints(&[131]))
     );
+    let mut path = start(alloc, &tall_to_the_right(alloc)?)?;
+    for i in 0..30 {
+        make(&mut path, Step::Received(ints(&[i])))?;
+    }
+    let mut copy = path.copy()?;
+    make(&mut path, Step::Received(ints(&[7])))?;
+    make(&mut copy, Step::Received(ints(&[8])))?;
+    assert_eq!(rt; path.stop(), Stop::Done(ints(&[7])));
+    assert_eq!(rt; copy.stop(), Stop::Done(ints(&[8])));
     Ok(())
 }
