@@ -3,8 +3,8 @@
 
     bench/paths.py [--runs N] [--moves N]
 
-It proves and builds the program bench/paths over copies of te_terms and te_path in a temporary folder, and runs it on
-an event of height 4 (four moves a walk) and one of height 32 (thirty-one moves a walk). Each walk is made by a copy of
+It proves and builds the program bench/paths.rattle over copies of te_terms and te_path in a temporary folder, and runs
+it on an event of height 4 (four moves a walk) and one of height 32 (thirty-one moves a walk). Each walk is made by a copy of
 the first state. The time is the least of N runs (5), of the processor; that of the copies alone is taken off. The calls
 that take memory are counted by bench/count_allocations.c, which cc builds.
 """
@@ -26,7 +26,8 @@ def build(folder):
     crates = os.path.join(folder, "crates")
     for name in ("te_terms", "te_path"):
         shutil.copytree(os.path.join(TOP, "crates", name), os.path.join(crates, name))
-    shutil.copytree(os.path.join(TOP, "bench", "paths"), os.path.join(crates, "paths"))
+    os.makedirs(os.path.join(crates, "paths", "src"))
+    shutil.copy(os.path.join(TOP, "bench", "paths.rattle"), os.path.join(crates, "paths", "src", "main.rt"))
     with open(os.path.join(folder, "crates.txt"), "w") as file:
         file.write(CRATES)
     subprocess.run(["git", "init", "-q", folder], check=True)
