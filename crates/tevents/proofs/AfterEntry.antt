@@ -3,7 +3,7 @@ use Rattle.std.proofs.Common.{◌≡◌, ℕ, suc, ◌≤◌, cond, Bool, true, 
 use Rattle.std.proofs.Math.ListN.{length-set}
 use Rattle.std.proofs.lemmas.List.{length-replicate, append-nil}
 use Rattle.te_terms.specs.declared.event.Outcome.{Outcome}
-use Rattle.tevents.specs.declared.cert.Member.{Member}
+use Rattle.te_cert.specs.declared.cert.Member.{Member}
 use Rattle.tevents.specs.declared.history.Entry.{Entry}
 use Rattle.tevents.specs.declared.history.Entry.TheVariants.{Post, Commit, Withdraw, Take, Rest, Stuck, End}
 use Rattle.tevents.specs.State.{idle, given, State, opening, with_standing, with_given, changed, state_from, state, is_post_by, posts_by}

@@ -2,7 +2,7 @@
 use Rattle.std.proofs.Common.{◌≡◌, refl, subst, ap, ◌∙◌}
 use Rattle.std.specs.Prelude.{ℕ, List, ◌∷◌, [], ◌++◌}
 use Rattle.te_terms.specs.declared.event.Outcome.{Outcome}
-use Rattle.tevents.specs.declared.cert.Cert.{Cert}
+use Rattle.te_cert.specs.declared.cert.Cert.{Cert}
 use Rattle.tevents.specs.declared.history.Entry.{Entry}
 use Rattle.tevents.specs.declared.history.Entry.TheVariants as entries
 use Rattle.tevents.specs.Rounds.{TakesBy, TakesOf, IsLowestOf, IsInRounds}

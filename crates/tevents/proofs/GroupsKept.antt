@@ -4,6 +4,12 @@ use Rattle.std.proofs.lemmas.List.{append-nil, length-append, length-set}
 use Rattle.std.proofs.lemmas.Option.{slice_get_within}
 use Rattle.std.specs.Prelude.{slice_get, IfOk, IfSome, IfNone, OnErr, MatchOption}
 use Rattle.te_terms.specs.Joint.{CanCommit, meeting}
+use Rattle.te_cert.specs.declared.cert.Member.{Member}
+use Rattle.te_cert.specs.declared.cert.Meeting.{Meeting}
+use Rattle.te_cert.specs.declared.cert.Cert.{Cert}
+use Rattle.te_cert.specs.Play as playing
+use Rattle.te_cert.specs.Play.{Player, Table, Played, PlayFault, Advance, Ends, play, all_advanced, advanced, all_meet, meets, ends_advance, met, endings, ending, seated}
+use Rattle.te_cert.specs.Checks.{RiseAfter, ThreadsRise}
 use Rattle.tevents.specs.declared.group.Group.{Group}
 use Rattle.std.specs.List.{AllByRecursion}
 use Rattle.te_terms.specs.declared.event.Outcome.{Outcome}
@@ -14,15 +20,10 @@ use Rattle.te_script.specs.Wishes.{Next, waits, ended, failed}
 use Rattle.te_script.specs.Cores.{At, IsWaiting}
 use Rattle.te_script.proofs.Places.{slice_get_set_same, slice_get_set_other}
 use Rattle.te_script.proofs.Appending.{AllByRecursion-append}
-use Rattle.tevents.specs.declared.cert.Member.{Member}
-use Rattle.tevents.specs.declared.cert.Meeting.{Meeting}
-use Rattle.tevents.specs.declared.cert.Cert.{Cert}
 use Rattle.tevents.specs.declared.history.Entry.{Entry}
 use Rattle.tevents.specs.declared.history.Entry.TheVariants as entries
-use Rattle.tevents.specs.Play as playing
-use Rattle.tevents.specs.Play.{Player, Table, Played, PlayFault, Advance, Ends, play, all_advanced, advanced, all_meet, meets, ends_advance, met, endings, ending, seated}
 use Rattle.tevents.specs.State.{Standing, parked, given, State, with_standing, with_given, parked_list}
-use Rattle.tevents.specs.Follows.{Stands, RiseAfter, ThreadsRise, AreEvents, Commits}
+use Rattle.tevents.specs.Follows.{Stands, AreEvents, Commits}
 use Rattle.tevents.specs.OfScript.{taken, WishedBy}
 use Rattle.tevents.specs.Rounds.{IsLowestOf}
 use Rattle.tevents.specs.Boards.{Log, now, appended, HasCommitted}

@@ -8,22 +8,22 @@ use Rattle.te_terms.specs.declared.event.Outcome.{Outcome}
 use Rattle.te_terms.specs.declared.event.Outcome.TheVariants.{Gives}
 use Rattle.te_terms.specs.Terms.{Term, send, recv}
 use Rattle.te_terms.specs.Joint.{meeting}
+use Rattle.te_cert.specs.declared.cert.Meeting.{Meeting}
+use Rattle.te_cert.specs.Play.{play}
+use Rattle.te_cert.specs.Certs.{IsTight}
+use Rattle.te_cert.proofs.SmallPlays.{play-alone, play-sender_first, play-receiver_first}
 use Rattle.tevents.specs.declared.kind.Kind.TheVariants.{Always, Send, Recv}
-use Rattle.tevents.specs.declared.cert.Meeting.{Meeting}
 use Rattle.tevents.specs.declared.history.Entry.{Entry}
 use Rattle.tevents.specs.declared.history.Entry.TheVariants.{Commit}
 use Rattle.tevents.specs.declared.seat.Stance.TheVariants.{Given}
 use Rattle.tevents.specs.declared.seat.Seat.{Seat}
 use Rattle.tevents.specs.declared.seat.Party.{Party}
-use Rattle.tevents.specs.Play.{play}
-use Rattle.tevents.specs.Certs.{IsTight}
 use Rattle.tevents.specs.State.{parked, given, State, state, posts_by}
 use Rattle.tevents.specs.Follows.{Stands, IsRunning, Commits}
 use Rattle.tevents.specs.Boards.{Log, now, appended, HasCommitted}
 use Rattle.tevents.specs.Groups.{cert_of_one, cert_of_two}
 use Rattle.tevents.specs.Seats.{IsKept, IsParkedAs, Restands}
 use Rattle.tevents.proofs.AfterEntry.{length-state}
-use Rattle.tevents.proofs.SmallPlays.{play-alone, play-sender_first, play-receiver_first}
 use Rattle.tevents.proofs.KeptLemmas.{kept_after, shows_restand, length-restand}
 
 -- ---- the commits may follow

@@ -1,22 +1,16 @@
 pub mod ListRests
-pub mod RowsTerms
 pub mod RowsExchange
 pub mod RowsFilter
 pub mod RowsCaughtTrap
-pub mod RowsRing
-pub mod RowsRaises
 pub mod NoCommit
 pub mod HistoriesWorked
 pub mod FirstRound
 mod ReportsWorked
-mod PlaysWorked
-mod CertsWorked
 mod RoundsWorked
 mod BlocksRefused
 mod RoundEndsRefused
 pub mod StanceLemmas
 pub mod WaitingKinds
-pub mod SmallPlays
 pub mod NoneCommits
 pub mod AfterEntry
 pub mod SeatLemmas

@@ -4,8 +4,8 @@ use Rattle.std.specs.Prelude.{Some, None, slice_get}
 use Rattle.std.proofs.Math.Seq.{drop-cons}
 use Rattle.std.proofs.lemmas.List.{drop_all}
 use Rattle.std.proofs.lemmas.Option.{slice_get_within, get_or_from_slice_get, slice_get_cases}
+use Rattle.te_cert.specs.declared.cert.Member.{Member}
 use Rattle.te_script.specs.Scripts.{Program}
-use Rattle.tevents.specs.declared.cert.Member.{Member}
 use Rattle.tevents.specs.Report.{other_members}
 
 -- at a place that is there: the item, and what is left behind it

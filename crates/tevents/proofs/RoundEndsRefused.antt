@@ -6,8 +6,9 @@ use Rattle.te_terms.specs.declared.event.Outcome.{Outcome}
 use Rattle.te_terms.specs.declared.event.Outcome.TheVariants.{Gives}
 use Rattle.te_terms.specs.Terms.{Term, always, never}
 use Rattle.te_terms.specs.Joint.{CanCommit}
-use Rattle.tevents.specs.declared.cert.Member.{Member}
-use Rattle.tevents.specs.declared.cert.Cert.{Cert}
+use Rattle.te_cert.specs.declared.cert.Member.{Member}
+use Rattle.te_cert.specs.declared.cert.Cert.{Cert}
+use Rattle.te_cert.proofs.RowsTerms.{single, single_value}
 use Rattle.tevents.specs.declared.history.How.{How}
 use Rattle.tevents.specs.declared.history.How.TheVariants as ways
 use Rattle.tevents.specs.declared.history.Entry.{Entry}
@@ -15,7 +16,6 @@ use Rattle.tevents.specs.declared.history.Entry.TheVariants as entries
 use Rattle.tevents.specs.State.{State, state, parked_list}
 use Rattle.tevents.specs.Rounds.{TakesOf, IsBlock, ClosesSo, IsStuckAndEnds, IsInRounds}
 use Rattle.tevents.proofs.FirstRound.{first_round, joined, block_parts, block_apart, first_same, rest_same, cert_same}
-use Rattle.tevents.proofs.RowsTerms.{single, single_value}
 
 end_is_no_commit : {t by : ℕ} {cert : Cert} {outcomes : List Outcome} {how : _} → entries.Commit by cert outcomes ≡ entries.End t how → ⊥
 end_is_no_commit e = cc

@@ -4,13 +4,13 @@ use Rattle.te_terms.specs.declared.event.Outcome.{Outcome}
 use Rattle.te_terms.specs.declared.event.Outcome.TheVariants.{Gives}
 use Rattle.te_terms.specs.Expressions.{register, chan, whole}
 use Rattle.te_terms.specs.Terms.{Term, send, recv}
+use Rattle.te_cert.specs.declared.cert.Member.{Member}
+use Rattle.te_cert.specs.declared.cert.Cert.{Cert}
+use Rattle.te_cert.proofs.RowsTerms.{single, single_value}
 use Rattle.te_script.specs.Scripts.{sync, emit, Program}
-use Rattle.tevents.specs.declared.cert.Member.{Member}
-use Rattle.tevents.specs.declared.cert.Cert.{Cert}
 use Rattle.tevents.specs.declared.history.How.TheVariants as ways
 use Rattle.tevents.specs.declared.history.Entry.{Entry}
 use Rattle.tevents.specs.declared.history.Entry.TheVariants as entries
-use Rattle.tevents.proofs.RowsTerms.{single, single_value}
 
 abbrev pub sends : Term
 sends = send (chan 0) (single 7)

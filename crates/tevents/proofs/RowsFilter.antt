@@ -4,13 +4,13 @@ use Rattle.te_terms.specs.declared.event.Outcome.TheVariants.{Gives}
 use Rattle.te_terms.specs.declared.expr.Test.TheVariants.{Less}
 use Rattle.te_terms.specs.Expressions.{register, int, chan, whole}
 use Rattle.te_terms.specs.Terms.{Term, always, never, send, recv, and_then, when}
+use Rattle.te_cert.specs.declared.cert.Member.{Member}
+use Rattle.te_cert.specs.declared.cert.Cert.{Cert}
+use Rattle.te_cert.proofs.RowsTerms.{single, single_value, the_name, first_of}
 use Rattle.te_script.specs.Scripts.{sync, emit, Program}
-use Rattle.tevents.specs.declared.cert.Member.{Member}
-use Rattle.tevents.specs.declared.cert.Cert.{Cert}
 use Rattle.tevents.specs.declared.history.How.TheVariants as ways
 use Rattle.tevents.specs.declared.history.Entry.{Entry}
 use Rattle.tevents.specs.declared.history.Entry.TheVariants as entries
-use Rattle.tevents.proofs.RowsTerms.{single, single_value, the_name, first_of}
 
 abbrev pub filters : Term
 filters = and_then (recv (chan 0)) 0 (when Less (int (pos 3)) (first_of 0) (always (the_name 0)) never)

@@ -4,17 +4,18 @@ use Rattle.std.proofs.lemmas.List.{append-nil}
 use Rattle.std.proofs.lemmas.List.Concat.{flat_map-append}
 use Rattle.std.proofs.lemmas.Option.{slice_get_within}
 use Rattle.std.specs.Prelude.{slice_get, MatchOption}
+use Rattle.te_cert.specs.declared.cert.Member.{Member}
+use Rattle.te_cert.specs.Checks.{ThreadsRise}
 use Rattle.tevents.specs.declared.group.Group.{Group}
 use Rattle.tevents.specs.Groups.{threads_of}
 use Rattle.std.specs.List.{flat_map}
 use Rattle.te_terms.specs.declared.event.Outcome.{Outcome}
 use Rattle.te_terms.specs.Joint.{CanCommit}
 use Rattle.te_script.proofs.Places.{slice_get_set_same, slice_get_set_other}
-use Rattle.tevents.specs.declared.cert.Member.{Member}
 use Rattle.tevents.specs.declared.history.Entry.{Entry}
 use Rattle.tevents.specs.declared.history.Entry.TheVariants as entries
 use Rattle.tevents.specs.State.{Standing, idle, parked, given, ended, State, changed, with_standing, with_given, parked_list}
-use Rattle.tevents.specs.Follows.{Stands, IsRunning, IsParkedOrEnded, ThreadsRise}
+use Rattle.tevents.specs.Follows.{Stands, IsRunning, IsParkedOrEnded}
 use Rattle.tevents.specs.Rounds.{OpensBy, OpensFrom, TakesBy, TakesOf}
 use Rattle.tevents.specs.Houses.{Run, grown, state_of}
 use Rattle.tevents.specs.Runs.{NoneGiven, IsGivenIn, HasOpened, HasTakenOne, HasCommittedGroup, HasCommittedBlock}

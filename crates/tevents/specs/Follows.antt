@@ -4,13 +4,14 @@ use Rattle.std.specs.List.{AllByRecursion}
 use Rattle.te_terms.specs.declared.event.Outcome.{Outcome}
 use Rattle.te_terms.specs.Steps as steps
 use Rattle.te_terms.specs.Joint.{Label, CanCommit}
-use Rattle.tevents.specs.declared.cert.Member.{Member}
-use Rattle.tevents.specs.declared.cert.Cert.{Cert}
+use Rattle.te_cert.specs.declared.cert.Member.{Member}
+use Rattle.te_cert.specs.declared.cert.Cert.{Cert}
+use Rattle.te_cert.specs.Play.{play}
+use Rattle.te_cert.specs.Checks.{ThreadsRise}
 use Rattle.tevents.specs.declared.history.How.{How}
 use Rattle.tevents.specs.declared.history.How.TheVariants as ways
 use Rattle.tevents.specs.declared.history.Entry.{Entry}
 use Rattle.tevents.specs.declared.history.Entry.TheVariants as entries
-use Rattle.tevents.specs.Play.{play}
 use Rattle.tevents.specs.State.{Standing, idle, parked, given, ended, State, state, parked_list, posts_by}
 
 abbrev pub IsRunning : State → Type 0
@@ -25,15 +26,6 @@ IsParkedOrEnded idle = ⊥
 IsParkedOrEnded (parked ticket event) = Unit {0}
 IsParkedOrEnded (given ticket outcome) = ⊥
 IsParkedOrEnded ended = Unit {0}
-
--- the threads of members rise strictly
-abbrev pub RiseAfter : ℕ → List Member → Type 0
-RiseAfter t [] = Unit {0}
-RiseAfter t (m ∷ ms) = (t < m.thread) × RiseAfter m.thread ms
-
-abbrev pub ThreadsRise : List Member → Type 0
-ThreadsRise [] = Unit {0}
-ThreadsRise (m ∷ ms) = RiseAfter m.thread ms
 
 -- the members' own parked events, as a group
 abbrev pub AreEvents : State → List Member → List steps.Member → Type 0

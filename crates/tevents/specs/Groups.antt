@@ -1,8 +1,8 @@
 -- Groups of one or two members, and their certificates.
 use Rattle.std.specs.Prelude.{ℕ, List, [], ◌∷◌}
-use Rattle.tevents.specs.declared.cert.Member.{Member}
-use Rattle.tevents.specs.declared.cert.Meeting.{Meeting}
-use Rattle.tevents.specs.declared.cert.Cert.{Cert}
+use Rattle.te_cert.specs.declared.cert.Member.{Member}
+use Rattle.te_cert.specs.declared.cert.Meeting.{Meeting}
+use Rattle.te_cert.specs.declared.cert.Cert.{Cert}
 use Rattle.tevents.specs.declared.group.Group.{Group}
 use Rattle.tevents.specs.declared.group.Group.TheVariants as groups
 use Rattle.tevents.specs.declared.seat.Party.{Party}

@@ -1,6 +1,7 @@
 -- The threads of a script on one board, and how many entries they can still make.
 use Rattle.std.specs.Prelude.{◌≡◌, ℕ, suc, ◌+◌, ◌-◌, ◌*◌, ◌≤◌, Bool, true, false, List, [], ◌∷◌, ◌++◌, length, map, refl}
 use Rattle.std.specs.Coded.{Coded, code_by, coded×, coded_list}
+use Rattle.te_cert.specs.Certs.{IsTight}
 use Rattle.te_script.specs.Stored.{coded_thread}
 use Rattle.std.specs.List.{AllByRecursion}
 use Rattle.te_reader.specs.FirstForm.{IsPlainStatement}
@@ -9,7 +10,6 @@ use Rattle.te_script.specs.Wishes.{Next, waits, ended, failed}
 use Rattle.te_script.specs.Cores.{At, core_after, IsWaiting}
 use Rattle.tevents.specs.declared.history.Entry.{Entry}
 use Rattle.tevents.specs.declared.history.Entry.TheVariants as entries
-use Rattle.tevents.specs.Certs.{IsTight}
 use Rattle.tevents.specs.State.{Standing, idle, parked, given, ended as has_ended, State, state}
 use Rattle.tevents.specs.Follows.{IsLegal}
 use Rattle.tevents.specs.OfScript.{taken, WishedFrom}

@@ -1,5 +1,3 @@
-pub mod Play
-pub mod Certs
 pub mod State
 pub mod Follows
 pub mod OfScript

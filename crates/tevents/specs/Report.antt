@@ -6,10 +6,10 @@ use Rattle.te_terms.specs.declared.value.Atom.{Atom}
 use Rattle.te_terms.specs.declared.value.Atom.TheVariants.{Int, Chan}
 use Rattle.te_terms.specs.declared.event.Outcome.{Outcome}
 use Rattle.te_terms.specs.declared.event.Outcome.TheVariants.{Gives, Raises}
+use Rattle.te_cert.specs.declared.cert.Member.{Member}
+use Rattle.te_cert.specs.declared.cert.Meeting.{Meeting}
+use Rattle.te_cert.specs.declared.cert.Cert.{Cert}
 use Rattle.te_script.specs.Scripts.{Thread, Program}
-use Rattle.tevents.specs.declared.cert.Member.{Member}
-use Rattle.tevents.specs.declared.cert.Meeting.{Meeting}
-use Rattle.tevents.specs.declared.cert.Cert.{Cert}
 use Rattle.tevents.specs.declared.history.How.{How}
 use Rattle.tevents.specs.declared.history.How.TheVariants as ways
 use Rattle.tevents.specs.declared.history.Entry.{Entry}

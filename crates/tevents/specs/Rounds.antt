@@ -3,7 +3,7 @@ use Rattle.std.specs.Prelude.{◌≡◌, ◌≢◌, ℕ, suc, List, [], ◌∷�
 use Rattle.std.specs.List.{AllByRecursion, flat_map}
 use Rattle.te_terms.specs.declared.event.Parked.{Parked}
 use Rattle.te_terms.specs.Joint.{CanCommit}
-use Rattle.tevents.specs.declared.cert.Member.{Member}
+use Rattle.te_cert.specs.declared.cert.Member.{Member}
 use Rattle.tevents.specs.declared.history.How.TheVariants as ways
 use Rattle.tevents.specs.declared.history.Entry.{Entry}
 use Rattle.tevents.specs.declared.history.Entry.TheVariants as entries

@@ -3,7 +3,7 @@ use Rattle.std.specs.Prelude.{ℕ, suc, Bool, true, false, ◌==◌, List, [], �
 use Rattle.te_terms.specs.declared.event.Outcome.{Outcome}
 use Rattle.te_terms.specs.declared.event.Parked.{Parked}
 use Rattle.te_terms.specs.Terms.{Term}
-use Rattle.tevents.specs.declared.cert.Member.{Member}
+use Rattle.te_cert.specs.declared.cert.Member.{Member}
 use Rattle.tevents.specs.declared.history.Entry.{Entry}
 use Rattle.tevents.specs.declared.history.Entry.TheVariants as entries
 

@@ -1,4 +1,4 @@
-use crate::cert::Cert;
+use te_cert::Cert;
 use te_terms::{Event, Outcome, Rows, Value};
 
 /// How a thread ends.

@@ -3,7 +3,6 @@
 
 mod answering;
 mod board;
-mod cert;
 mod group;
 mod history;
 mod house;

@@ -2,8 +2,8 @@ ghost use Rattle.std.specs.Prelude.{◌≡◌, ◌++◌, OnOk};
 ghost use Rattle.std.specs.List.{flat_map};
 ghost use Rattle.tevents.specs.Report.{letter, member_text, other_members, members_text, member_name, meeting_text};
 
-use crate::cert::{Meeting, Member};
 use crate::report::values::{put_number, put_outcome, thread_name};
+use te_cert::{Meeting, Member};
 use te_script::Script;
 use te_terms::{NoMemory, Outcome};
 

@@ -5,7 +5,7 @@ use Rattle.te_terms.specs.declared.event.Outcome.TheVariants.{Gives}
 use Rattle.te_terms.specs.Expressions.{Primitive, Expression, value_of, channel_value}
 use Rattle.te_terms.specs.Terms.{always, send, recv}
 use Rattle.te_terms.specs.Joint.{meeting}
-use Rattle.tevents.specs.Play.{play}
+use Rattle.te_cert.specs.Play.{play}
 
 pub play-alone : (t : ℕ) (e : Expression) (v : List Atom) → value_of e ≡ Ok v
     → play (record { thread = t; term = always e } ∷ []) ([] ∷ []) [] ≡ Ok (record { outcomes = Gives v ∷ []; word = [] })

@@ -5,7 +5,7 @@ use Rattle.te_terms.specs.declared.event.Outcome.TheVariants.{Gives, Raises}
 use Rattle.te_terms.specs.Expressions.{chan}
 use Rattle.te_terms.specs.Terms.{always, throw, send, recv, and_then, catch}
 use Rattle.te_terms.specs.Steps as steps
-use Rattle.tevents.proofs.RowsTerms.{single, single_value, the_name, one_more_than}
+use Rattle.te_cert.proofs.RowsTerms.{single, single_value, the_name, one_more_than}
 
 abbrev pub raising_group : List steps.Member
 raising_group =

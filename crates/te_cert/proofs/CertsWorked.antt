@@ -7,11 +7,11 @@ use Rattle.te_terms.specs.Expressions.{chan}
 use Rattle.te_terms.specs.Terms.{Term, always, never, send, recv, choose}
 use Rattle.te_terms.specs.Steps as steps
 use Rattle.te_terms.specs.Joint.{Label, choice, meeting, labelled, Reduces}
-use Rattle.tevents.specs.declared.cert.Cert.{Cert}
-use Rattle.tevents.specs.Play.{play}
-use Rattle.tevents.specs.Certs.{choices_of, meetings_of, IsTight}
-use Rattle.tevents.proofs.RowsTerms.{single, single_value, unit}
-use Rattle.tevents.proofs.RowsRing as ring
+use Rattle.te_cert.specs.declared.cert.Cert.{Cert}
+use Rattle.te_cert.specs.Play.{play}
+use Rattle.te_cert.specs.Certs.{choices_of, meetings_of, IsTight}
+use Rattle.te_cert.proofs.RowsTerms.{single, single_value, unit}
+use Rattle.te_cert.proofs.RowsRing as ring
 
 -- ---- from labels to a certificate: the order of the choices of two members doesn't matter
 

@@ -5,11 +5,11 @@ use Rattle.te_terms.specs.declared.event.Outcome.TheVariants.{Gives}
 use Rattle.te_terms.specs.Expressions.{chan}
 use Rattle.te_terms.specs.Terms.{always, send, recv, and_then}
 use Rattle.te_terms.specs.Joint.{meeting}
-use Rattle.tevents.specs.Play.{play, no_meeting, letters_left}
-use Rattle.tevents.proofs.RowsTerms.{single}
-use Rattle.tevents.proofs.RowsRing as ring
-use Rattle.tevents.proofs.RowsRaises as raises
-use Rattle.tevents.proofs.RowsCaughtTrap as caught
+use Rattle.te_cert.specs.Play.{play, no_meeting, letters_left}
+use Rattle.te_cert.proofs.RowsTerms.{single}
+use Rattle.te_cert.proofs.RowsRing as ring
+use Rattle.te_cert.proofs.RowsRaises as raises
+use Rattle.te_cert.proofs.RowsTrap as trap
 
 -- no letters for two and for three members
 abbrev two_silent : List (List Bool)
@@ -30,7 +30,7 @@ pub catch_plays : play raises.catching_group two_silent (record { sender = 1; re
 catch_plays = refl
 
 -- a trap is caught
-pub trap_plays : play (record { thread = 0; term = caught.overflows } ∷ []) ([] ∷ []) [] ≡ Ok (record { outcomes = Gives caught.caught ∷ []; word = [] })
+pub trap_plays : play (record { thread = 0; term = trap.overflows } ∷ []) ([] ∷ []) [] ≡ Ok (record { outcomes = Gives trap.caught ∷ []; word = [] })
 trap_plays = refl
 
 -- a letter that no choice takes

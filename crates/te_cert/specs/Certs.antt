@@ -3,8 +3,8 @@ use Rattle.std.specs.Prelude.{◌≡◌, ℕ, suc, ◌<◌, Bool, ◌==◌, List
 use Rattle.std.specs.List.{AllByRecursion}
 use Rattle.te_terms.specs.Steps.{Member}
 use Rattle.te_terms.specs.Joint.{Label, choice, meeting}
-use Rattle.tevents.specs.declared.cert.Meeting.{Meeting}
-use Rattle.tevents.specs.declared.cert.Cert.{Cert}
+use Rattle.te_cert.specs.declared.cert.Meeting.{Meeting}
+use Rattle.te_cert.specs.declared.cert.Cert.{Cert}
 
 -- the letters of a thread's choices, in order
 abbrev pub letters_of : ℕ → List Label → List Bool

@@ -6,10 +6,10 @@ use Rattle.te_terms.specs.Expressions.{chan}
 use Rattle.te_terms.specs.Terms.{Term, always, send, recv, and_then}
 use Rattle.te_terms.specs.Steps as steps
 use Rattle.te_terms.specs.Joint.{Label, meeting}
-use Rattle.tevents.specs.declared.cert.Member.{Member}
-use Rattle.tevents.specs.declared.cert.Meeting.{Meeting}
-use Rattle.tevents.specs.declared.cert.Cert.{Cert}
-use Rattle.tevents.proofs.RowsTerms.{single, single_value, the_name, one_more_than}
+use Rattle.te_cert.specs.declared.cert.Member.{Member}
+use Rattle.te_cert.specs.declared.cert.Meeting.{Meeting}
+use Rattle.te_cert.specs.declared.cert.Cert.{Cert}
+use Rattle.te_cert.proofs.RowsTerms.{single, single_value, the_name, one_more_than}
 
 abbrev pub starts : Term
 starts = and_then (send (chan 0) (single 1)) 0 (recv (chan 2))

@@ -6,7 +6,7 @@ use Rattle.te_terms.specs.Terms.{Term}
 use Rattle.te_terms.specs.Steps.{Member, giving, quiet_step, outcome_of, with_head}
 use Rattle.te_terms.specs.Joint.{Label, choice, meeting, Message, after_choice, sending, receiving}
 use Rattle.te_terms.specs.Settling.{node_count}
-use Rattle.tevents.specs.declared.cert.Meeting.{Meeting}
+use Rattle.te_cert.specs.declared.cert.Meeting.{Meeting}
 
 -- why a play fails: a member lacks a letter; the ends of a meeting don't fit; a member isn't final; letters are left over
 pub data PlayFault : Type 0 where

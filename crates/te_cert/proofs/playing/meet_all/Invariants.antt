@@ -1,0 +1,11 @@
+use Rattle.std.proofs.Common.{◌≡◌, List, drop}
+use Rattle.te_terms.specs.Joint.{Label}
+use Rattle.te_cert.specs.Play.{all_meet}
+use Rattle.te_cert.specs.Players.{AreSeated, table_of}
+use Rattle.te_cert.proofs.playing.meet_all.Given as goal
+
+abbrev pub invariant-loop-j : goal.invariant-loop-j
+invariant-loop-j l = record {
+  seated : AreSeated l.members l.players;
+  so_far : (first : List Label) → (word : List Label) × (all_meet 0 l.meetings (table_of l.members l.initial.players first) ≡ all_meet l.j (drop l.j l.meetings) (table_of l.members l.players word));
+}

@@ -1,0 +1,6 @@
+pub mod Certificates
+pub mod Play
+pub mod Certs
+pub mod Checks
+pub mod Advances
+pub mod Players

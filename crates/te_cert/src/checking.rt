@@ -1,0 +1,92 @@
+ghost use Rattle.std.specs.Prelude.{◌≡◌, ◌≢◌, ℕ, ◌≤◌, ◌<◌, ◌^◌, [], length, true, IfOk, IfErr, OnOk, IsTrue};
+ghost use Rattle.te_cert.specs.declared.cert.CertFault.TheVariants.{Index};
+ghost use Rattle.te_cert.specs.Checks.{IsChecked, Reduced, ThreadsRise, RiseAfter, IsBetween, AreBetween, IsFirstAstray, IsOutOfOrder};
+
+use crate::cert::{Cert, CertFault, Meeting, Member};
+use crate::playing::{meet_all, outcomes, seat_all};
+use std::alloc::Global;
+use te_terms::{Event, Outcome, Rows};
+
+/// Checks that the events of the members reduce together by the certificate, and answers their outcomes, in
+/// order of the members. Condition: there are as many events as members. Tickets aren't read.
+///
+/// The play: in order, each member advances, which is its quiet steps and its choices by its own letters; at each
+/// meeting, in order, both ends move, the sender advances, and then the receiver; in the end each member is final and
+/// no letter is left over.
+///
+/// The refusals, in the order in which they are tested: `Empty` where there is no member; `Order` where the
+/// threads don't rise strictly; `Index` of the first meeting with a place that is no member or with two equal
+/// places; then the first failure of the play, `Choices` of a member that needs a letter and has none left or
+/// `Meet` of a meeting whose ends don't fit; then, of the first member that fails in the end, `Unfinished` where
+/// it isn't final and `Choices` where letters are left over. `Memory` is want of memory, which may come once the
+/// first three are tested, before any failure of the play. A refusal changes nothing.
+///
+/// The events are those of Donnelly and Fluet, Transactional Events, JFP 18(5-6), 2008; certificates and their
+/// play are this project's own.
+pub fn check(alloc: Global, cert: &Cert, events: &[Event]) -> Result<Rows<Outcome>, CertFault>
+    requires { length cert.now.members ≡ length events.now }
+    ensures checked { IsChecked cert.now events.now result }
+    ensures reduces { IfOk result (λ outcomes. Reduced cert.now events.now outcomes) }
+{
+    let members = cert.members.as_slice();
+    let meetings = cert.meets.as_slice();
+    in_order(members)?;
+    all_between(members.len(), meetings)?;
+    let mut players = seat_all(alloc, members, events)?;
+    meet_all(&mut players, members, meetings)?;
+    outcomes(alloc, members, &players)
+}
+
+// Whether there are members, and their threads rise strictly.
+fn in_order(members: &[Member]) -> Result<(), CertFault>
+    ensures some { OnOk result (members.now ≢ []) }
+    ensures rise { OnOk result (ThreadsRise members.now) }
+    ensures few { OnOk result (length members.now ≤ 2 ^ 32) }
+    ensures err { IfErr result (λ e. IsOutOfOrder members.now e) }
+{
+    let [first, rest @ ..] = members else {
+        return Err(CertFault::Empty);
+    };
+    if !rise_after(first.thread, rest) {
+        return Err(CertFault::Order);
+    }
+    Ok(())
+}
+
+fn rise_after(thread: u32, members: &[Member]) -> bool
+    ensures rise { IsTrue result → RiseAfter thread members.now }
+    ensures not { ¬ IsTrue result → ¬ RiseAfter thread members.now }
+    ensures few { IsTrue result → length members.now < 2 ^ 32 }
+{
+    let mut last = thread;
+    for member in members {
+        if member.thread <= last {
+            return false;
+        }
+        last = member.thread;
+    }
+    true
+}
+
+// Whether each meeting names two different places of so many.
+fn all_between(members: usize, meetings: &[Meeting]) -> Result<(), CertFault>
+    requires { length meetings.now < 2 ^ 32 }
+    ensures ok { OnOk result (AreBetween members meetings.now) }
+    ensures err { IfErr result (λ e. (j : ℕ) × (e ≡ Index j) × IsFirstAstray members meetings.now j) }
+{
+    for j in 0..meetings.len() {
+        if !is_between(members, meetings[j]) {
+            return Err(CertFault::Index(j as u32));
+        }
+    }
+    Ok(())
+}
+
+fn is_between(members: usize, meeting: Meeting) -> bool
+    ensures yes { IsTrue result → IsBetween members meeting }
+    ensures no { ¬ IsTrue result → ¬ IsBetween members meeting }
+{
+    (meeting.sender as usize) < members
+        && (meeting.receiver as usize) < members
+        && meeting.sender != meeting.receiver
+}
