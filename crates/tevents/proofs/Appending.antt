@@ -4,9 +4,9 @@ use Rattle.std.proofs.lemmas.List.{append-nil}
 use Rattle.std.specs.Prelude.{slice_get}
 use Rattle.te_terms.specs.declared.event.Outcome.{Outcome}
 use Rattle.te_script.specs.Scripts.{Thread}
-use Rattle.tevents.specs.declared.history.Entry.{Entry}
-use Rattle.tevents.specs.declared.history.Entry.TheVariants as entries
-use Rattle.tevents.specs.Follows.{caller_of}
+use Rattle.te_history.specs.declared.entry.Entry.{Entry}
+use Rattle.te_history.specs.declared.entry.Entry.TheVariants as entries
+use Rattle.te_history.specs.Follows.{caller_of}
 use Rattle.tevents.specs.OfScript.{taken, taken_from, WishedBy, WishedFrom}
 
 taken_step : (t : ℕ) (e : Entry) (rest : List Outcome) → taken_from t e rest ≡ taken_from t e [] ++ rest

@@ -3,8 +3,8 @@ use Rattle.std.proofs.Common.{◌≡◌, refl, subst, ap, ◌∙◌}
 use Rattle.std.specs.Prelude.{ℕ, List, ◌∷◌, [], ◌++◌}
 use Rattle.te_terms.specs.declared.event.Outcome.{Outcome}
 use Rattle.te_cert.specs.declared.cert.Cert.{Cert}
-use Rattle.tevents.specs.declared.history.Entry.{Entry}
-use Rattle.tevents.specs.declared.history.Entry.TheVariants as entries
+use Rattle.te_history.specs.declared.entry.Entry.{Entry}
+use Rattle.te_history.specs.declared.entry.Entry.TheVariants as entries
 use Rattle.tevents.specs.Rounds.{TakesBy, TakesOf, IsLowestOf, IsInRounds}
 use Rattle.tevents.proofs.FirstRound.{first_round, block_parts, first_take, some_block, first_same, rest_same, cert_same}
 use Rattle.tevents.proofs.HistoriesWorked.{exchange_can_commit}

@@ -8,13 +8,13 @@ use Rattle.te_terms.specs.Terms.{Term}
 use Rattle.te_terms.specs.declared.event.Parked.{Parked}
 use Rattle.te_script.proofs.Places.{slice_get_set_same}
 use Rattle.te_script.proofs.Appending.{AllByRecursion-append}
-use Rattle.tevents.specs.declared.history.How.TheVariants as ways
-use Rattle.tevents.specs.declared.history.Entry.{Entry}
-use Rattle.tevents.specs.declared.history.Entry.TheVariants as entries
+use Rattle.te_history.specs.declared.status.How.TheVariants as ways
+use Rattle.te_history.specs.declared.entry.Entry.{Entry}
+use Rattle.te_history.specs.declared.entry.Entry.TheVariants as entries
 use Rattle.tevents.specs.declared.board.Place.{Place}
 use Rattle.tevents.specs.declared.board.Place.TheVariants as places
-use Rattle.tevents.specs.State.{Standing, idle, parked, given, ended, State, parked_by, parked_from, parked_list}
-use Rattle.tevents.specs.Follows.{Stands, IsParkedOrEnded}
+use Rattle.te_history.specs.State.{Standing, idle, parked, given, ended, State, parked_by, parked_from, parked_list}
+use Rattle.te_history.specs.Follows.{Stands, IsParkedOrEnded}
 use Rattle.tevents.specs.Rounds.{EndsOf, EndsStuck, IsStuckDue, IsLowestParked}
 use Rattle.tevents.specs.Boards.{ShowsPlace}
 use Rattle.tevents.specs.Houses.{Run, grown, state_of}

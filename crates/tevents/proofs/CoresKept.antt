@@ -2,8 +2,8 @@
 use Rattle.std.proofs.Common.{◌≡◌, ◌≢◌, ℕ, zero, suc, ◌+◌, ◌<◌, ◌≤◌, List, [], ◌∷◌, length, slice_set, Some, refl, sym, ap, subst, arith, add-zero}
 use Rattle.std.specs.Prelude.{slice_get}
 use Rattle.te_script.specs.Cores.{At}
-use Rattle.tevents.specs.declared.history.Entry.{Entry}
-use Rattle.tevents.specs.State.{Standing}
+use Rattle.te_history.specs.declared.entry.Entry.{Entry}
+use Rattle.te_history.specs.State.{Standing}
 use Rattle.tevents.specs.OfScript.{taken}
 use Rattle.tevents.specs.Houses.{FitsNext, IsCoreOf, AreCoresOf, entries_left, all_left}
 

@@ -5,7 +5,7 @@ use Rattle.te_reader.specs.FirstForm.{IsPlainStatement}
 use Rattle.te_script.specs.Scripts.{Statement, sync, emit, Thread, IsThread}
 use Rattle.te_script.proofs.MoreChannels.{IsThread-more}
 use Rattle.te_script.specs.Cores.{At, core_after}
-use Rattle.tevents.specs.State.{idle}
+use Rattle.te_history.specs.State.{idle}
 use Rattle.tevents.specs.Boards.{Log}
 use Rattle.tevents.specs.Houses.{syncs_in, syncs_left, all_left, threads_of, AreCoresOf, IsHouse, IsFirstThread}
 use Rattle.tevents.proofs.TakesKept.{syncs_at}

@@ -6,9 +6,9 @@ use Rattle.te_terms.specs.declared.event.Outcome.{Outcome}
 use Rattle.te_terms.specs.Joint.{CanCommit}
 use Rattle.te_cert.specs.declared.cert.Member.{Member}
 use Rattle.te_cert.specs.declared.cert.Cert.{Cert}
-use Rattle.tevents.specs.declared.history.Entry.{Entry}
-use Rattle.tevents.specs.declared.history.Entry.TheVariants as entries
-use Rattle.tevents.specs.State.{idle, state, parked_list}
+use Rattle.te_history.specs.declared.entry.Entry.{Entry}
+use Rattle.te_history.specs.declared.entry.Entry.TheVariants as entries
+use Rattle.te_history.specs.State.{idle, state, parked_list}
 use Rattle.tevents.specs.Rounds.{OpensFrom, TakesBy, TakesOf, IsLowestOf, IsBlock, ClosesSo, Round, entries_of, AreRounds, IsInRounds}
 
 abbrev pub joined : List (List Entry) → List Entry

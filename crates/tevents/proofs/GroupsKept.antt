@@ -20,17 +20,17 @@ use Rattle.te_script.specs.Wishes.{Next, waits, ended, failed}
 use Rattle.te_script.specs.Cores.{At, IsWaiting}
 use Rattle.te_script.proofs.Places.{slice_get_set_same, slice_get_set_other}
 use Rattle.te_script.proofs.Appending.{AllByRecursion-append}
-use Rattle.tevents.specs.declared.history.Entry.{Entry}
-use Rattle.tevents.specs.declared.history.Entry.TheVariants as entries
-use Rattle.tevents.specs.State.{Standing, parked, given, State, with_standing, with_given, parked_list}
-use Rattle.tevents.specs.Follows.{Stands, AreEvents, Commits}
+use Rattle.te_history.specs.declared.entry.Entry.{Entry}
+use Rattle.te_history.specs.declared.entry.Entry.TheVariants as entries
+use Rattle.te_history.specs.State.{Standing, parked, given, State, with_standing, with_given, parked_list}
+use Rattle.te_history.specs.Follows.{Stands, AreEvents, Commits}
 use Rattle.tevents.specs.OfScript.{taken, WishedBy}
 use Rattle.tevents.specs.Rounds.{IsLowestOf}
 use Rattle.tevents.specs.Boards.{Log, now, appended, HasCommitted}
 use Rattle.tevents.specs.Groups.{threads_of as group_threads}
 use Rattle.tevents.specs.Houses.{Run, grown, state_of, syncs_left, all_left, stuck_left, threads_of, CommitsTightly, AreCoresOf, IsHouse}
 use Rattle.tevents.specs.Runs.{IsGivenIn, HasCommittedGroup}
-use Rattle.tevents.proofs.AfterEntry.{state-after, length-state}
+use Rattle.te_history.proofs.AfterEntry.{state-after, length-state}
 use Rattle.tevents.proofs.Appending.{taken_more, wished_more}
 use Rattle.tevents.proofs.CoresKept.{core_within, stands_otherwise, all_left_at, set_same, same_core, AreCoresOf-later}
 use Rattle.tevents.proofs.HouseState.{run_of, house_state}

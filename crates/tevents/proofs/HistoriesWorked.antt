@@ -4,11 +4,11 @@ use Rattle.std.specs.Prelude.{◌≢◌, List, [], ◌∷◌, Bool, true, false,
 use Rattle.te_terms.specs.Terms.{never}
 use Rattle.te_terms.specs.Joint.{meeting, labelled, after_choice, CanCommit}
 use Rattle.te_script.specs.Wishes.{syncs}
-use Rattle.tevents.specs.declared.history.How.TheVariants as ways
-use Rattle.tevents.specs.declared.history.Entry.{Entry}
-use Rattle.tevents.specs.declared.history.Entry.TheVariants as entries
-use Rattle.tevents.specs.State.{state, parked_list}
-use Rattle.tevents.specs.Follows.{Commits, IsLegal, IsLoose, IsWhole}
+use Rattle.te_history.specs.declared.status.How.TheVariants as ways
+use Rattle.te_history.specs.declared.entry.Entry.{Entry}
+use Rattle.te_history.specs.declared.entry.Entry.TheVariants as entries
+use Rattle.te_history.specs.State.{state, parked_list}
+use Rattle.te_history.specs.Follows.{Commits, IsLegal, IsLoose, IsWhole}
 use Rattle.tevents.specs.OfScript.{IsOfScript}
 use Rattle.tevents.proofs.NoCommit.{lone_never_commits}
 use Rattle.tevents.proofs.RowsExchange as exchange

@@ -6,11 +6,11 @@ use Rattle.std.specs.Prelude.{slice_get}
 use Rattle.std.specs.List.{AllByRecursion}
 use Rattle.te_script.specs.Cores.{At}
 use Rattle.te_script.specs.Scripts.{Thread}
-use Rattle.tevents.specs.State.{Standing, State, state}
-use Rattle.tevents.specs.Follows.{Stands}
+use Rattle.te_history.specs.State.{Standing, State, state}
+use Rattle.te_history.specs.Follows.{Stands}
 use Rattle.tevents.specs.Boards.{Log, now}
 use Rattle.tevents.specs.Houses.{Run, state_of, threads_of, IsHouse}
-use Rattle.tevents.proofs.AfterEntry.{length-state}
+use Rattle.te_history.proofs.AfterEntry.{length-state}
 
 abbrev pub run_of : Log → List At → Run
 run_of log cores = record { threads = threads_of cores; history = log.history }

@@ -13,17 +13,17 @@ use Rattle.te_cert.specs.Play.{play}
 use Rattle.te_cert.specs.Certs.{IsTight}
 use Rattle.te_cert.proofs.SmallPlays.{play-alone, play-sender_first, play-receiver_first}
 use Rattle.tevents.specs.declared.kind.Kind.TheVariants.{Always, Send, Recv}
-use Rattle.tevents.specs.declared.history.Entry.{Entry}
-use Rattle.tevents.specs.declared.history.Entry.TheVariants.{Commit}
+use Rattle.te_history.specs.declared.entry.Entry.{Entry}
+use Rattle.te_history.specs.declared.entry.Entry.TheVariants.{Commit}
 use Rattle.tevents.specs.declared.seat.Stance.TheVariants.{Given}
 use Rattle.tevents.specs.declared.seat.Seat.{Seat}
 use Rattle.tevents.specs.declared.seat.Party.{Party}
-use Rattle.tevents.specs.State.{parked, given, State, state, posts_by}
-use Rattle.tevents.specs.Follows.{Stands, IsRunning, Commits}
+use Rattle.te_history.specs.State.{parked, given, State, state, posts_by}
+use Rattle.te_history.specs.Follows.{Stands, IsRunning, Commits}
 use Rattle.tevents.specs.Boards.{Log, now, appended, HasCommitted}
 use Rattle.tevents.specs.Groups.{cert_of_one, cert_of_two}
 use Rattle.tevents.specs.Seats.{IsKept, IsParkedAs, Restands}
-use Rattle.tevents.proofs.AfterEntry.{length-state}
+use Rattle.te_history.proofs.AfterEntry.{length-state}
 use Rattle.tevents.proofs.KeptLemmas.{kept_after, shows_restand, length-restand}
 
 -- ---- the commits may follow

@@ -7,19 +7,19 @@ use Rattle.te_terms.specs.declared.event.Outcome.{Outcome}
 use Rattle.te_terms.specs.Terms.{Term}
 use Rattle.te_terms.specs.Joint.{CanCommit}
 use Rattle.tevents.specs.declared.kind.Kind.{Kind}
-use Rattle.tevents.specs.declared.history.How.{How}
-use Rattle.tevents.specs.declared.history.How.TheVariants.{Done, Raised}
-use Rattle.tevents.specs.declared.history.How.TheVariants as ways
-use Rattle.tevents.specs.declared.history.Entry.{Entry}
-use Rattle.tevents.specs.declared.history.Entry.TheVariants.{Post, Take, Stuck, End}
+use Rattle.te_history.specs.declared.status.How.{How}
+use Rattle.te_history.specs.declared.status.How.TheVariants.{Done, Raised}
+use Rattle.te_history.specs.declared.status.How.TheVariants as ways
+use Rattle.te_history.specs.declared.entry.Entry.{Entry}
+use Rattle.te_history.specs.declared.entry.Entry.TheVariants.{Post, Take, Stuck, End}
 use Rattle.tevents.specs.declared.seat.Stance.{Stance}
 use Rattle.tevents.specs.declared.seat.Stance.TheVariants.{Idle, Parked, Ended}
 use Rattle.tevents.specs.declared.seat.Seat.{Seat}
-use Rattle.tevents.specs.State.{Standing, idle, parked, given, ended, state, changed, is_post_by, posts_by, parked_list}
-use Rattle.tevents.specs.Follows.{Stands, IsRunning, IsParkedOrEnded, Ends, Follows}
+use Rattle.te_history.specs.State.{Standing, idle, parked, given, ended, state, changed, is_post_by, posts_by, parked_list}
+use Rattle.te_history.specs.Follows.{Stands, IsRunning, IsParkedOrEnded, Ends, Follows}
 use Rattle.tevents.specs.Boards.{IsOfKind}
 use Rattle.tevents.specs.Seats.{Shows, SeatShows, IsKept, Restands}
-use Rattle.tevents.proofs.AfterEntry.{state-after, counted, posts_by-after, length-state, legal-after}
+use Rattle.te_history.proofs.AfterEntry.{state-after, counted, posts_by-after, length-state, legal-after}
 use Rattle.tevents.proofs.SeatLemmas.{shows_along, shows_set}
 
 -- ---- one entry more

@@ -12,7 +12,6 @@ mod RoundEndsRefused
 pub mod StanceLemmas
 pub mod WaitingKinds
 pub mod NoneCommits
-pub mod AfterEntry
 pub mod SeatLemmas
 pub mod LeafLemmas
 pub mod KeptLemmas

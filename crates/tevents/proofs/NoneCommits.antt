@@ -8,7 +8,7 @@ use Rattle.te_terms.specs.declared.event.Parked.{Parked}
 use Rattle.te_terms.specs.Terms.{Term}
 use Rattle.te_terms.specs.Steps.{Member, quiet_step}
 use Rattle.te_terms.specs.Joint.{choice, meeting, Action, quiet, labelled, Message, after_choice, sending, receiving, member_of, with_member, with_term, handed, meeting_of, joint_step, after, outcomes_of, and_outcome, part, as_group, CanCommit}
-use Rattle.tevents.specs.State.{Standing, idle, parked, given, ended, parked_from, parked_by}
+use Rattle.te_history.specs.State.{Standing, idle, parked, given, ended, parked_from, parked_by}
 use Rattle.tevents.proofs.WaitingKinds.{Waits}
 
 -- ---- members

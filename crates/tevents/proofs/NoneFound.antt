@@ -4,11 +4,11 @@ use Rattle.std.specs.List.{slice_get}
 use Rattle.te_terms.specs.Steps.{Member}
 use Rattle.te_terms.specs.Joint.{CanCommit}
 use Rattle.tevents.specs.declared.kind.Kind.{Kind}
-use Rattle.tevents.specs.declared.history.Entry.{Entry}
+use Rattle.te_history.specs.declared.entry.Entry.{Entry}
 use Rattle.tevents.specs.declared.seat.Stance.TheVariants.{Parked}
 use Rattle.tevents.specs.declared.seat.Seat.{Seat}
-use Rattle.tevents.specs.State.{parked, state, parked_list}
-use Rattle.tevents.specs.Follows.{Stands}
+use Rattle.te_history.specs.State.{parked, state, parked_list}
+use Rattle.te_history.specs.Follows.{Stands}
 use Rattle.tevents.specs.Seats.{IsKept, HasStance, NoneBelow}
 use Rattle.tevents.proofs.WaitingKinds.{waits_of_kind, sends_by_kind, receives_by_kind}
 use Rattle.tevents.proofs.NoneCommits.{none_commits, parked_all}

@@ -7,16 +7,16 @@ use Rattle.te_terms.specs.Terms.{Term}
 use Rattle.te_script.specs.Wishes.{Next, waits, ended, failed, syncs, wish_at, wish_of, stand_after}
 use Rattle.te_script.specs.Cores.{At, IsWaiting}
 use Rattle.te_script.proofs.Appending.{AllByRecursion-append}
-use Rattle.tevents.specs.declared.history.Entry.{Entry}
-use Rattle.tevents.specs.declared.history.Entry.TheVariants as entries
-use Rattle.tevents.specs.State.{Standing, idle, parked, ended as has_ended, State, changed, with_standing}
-use Rattle.tevents.specs.Follows.{Stands, caller_of}
+use Rattle.te_history.specs.declared.entry.Entry.{Entry}
+use Rattle.te_history.specs.declared.entry.Entry.TheVariants as entries
+use Rattle.te_history.specs.State.{Standing, idle, parked, ended as has_ended, State, changed, with_standing}
+use Rattle.te_history.specs.Follows.{Stands, caller_of}
 use Rattle.tevents.specs.OfScript.{taken, taken_from, IsWished, WishedBy}
 use Rattle.tevents.specs.Rounds.{OpensBy}
 use Rattle.tevents.specs.Boards.{Log, now, appended}
 use Rattle.tevents.specs.Runs.{BoardOpened, HasOpened}
 use Rattle.tevents.specs.Houses.{Run, grown, threads_of, CommitsTightly, entries_left, all_left, stuck_left, FitsNext, IsCoreOf, AreCoresOf, IsHouse}
-use Rattle.tevents.proofs.AfterEntry.{state-after}
+use Rattle.te_history.proofs.AfterEntry.{state-after}
 use Rattle.tevents.proofs.Appending.{taken_more, wished_more}
 use Rattle.tevents.proofs.HouseState.{run_of}
 use Rattle.tevents.proofs.CoresKept.{core_from, stands_otherwise, all_left_at, set_same, same_core}

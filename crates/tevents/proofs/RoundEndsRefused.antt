@@ -9,11 +9,11 @@ use Rattle.te_terms.specs.Joint.{CanCommit}
 use Rattle.te_cert.specs.declared.cert.Member.{Member}
 use Rattle.te_cert.specs.declared.cert.Cert.{Cert}
 use Rattle.te_cert.proofs.RowsTerms.{single, single_value}
-use Rattle.tevents.specs.declared.history.How.{How}
-use Rattle.tevents.specs.declared.history.How.TheVariants as ways
-use Rattle.tevents.specs.declared.history.Entry.{Entry}
-use Rattle.tevents.specs.declared.history.Entry.TheVariants as entries
-use Rattle.tevents.specs.State.{State, state, parked_list}
+use Rattle.te_history.specs.declared.status.How.{How}
+use Rattle.te_history.specs.declared.status.How.TheVariants as ways
+use Rattle.te_history.specs.declared.entry.Entry.{Entry}
+use Rattle.te_history.specs.declared.entry.Entry.TheVariants as entries
+use Rattle.te_history.specs.State.{State, state, parked_list}
 use Rattle.tevents.specs.Rounds.{TakesOf, IsBlock, ClosesSo, IsStuckAndEnds, IsInRounds}
 use Rattle.tevents.proofs.FirstRound.{first_round, joined, block_parts, block_apart, first_same, rest_same, cert_same}
 

@@ -8,9 +8,9 @@ use Rattle.te_terms.specs.declared.event.Outcome.{Outcome}
 use Rattle.te_terms.specs.declared.event.Parked.{Parked}
 use Rattle.te_terms.specs.Joint.{CanCommit}
 use Rattle.te_script.specs.Scripts.{Thread, Program}
-use Rattle.tevents.specs.declared.history.Entry.{Entry}
-use Rattle.tevents.specs.State.{Standing, idle, parked, given, ended, State, state, parked_from, parked_list}
-use Rattle.tevents.specs.Follows.{IsRunning, IsParkedOrEnded, IsLegal, IsWhole}
+use Rattle.te_history.specs.declared.entry.Entry.{Entry}
+use Rattle.te_history.specs.State.{Standing, idle, parked, given, ended, State, state, parked_from, parked_list}
+use Rattle.te_history.specs.Follows.{IsRunning, IsParkedOrEnded, IsLegal, IsWhole}
 use Rattle.tevents.specs.OfScript.{WishedFrom}
 use Rattle.tevents.specs.Rounds.{IsBlock, IsStuckDue, IsStuckAndEnds, ClosesSo, Round, IsRound, before_closing, entries_of, AreRounds}
 use Rattle.tevents.specs.SerialRuns.{IsSerialRun}

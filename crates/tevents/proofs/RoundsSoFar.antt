@@ -8,11 +8,11 @@ use Rattle.te_terms.specs.declared.event.Outcome.{Outcome}
 use Rattle.te_terms.specs.Joint.{CanCommit}
 use Rattle.te_script.proofs.Places.{slice_get_set_same}
 use Rattle.te_script.proofs.Appending.{AllByRecursion-append}
-use Rattle.tevents.specs.declared.history.Entry.{Entry}
+use Rattle.te_history.specs.declared.entry.Entry.{Entry}
 use Rattle.tevents.specs.declared.board.Place.{Place}
 use Rattle.tevents.specs.declared.board.Place.TheVariants as places
-use Rattle.tevents.specs.State.{Standing, idle, parked, given, ended, State, parked_list}
-use Rattle.tevents.specs.Follows.{Stands, IsRunning, IsParkedOrEnded}
+use Rattle.te_history.specs.State.{Standing, idle, parked, given, ended, State, parked_list}
+use Rattle.te_history.specs.Follows.{Stands, IsRunning, IsParkedOrEnded}
 use Rattle.tevents.specs.Rounds.{OpensBy, OpensFrom, IsBlock}
 use Rattle.tevents.specs.Boards.{ShowsPlace}
 use Rattle.tevents.specs.Houses.{Run, grown, state_of}

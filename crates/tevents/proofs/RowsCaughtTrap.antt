@@ -6,9 +6,9 @@ use Rattle.te_cert.specs.declared.cert.Member.{Member}
 use Rattle.te_cert.specs.declared.cert.Cert.{Cert}
 use Rattle.te_cert.proofs.RowsTrap.{overflows, caught}
 use Rattle.te_script.specs.Scripts.{sync, emit, Program}
-use Rattle.tevents.specs.declared.history.How.TheVariants as ways
-use Rattle.tevents.specs.declared.history.Entry.{Entry}
-use Rattle.tevents.specs.declared.history.Entry.TheVariants as entries
+use Rattle.te_history.specs.declared.status.How.TheVariants as ways
+use Rattle.te_history.specs.declared.entry.Entry.{Entry}
+use Rattle.te_history.specs.declared.entry.Entry.TheVariants as entries
 
 abbrev pub script : Program
 script = record {

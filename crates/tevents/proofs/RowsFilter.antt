@@ -8,9 +8,9 @@ use Rattle.te_cert.specs.declared.cert.Member.{Member}
 use Rattle.te_cert.specs.declared.cert.Cert.{Cert}
 use Rattle.te_cert.proofs.RowsTerms.{single, single_value, the_name, first_of}
 use Rattle.te_script.specs.Scripts.{sync, emit, Program}
-use Rattle.tevents.specs.declared.history.How.TheVariants as ways
-use Rattle.tevents.specs.declared.history.Entry.{Entry}
-use Rattle.tevents.specs.declared.history.Entry.TheVariants as entries
+use Rattle.te_history.specs.declared.status.How.TheVariants as ways
+use Rattle.te_history.specs.declared.entry.Entry.{Entry}
+use Rattle.te_history.specs.declared.entry.Entry.TheVariants as entries
 
 abbrev pub filters : Term
 filters = and_then (recv (chan 0)) 0 (when Less (int (pos 3)) (first_of 0) (always (the_name 0)) never)

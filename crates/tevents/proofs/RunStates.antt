@@ -12,14 +12,14 @@ use Rattle.std.specs.List.{flat_map}
 use Rattle.te_terms.specs.declared.event.Outcome.{Outcome}
 use Rattle.te_terms.specs.Joint.{CanCommit}
 use Rattle.te_script.proofs.Places.{slice_get_set_same, slice_get_set_other}
-use Rattle.tevents.specs.declared.history.Entry.{Entry}
-use Rattle.tevents.specs.declared.history.Entry.TheVariants as entries
-use Rattle.tevents.specs.State.{Standing, idle, parked, given, ended, State, changed, with_standing, with_given, parked_list}
-use Rattle.tevents.specs.Follows.{Stands, IsRunning, IsParkedOrEnded}
+use Rattle.te_history.specs.declared.entry.Entry.{Entry}
+use Rattle.te_history.specs.declared.entry.Entry.TheVariants as entries
+use Rattle.te_history.specs.State.{Standing, idle, parked, given, ended, State, changed, with_standing, with_given, parked_list}
+use Rattle.te_history.specs.Follows.{Stands, IsRunning, IsParkedOrEnded}
 use Rattle.tevents.specs.Rounds.{OpensBy, OpensFrom, TakesBy, TakesOf}
 use Rattle.tevents.specs.Houses.{Run, grown, state_of}
 use Rattle.tevents.specs.Runs.{NoneGiven, IsGivenIn, HasOpened, HasTakenOne, HasCommittedGroup, HasCommittedBlock}
-use Rattle.tevents.proofs.AfterEntry.{state-after}
+use Rattle.te_history.proofs.AfterEntry.{state-after}
 
 pub grown_twice : (run : Run) (xs ys : List Entry) → grown (grown run xs) ys ≡ grown run (xs ++ ys)
 grown_twice run xs ys = λ i. record { threads = run.threads; history = append_assoc run.history xs ys i }

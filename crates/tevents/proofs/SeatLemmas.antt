@@ -7,16 +7,16 @@ use Rattle.te_terms.specs.declared.event.Outcome.{Outcome}
 use Rattle.te_terms.specs.Terms.{Term}
 use Rattle.te_script.proofs.Places.{slice_get_set_same, slice_get_set_other}
 use Rattle.tevents.specs.declared.kind.Kind.{Kind}
-use Rattle.tevents.specs.declared.history.Entry.{Entry}
+use Rattle.te_history.specs.declared.entry.Entry.{Entry}
 use Rattle.tevents.specs.declared.seat.Stance.{Stance}
 use Rattle.tevents.specs.declared.seat.Stance.TheVariants.{Idle, Parked, Given, Ended}
 use Rattle.tevents.specs.declared.seat.Seat.{Seat}
 use Rattle.tevents.specs.declared.seat.Party.{Party}
-use Rattle.tevents.specs.State.{Standing, idle, parked, given, ended, State, state, posts_by}
-use Rattle.tevents.specs.Follows.{Stands}
+use Rattle.te_history.specs.State.{Standing, idle, parked, given, ended, State, state, posts_by}
+use Rattle.te_history.specs.Follows.{Stands}
 use Rattle.tevents.specs.Boards.{IsOfKind}
 use Rattle.tevents.specs.Seats.{Shows, SeatShows, IsKept, HasStance, IsParkedAs}
-use Rattle.tevents.proofs.AfterEntry.{length-state}
+use Rattle.te_history.proofs.AfterEntry.{length-state}
 
 -- ---- what seats show
 

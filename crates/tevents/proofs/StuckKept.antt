@@ -6,15 +6,15 @@ use Rattle.te_terms.specs.declared.event.Outcome.{Outcome}
 use Rattle.te_terms.specs.Terms.{Term}
 use Rattle.te_script.specs.Cores.{At}
 use Rattle.te_script.proofs.Appending.{AllByRecursion-append}
-use Rattle.tevents.specs.declared.history.How.TheVariants as ways
-use Rattle.tevents.specs.declared.history.Entry.{Entry}
-use Rattle.tevents.specs.declared.history.Entry.TheVariants as entries
-use Rattle.tevents.specs.State.{parked, ended as has_ended, State}
-use Rattle.tevents.specs.Follows.{Stands, Ends, IsRunning}
+use Rattle.te_history.specs.declared.status.How.TheVariants as ways
+use Rattle.te_history.specs.declared.entry.Entry.{Entry}
+use Rattle.te_history.specs.declared.entry.Entry.TheVariants as entries
+use Rattle.te_history.specs.State.{parked, ended as has_ended, State}
+use Rattle.te_history.specs.Follows.{Stands, Ends, IsRunning}
 use Rattle.tevents.specs.OfScript.{taken, WishedBy}
 use Rattle.tevents.specs.Boards.{Log, now, appended}
 use Rattle.tevents.specs.Houses.{all_left, stuck_left, threads_of, CommitsTightly, AreCoresOf, IsHouse}
-use Rattle.tevents.proofs.AfterEntry.{state-after}
+use Rattle.te_history.proofs.AfterEntry.{state-after}
 use Rattle.tevents.proofs.Appending.{taken_more, wished_more}
 use Rattle.tevents.proofs.CoresKept.{core_within, AreCoresOf-later}
 use Rattle.tevents.proofs.HouseState.{stands_within}

@@ -11,15 +11,15 @@ use Rattle.te_terms.specs.Expressions.{value_of}
 use Rattle.te_script.specs.Scripts.{Statement, sync, emit, Thread}
 use Rattle.te_script.specs.Wishes.{Next, waits, ended, failed, Stand, stand_at, emits, moved, stand_after, written}
 use Rattle.te_script.specs.Cores.{At, IsWaiting, core_after}
-use Rattle.tevents.specs.declared.history.Entry.{Entry}
-use Rattle.tevents.specs.declared.history.Entry.TheVariants as entries
-use Rattle.tevents.specs.State.{idle, given, State, with_standing}
-use Rattle.tevents.specs.Follows.{Stands}
+use Rattle.te_history.specs.declared.entry.Entry.{Entry}
+use Rattle.te_history.specs.declared.entry.Entry.TheVariants as entries
+use Rattle.te_history.specs.State.{idle, given, State, with_standing}
+use Rattle.te_history.specs.Follows.{Stands}
 use Rattle.tevents.specs.OfScript.{taken, WishedBy}
 use Rattle.tevents.specs.Boards.{Log, now, appended, HasTaken}
 use Rattle.tevents.specs.Runs.{HasTakenOne}
 use Rattle.tevents.specs.Houses.{Run, grown, syncs_in, syncs_left, all_left, stuck_left, threads_of, CommitsTightly, IsCoreOf, AreCoresOf, IsHouse}
-use Rattle.tevents.proofs.AfterEntry.{state-after}
+use Rattle.te_history.proofs.AfterEntry.{state-after}
 use Rattle.tevents.proofs.Appending.{taken_more, wished_more}
 use Rattle.tevents.proofs.CoresKept.{core_within, moves_on, all_left_at, same_core}
 use Rattle.te_script.proofs.OneMore.{one_more}

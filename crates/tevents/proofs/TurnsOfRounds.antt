@@ -3,17 +3,17 @@ use Rattle.std.proofs.Common.{◌≡◌, ◌≢◌, ◌⊎◌, inl, inr, ℕ, su
 use Rattle.std.specs.Prelude.{slice_get, true, false}
 use Rattle.std.specs.Option.{is_some}
 use Rattle.std.specs.List.{AllByRecursion}
-use Rattle.tevents.specs.declared.history.Entry.{Entry}
-use Rattle.tevents.specs.declared.history.Entry.TheVariants as entries
-use Rattle.tevents.specs.declared.history.How.TheVariants as ways
+use Rattle.te_history.specs.declared.entry.Entry.{Entry}
+use Rattle.te_history.specs.declared.entry.Entry.TheVariants as entries
+use Rattle.te_history.specs.declared.status.How.TheVariants as ways
 use Rattle.tevents.specs.declared.board.Place.{Place}
 use Rattle.tevents.specs.declared.board.Place.TheVariants as places
-use Rattle.tevents.specs.State.{State}
-use Rattle.tevents.specs.Follows.{IsParkedOrEnded}
+use Rattle.te_history.specs.State.{State}
+use Rattle.te_history.specs.Follows.{IsParkedOrEnded}
 use Rattle.tevents.specs.Boards.{ShowsPlace}
 use Rattle.tevents.specs.Houses.{Run, grown, state_of}
 use Rattle.tevents.specs.Runs.{NoneGiven, HasOpened, HasOpenedAll, HasEndedAll}
-use Rattle.tevents.proofs.AfterEntry.{length-state}
+use Rattle.te_history.proofs.AfterEntry.{length-state}
 use Rattle.tevents.proofs.RoundsSoFar.{OpenedSoFar, Callers, skipped, opened_one, shown_idle, shown_settled, none_while, all_opened}
 use Rattle.tevents.proofs.ClosingsSoFar.{LookedSoFar, looked_first, looked_other, looked_ended, EndedSoFar, ended_one, ended_skip, ended_all, shown_parked, shown_ended, shown_past}
 

@@ -5,14 +5,14 @@ use Rattle.te_terms.specs.Expressions.{Primitive, Expression, value_of, channel_
 use Rattle.te_terms.specs.Terms.{Term, always, send, recv}
 use Rattle.te_cert.specs.declared.cert.Cert.{Cert}
 use Rattle.te_cert.specs.Certs.{IsTight}
-use Rattle.tevents.specs.declared.history.Entry.{Entry}
-use Rattle.tevents.specs.declared.history.Entry.TheVariants as entries
+use Rattle.te_history.specs.declared.entry.Entry.{Entry}
+use Rattle.te_history.specs.declared.entry.Entry.TheVariants as entries
 use Rattle.tevents.specs.declared.kind.Kind.{Kind}
 use Rattle.tevents.specs.declared.kind.Kind.TheVariants as kinds
 use Rattle.tevents.specs.declared.board.Place.{Place}
 use Rattle.tevents.specs.declared.board.Place.TheVariants as places
-use Rattle.tevents.specs.State.{Standing, idle, parked, given, ended, State, state}
-use Rattle.tevents.specs.Follows.{Commits, Stands}
+use Rattle.te_history.specs.State.{Standing, idle, parked, given, ended, State, state}
+use Rattle.te_history.specs.Follows.{Commits, Stands}
 use Rattle.tevents.specs.Rounds.{IsLowestOf}
 
 -- a history, and the number of its callers

@@ -3,9 +3,9 @@ use Rattle.std.specs.Prelude.{◌≡◌, ◌⊎◌, ℕ, List, Any}
 use Rattle.te_script.specs.Scripts.{Program}
 use Rattle.te_reader.specs.Text.{Text}
 use Rattle.te_reader.specs.FirstForm.{First}
-use Rattle.tevents.specs.declared.history.How.TheVariants as ways
-use Rattle.tevents.specs.declared.history.Entry.{Entry}
-use Rattle.tevents.specs.declared.history.Entry.TheVariants as entries
+use Rattle.te_history.specs.declared.status.How.TheVariants as ways
+use Rattle.te_history.specs.declared.entry.Entry.{Entry}
+use Rattle.te_history.specs.declared.entry.Entry.TheVariants as entries
 use Rattle.tevents.specs.declared.report.Ending.TheVariants as endings
 use Rattle.tevents.specs.Report.{IsReport}
 use Rattle.tevents.specs.SerialRuns.{IsSerialRun}

@@ -8,10 +8,10 @@ use Rattle.te_reader.specs.FirstForm.{IsPlainStatement}
 use Rattle.te_script.specs.Scripts.{Statement, sync, emit, Thread, IsThread}
 use Rattle.te_script.specs.Wishes.{Next, waits, ended, failed}
 use Rattle.te_script.specs.Cores.{At, core_after, IsWaiting}
-use Rattle.tevents.specs.declared.history.Entry.{Entry}
-use Rattle.tevents.specs.declared.history.Entry.TheVariants as entries
-use Rattle.tevents.specs.State.{Standing, idle, parked, given, ended as has_ended, State, state}
-use Rattle.tevents.specs.Follows.{IsLegal}
+use Rattle.te_history.specs.declared.entry.Entry.{Entry}
+use Rattle.te_history.specs.declared.entry.Entry.TheVariants as entries
+use Rattle.te_history.specs.State.{Standing, idle, parked, given, ended as has_ended, State, state}
+use Rattle.te_history.specs.Follows.{IsLegal}
 use Rattle.tevents.specs.OfScript.{taken, WishedFrom}
 use Rattle.tevents.specs.Boards.{Log, now}
 

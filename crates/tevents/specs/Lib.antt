@@ -1,5 +1,3 @@
-pub mod State
-pub mod Follows
 pub mod OfScript
 pub mod Report
 pub mod Rounds

@@ -1,8 +1,8 @@
 -- How the value of a board is stored. No contract cites this module.
 use Rattle.std.specs.Prelude.{ℕ, List, refl}
 use Rattle.std.specs.Coded.{Coded, code_by, coded×, coded_ℕ, coded_list}
-use Rattle.tevents.specs.declared.history.Entry.{Entry}
-use Rattle.tevents.specs.contracts.history.Entry as entry
+use Rattle.te_history.specs.declared.entry.Entry.{Entry}
+use Rattle.te_history.specs.contracts.entry.Entry as entry
 use Rattle.tevents.specs.Boards.{Log}
 
 abbrev pub log_code : Coded Log

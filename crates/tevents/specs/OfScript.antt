@@ -3,11 +3,11 @@ use Rattle.std.specs.Prelude.{◌≡◌, ℕ, List, [], ◌∷◌, ◌++◌, ◌
 use Rattle.te_terms.specs.declared.event.Outcome.{Outcome}
 use Rattle.te_script.specs.Scripts.{Thread, Program}
 use Rattle.te_script.specs.Wishes.{Wish, syncs, done, raised, wish}
-use Rattle.tevents.specs.declared.history.How.{How}
-use Rattle.tevents.specs.declared.history.How.TheVariants as ways
-use Rattle.tevents.specs.declared.history.Entry.{Entry}
-use Rattle.tevents.specs.declared.history.Entry.TheVariants as entries
-use Rattle.tevents.specs.Follows.{caller_of}
+use Rattle.te_history.specs.declared.status.How.{How}
+use Rattle.te_history.specs.declared.status.How.TheVariants as ways
+use Rattle.te_history.specs.declared.entry.Entry.{Entry}
+use Rattle.te_history.specs.declared.entry.Entry.TheVariants as entries
+use Rattle.te_history.specs.Follows.{caller_of}
 
 abbrev pub taken_from : ℕ → Entry → List Outcome → List Outcome
 taken_from t (entries.Take by ticket outcome) rest = if by == t then outcome ∷ rest else rest

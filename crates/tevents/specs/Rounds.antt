@@ -4,11 +4,11 @@ use Rattle.std.specs.List.{AllByRecursion, flat_map}
 use Rattle.te_terms.specs.declared.event.Parked.{Parked}
 use Rattle.te_terms.specs.Joint.{CanCommit}
 use Rattle.te_cert.specs.declared.cert.Member.{Member}
-use Rattle.tevents.specs.declared.history.How.TheVariants as ways
-use Rattle.tevents.specs.declared.history.Entry.{Entry}
-use Rattle.tevents.specs.declared.history.Entry.TheVariants as entries
-use Rattle.tevents.specs.State.{Standing, idle, State, state, parked_list}
-use Rattle.tevents.specs.Follows.{IsParkedOrEnded, IsWhole}
+use Rattle.te_history.specs.declared.status.How.TheVariants as ways
+use Rattle.te_history.specs.declared.entry.Entry.{Entry}
+use Rattle.te_history.specs.declared.entry.Entry.TheVariants as entries
+use Rattle.te_history.specs.State.{Standing, idle, State, state, parked_list}
+use Rattle.te_history.specs.Follows.{IsParkedOrEnded, IsWhole}
 
 -- ---- openings: each idle caller posts or ends, in thread order
 

@@ -3,14 +3,14 @@ use Rattle.std.specs.Prelude.{◌≡◌, ◌≢◌, ◌⊎◌, ℕ, ◌<◌, ◌
 use Rattle.std.specs.List.{AllByRecursion, flat_map}
 use Rattle.te_cert.specs.declared.cert.Cert.{Cert}
 use Rattle.te_cert.specs.Checks.{ThreadsRise}
-use Rattle.tevents.specs.declared.history.Entry.{Entry}
-use Rattle.tevents.specs.State.{given, State, parked_list}
+use Rattle.te_history.specs.declared.entry.Entry.{Entry}
+use Rattle.te_history.specs.State.{given, State, parked_list}
 use Rattle.te_terms.specs.declared.event.Outcome.{Outcome}
 use Rattle.te_terms.specs.Joint.{CanCommit}
-use Rattle.tevents.specs.declared.history.Entry.TheVariants as entries
+use Rattle.te_history.specs.declared.entry.Entry.TheVariants as entries
 use Rattle.tevents.specs.Rounds.{OpensBy, OpensFrom, TakesBy, IsLowestOf, IsBlock, ClosesSo, EndsOf, Round, IsRound, entries_of}
 use Rattle.te_script.specs.Wishes.{Stand, wish_at}
-use Rattle.tevents.specs.Follows.{LooselyFollows, Stands, IsRunning, IsParkedOrEnded, IsWhole}
+use Rattle.te_history.specs.Follows.{LooselyFollows, Stands, IsRunning, IsParkedOrEnded, IsWhole}
 use Rattle.tevents.specs.OfScript.{IsWished}
 use Rattle.tevents.specs.Boards.{Log, appended}
 use Rattle.tevents.specs.Houses.{Run, grown, state_of}

@@ -6,15 +6,15 @@ use Rattle.tevents.specs.declared.board.Place.{Place}
 use Rattle.tevents.specs.declared.board.Place.TheVariants as places
 use Rattle.tevents.specs.declared.kind.Kind.{Kind}
 use Rattle.tevents.specs.declared.seat.Party.{Party}
-use Rattle.tevents.specs.declared.history.Entry.{Entry}
+use Rattle.te_history.specs.declared.entry.Entry.{Entry}
 use Rattle.tevents.specs.declared.kind.Kind.TheVariants as kinds
 use Rattle.tevents.specs.declared.seat.Stance.{Stance}
 use Rattle.tevents.specs.declared.seat.Stance.TheVariants as stances
 use Rattle.tevents.specs.declared.seat.Seat.{Seat}
 use Rattle.tevents.specs.declared.search.Found.{Found}
 use Rattle.tevents.specs.declared.search.Found.TheVariants as founds
-use Rattle.tevents.specs.State.{Standing, idle, parked, given, ended, State, state, posts_by}
-use Rattle.tevents.specs.Follows.{Stands, IsLegal}
+use Rattle.te_history.specs.State.{Standing, idle, parked, given, ended, State, state, posts_by}
+use Rattle.te_history.specs.Follows.{Stands, IsLegal}
 use Rattle.tevents.specs.Boards.{IsOfKind}
 
 -- ---- seats

@@ -2,8 +2,8 @@
 use Rattle.std.specs.Prelude.{◌≤◌, List, length}
 use Rattle.std.specs.List.{AllByRecursion}
 use Rattle.te_script.specs.Scripts.{Program}
-use Rattle.tevents.specs.declared.history.Entry.{Entry}
-use Rattle.tevents.specs.Follows.{IsLegal, IsWhole}
+use Rattle.te_history.specs.declared.entry.Entry.{Entry}
+use Rattle.te_history.specs.Follows.{IsLegal, IsWhole}
 use Rattle.tevents.specs.OfScript.{IsOfScript}
 use Rattle.tevents.specs.Rounds.{IsInRounds}
 use Rattle.tevents.specs.Houses.{CommitsTightly}

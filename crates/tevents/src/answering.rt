@@ -2,10 +2,10 @@ ghost use Rattle.std.specs.Prelude.{◌≡◌, ◌↔◌, Any, IfOk, IsTrue};
 ghost use Rattle.tevents.specs.Headline.{IsStuckEnd, IsStatusOf};
 ghost use Rattle.tevents.specs.Causes.{IsAnswer, fault_line};
 
-use crate::history::{Entry, How};
 use crate::report::{Ending, write_report};
 use crate::rounds::serial;
 use std::alloc::Global;
+use te_history::{Entry, How};
 use te_reader::{ScriptFault, read_script};
 use te_terms::NoMemory;
 

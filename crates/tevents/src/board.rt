@@ -4,22 +4,22 @@ ghost use Rattle.te_terms.specs.declared.event.Outcome.{Outcome as Given};
 ghost use Rattle.te_terms.specs.Terms.{Term};
 ghost use Rattle.te_terms.specs.Joint.{CanCommit};
 ghost use Rattle.te_cert.specs.Certs.{IsTight};
-ghost use Rattle.tevents.specs.declared.history.Entry.TheVariants as entries;
+ghost use Rattle.te_history.specs.declared.entry.Entry.TheVariants as entries;
 ghost use Rattle.tevents.specs.declared.kind.Kind.TheVariants.{Always, Send, Recv};
-ghost use Rattle.tevents.specs.State.{idle, parked, given, posts_by, parked_list};
-ghost use Rattle.tevents.specs.Follows.{IsRunning, Stands, Ends, IsParkedOrEnded, IsLegal, Commits};
+ghost use Rattle.te_history.specs.State.{idle, parked, given, posts_by, parked_list};
+ghost use Rattle.te_history.specs.Follows.{IsRunning, Stands, Ends, IsParkedOrEnded, IsLegal, Commits};
 ghost use Rattle.tevents.specs.Boards.{now, appended, IsPlain, ShowsPlace, HasCommitted, HasTaken};
 ghost use Rattle.tevents.specs.Groups.{threads_of, cert_of_two};
 ghost use Rattle.tevents.specs.Seats.{IsParked, IsParkedAs};
 
 use crate::group::{Group, commit_of_one, commit_of_two};
-use crate::history::{Entry, How};
 use crate::kind::kind_of;
 use crate::search::{Found, found_in};
 use crate::seat::{Party, Seat, Stance, idle_seats};
 use std::alloc::Global;
 use std::marker::Model;
 use te_cert::Meeting;
+use te_history::{Entry, How};
 use te_terms::{Event, NoMemory, Outcome, Rows, Value};
 
 /// Where a caller stands.

@@ -1,11 +1,11 @@
 ghost use Rattle.std.specs.Prelude.{◌≡◌, [], ◌∷◌, IfOk};
-ghost use Rattle.tevents.specs.declared.history.Entry.TheVariants.{Commit};
+ghost use Rattle.te_history.specs.declared.entry.Entry.TheVariants.{Commit};
 ghost use Rattle.tevents.specs.Groups.{as_member, cert_of_one, cert_of_two};
 
-use crate::history::Entry;
 use crate::seat::Party;
 use std::alloc::Global;
 use te_cert::{Cert, Meeting, Member};
+use te_history::Entry;
 use te_terms::{NoMemory, Outcome, Rows};
 
 /// The threads of a group that has committed: one alone, or two, the lower first.

@@ -2,20 +2,20 @@ ghost use Rattle.std.specs.Prelude.{◌≡◌, ◌<◌, ◌≤◌, ℕ, [], ◌�
 ghost use Rattle.std.specs.List.{AllByRecursion};
 ghost use Rattle.te_terms.specs.Joint.{CanCommit};
 ghost use Rattle.te_script.specs.Scripts.{IsThread};
-ghost use Rattle.tevents.specs.State.{idle, parked, given, parked_list};
-ghost use Rattle.tevents.specs.Follows.{IsRunning, Stands, Ends, IsParkedOrEnded};
+ghost use Rattle.te_history.specs.State.{idle, parked, given, parked_list};
+ghost use Rattle.te_history.specs.Follows.{IsRunning, Stands, Ends, IsParkedOrEnded};
 ghost use Rattle.tevents.specs.Boards.{ShowsPlace, now};
 ghost use Rattle.tevents.specs.Groups.{threads_of};
 ghost use Rattle.tevents.specs.Houses.{IsFirstThread, state_of, grown, IsKept};
 ghost use Rattle.tevents.specs.Runs.{HasOpened, HasTakenOne, HasCommittedGroup, BoardOpened};
-ghost use Rattle.tevents.specs.declared.history.Entry.TheVariants as entries;
+ghost use Rattle.te_history.specs.declared.entry.Entry.TheVariants as entries;
 
 use crate::board::{Board, Place};
 use crate::group::Group;
-use crate::history::{Entry, How};
 use std::alloc::Global;
 use std::marker::Model;
 use std::sync::Arc;
+use te_history::{Entry, How};
 use te_script::{Core, Script, Want};
 use te_terms::NoMemory;
 
@@ -28,7 +28,7 @@ pub(crate) struct House {
 
 impl Model for House {
     ghost use Rattle.tevents.specs.Houses.{Run, threads_of, IsHouse, coded_run};
-    ghost use Rattle.tevents.specs.contracts.history.Entry as entry;
+    ghost use Rattle.te_history.specs.contracts.entry.Entry as entry;
 
     ghost Value = { Run };
 

@@ -4,7 +4,6 @@
 mod answering;
 mod board;
 mod group;
-mod history;
 mod house;
 mod kind;
 mod program;

@@ -5,9 +5,9 @@ mod commits;
 mod entries;
 mod values;
 
-use crate::history::Entry;
 use crate::report::entries::{put_entries, put_last_line};
 use std::alloc::Global;
+use te_history::Entry;
 use te_script::Script;
 use te_terms::NoMemory;
 

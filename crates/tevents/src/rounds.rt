@@ -1,8 +1,8 @@
 ghost use Rattle.std.specs.Prelude.{◌≡◌, ◌<◌, ◌≤◌, ℕ, [], ◌∷◌, length, IfOk, IfSome, IfNone, OnOk, MatchBool, true};
 ghost use Rattle.std.specs.List.{AllByRecursion};
 ghost use Rattle.te_terms.specs.Joint.{CanCommit};
-ghost use Rattle.tevents.specs.State.{parked_list};
-ghost use Rattle.tevents.specs.Follows.{IsRunning, IsParkedOrEnded, IsWhole};
+ghost use Rattle.te_history.specs.State.{parked_list};
+ghost use Rattle.te_history.specs.Follows.{IsRunning, IsParkedOrEnded, IsWhole};
 ghost use Rattle.te_reader.specs.FirstForm.{First};
 ghost use Rattle.tevents.specs.Rounds.{IsStuckDue, IsLowestParked};
 ghost use Rattle.tevents.specs.SerialRuns.{IsSerialRun};

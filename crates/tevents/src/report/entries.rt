@@ -2,11 +2,11 @@ ghost use Rattle.std.specs.Prelude.{◌≡◌, ◌++◌, OnOk, codes, decimal};
 ghost use Rattle.std.specs.List.{flat_map};
 ghost use Rattle.tevents.specs.Report.{name_of, outcome_text, commit_text, spaced_value, end_text, entry_text, entry_lines, last_line};
 
-use crate::history::{Entry, How};
 use crate::report::Ending;
 use crate::report::commits::{put_meetings, put_members};
 use crate::report::values::{put_number, put_outcome, put_value, thread_name};
 use te_cert::Cert;
+use te_history::{Entry, How};
 use te_script::Script;
 use te_terms::{NoMemory, Outcome, Value};
 

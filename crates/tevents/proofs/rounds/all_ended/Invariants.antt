@@ -1,6 +1,6 @@
 use Rattle.std.proofs.Common.{◌≡◌, take}
 use Rattle.std.specs.List.{AllByRecursion}
-use Rattle.tevents.specs.State.{ended}
+use Rattle.te_history.specs.State.{ended}
 use Rattle.tevents.specs.Houses.{state_of}
 use Rattle.tevents.proofs.rounds.all_ended.Given as goal
 

@@ -1,7 +1,7 @@
 use Rattle.std.proofs.Common.{sym, subst, List}
 use Rattle.std.specs.List.{AllByRecursion}
-use Rattle.tevents.specs.State.{Standing}
-use Rattle.tevents.specs.Follows.{IsParkedOrEnded}
+use Rattle.te_history.specs.State.{Standing}
+use Rattle.te_history.specs.Follows.{IsParkedOrEnded}
 use Rattle.tevents.specs.Houses.{state_of}
 use Rattle.tevents.proofs.ClosingsSoFar.{lowest_stands, stuck_state, closed_answered}
 use Rattle.tevents.proofs.rounds.close.Goals as goal

@@ -1,4 +1,4 @@
-use Rattle.tevents.proofs.AfterEntry.{length-state}
+use Rattle.te_history.proofs.AfterEntry.{length-state}
 use Rattle.tevents.proofs.board.Board.callers.Goals as goal
 
 pub returns-clause-all_stand : goal.returns-clause-all_stand

@@ -1,7 +1,7 @@
 use Rattle.std.proofs.Common.{◌≢◌, ◌<◌, List, [], ◌∷◌, sym, subst, arith}
 use Rattle.te_terms.specs.declared.value.Atom.{Atom}
 use Rattle.te_terms.specs.declared.event.Outcome.TheVariants.{Gives}
-use Rattle.tevents.specs.Follows.{Commits}
+use Rattle.te_history.specs.Follows.{Commits}
 use Rattle.tevents.specs.Boards.{now}
 use Rattle.tevents.specs.Groups.{cert_of_two}
 use Rattle.tevents.proofs.KeptCommits.{sender_low, receiver_low, commits_sender_low, commits_receiver_low, apart}

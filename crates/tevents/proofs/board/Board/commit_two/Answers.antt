@@ -1,5 +1,5 @@
 use Rattle.std.proofs.Common.{◌<◌, [], ◌∷◌, ◌++◌, length, set, ap, ◌∙◌, arith}
-use Rattle.tevents.specs.declared.history.Entry.{Entry}
+use Rattle.te_history.specs.declared.entry.Entry.{Entry}
 use Rattle.tevents.specs.declared.seat.Stance.TheVariants.{Given}
 use Rattle.tevents.proofs.ViewLemmas.{kept_before, kept_then, restands_read}
 use Rattle.tevents.proofs.SeatLemmas.{stands_within}

@@ -1,10 +1,10 @@
 use Rattle.std.proofs.Common.{◌≡◌, ℕ, ◌<◌, length, Some, refl, ap, ◌∙◌, arith}
 use Rattle.std.specs.List.{slice_get}
 use Rattle.std.proofs.lemmas.Option.{slice_get_read}
-use Rattle.tevents.specs.declared.history.Entry.TheVariants.{Post}
-use Rattle.tevents.specs.State.{posts_by}
+use Rattle.te_history.specs.declared.entry.Entry.TheVariants.{Post}
+use Rattle.te_history.specs.State.{posts_by}
 use Rattle.tevents.specs.Boards.{appended}
-use Rattle.tevents.proofs.AfterEntry.{posts_by_at_most}
+use Rattle.te_history.proofs.AfterEntry.{posts_by_at_most}
 use Rattle.tevents.proofs.ViewLemmas.{kept_before, kept_then, value_after}
 use Rattle.tevents.proofs.SeatLemmas.{stands_within}
 use Rattle.tevents.proofs.KeptLemmas.{kept_posted, posts_of_seat}

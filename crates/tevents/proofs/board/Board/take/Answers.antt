@@ -1,7 +1,7 @@
 use Rattle.std.proofs.Common.{◌≡◌, [], ◌∷◌, ◌++◌, length, Some, refl, ap, ◌∙◌}
 use Rattle.std.specs.List.{slice_get}
 use Rattle.std.proofs.lemmas.Option.{slice_get_read}
-use Rattle.tevents.specs.declared.history.Entry.{Entry}
+use Rattle.te_history.specs.declared.entry.Entry.{Entry}
 use Rattle.tevents.specs.declared.seat.Stance.TheVariants.{Idle}
 use Rattle.tevents.proofs.ViewLemmas.{kept_before, kept_then, value_after, restands_read}
 use Rattle.tevents.proofs.SeatLemmas.{stands_within, stands_given}

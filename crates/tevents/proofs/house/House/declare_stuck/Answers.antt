@@ -1,8 +1,8 @@
 use Rattle.te_terms.specs.Terms.{Term}
 use Rattle.std.specs.Prelude.{ℕ}
-use Rattle.tevents.specs.declared.history.Entry.TheVariants as entries
-use Rattle.tevents.specs.State.{State, parked}
-use Rattle.tevents.specs.Follows.{Stands, IsRunning}
+use Rattle.te_history.specs.declared.entry.Entry.TheVariants as entries
+use Rattle.te_history.specs.State.{State, parked}
+use Rattle.te_history.specs.Follows.{Stands, IsRunning}
 use Rattle.tevents.proofs.HouseState.{of_board}
 use Rattle.tevents.proofs.StuckKept.{stuck_kept, stuck_answered}
 use Rattle.tevents.proofs.house.House.declare_stuck.Goals as goal

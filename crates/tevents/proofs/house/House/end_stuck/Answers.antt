@@ -1,7 +1,7 @@
-use Rattle.tevents.specs.declared.history.How.TheVariants as ways
-use Rattle.tevents.specs.declared.history.Entry.TheVariants as entries
-use Rattle.tevents.specs.State.{State}
-use Rattle.tevents.specs.Follows.{Ends}
+use Rattle.te_history.specs.declared.status.How.TheVariants as ways
+use Rattle.te_history.specs.declared.entry.Entry.TheVariants as entries
+use Rattle.te_history.specs.State.{State}
+use Rattle.te_history.specs.Follows.{Ends}
 use Rattle.tevents.proofs.HouseState.{of_board}
 use Rattle.tevents.proofs.StuckKept.{ended_kept, stuck_answered}
 use Rattle.tevents.proofs.house.House.end_stuck.Goals as goal

@@ -1,8 +1,8 @@
 use Rattle.std.proofs.Common.{refl, sym, subst, arith}
 use Rattle.std.specs.List.{AllByRecursion}
 use Rattle.std.proofs.lemmas.Option.{slice_get_read}
-use Rattle.tevents.specs.State.{State, idle}
-use Rattle.tevents.specs.Follows.{Stands}
+use Rattle.te_history.specs.State.{State, idle}
+use Rattle.te_history.specs.Follows.{Stands}
 use Rattle.tevents.specs.Houses.{Run, IsFirstThread, IsHouse}
 use Rattle.tevents.proofs.HouseState.{of_board, stands_within, each_core}
 use Rattle.tevents.proofs.OpeningsKept.{answered_kept, opening_shown}

@@ -1,7 +1,7 @@
 use Rattle.std.proofs.Common.{refl, subst, arith}
 use Rattle.std.proofs.lemmas.Option.{slice_get_read}
 use Rattle.te_script.specs.Cores.{At, IsWaiting}
-use Rattle.tevents.specs.State.{State, given}
+use Rattle.te_history.specs.State.{State, given}
 use Rattle.tevents.specs.Runs.{IsGivenIn}
 use Rattle.tevents.proofs.CoresKept.{same_core}
 use Rattle.tevents.proofs.HouseState.{of_board, stands_within}

@@ -1,13 +1,13 @@
--- Histories with one entry more: their state, their posts, and that they are legal.
+-- Histories with one entry more: their state, their posts, and that they are loose or legal.
 use Rattle.std.proofs.Common.{◌≡◌, ℕ, suc, ◌≤◌, cond, Bool, true, false, List, [], ◌∷◌, ◌++◌, length, refl, ap, sym, ◌∙◌, subst, arith, append_assoc}
 use Rattle.std.proofs.Math.ListN.{length-set}
 use Rattle.std.proofs.lemmas.List.{length-replicate, append-nil}
 use Rattle.te_terms.specs.declared.event.Outcome.{Outcome}
 use Rattle.te_cert.specs.declared.cert.Member.{Member}
-use Rattle.tevents.specs.declared.history.Entry.{Entry}
-use Rattle.tevents.specs.declared.history.Entry.TheVariants.{Post, Commit, Withdraw, Take, Rest, Stuck, End}
-use Rattle.tevents.specs.State.{idle, given, State, opening, with_standing, with_given, changed, state_from, state, is_post_by, posts_by}
-use Rattle.tevents.specs.Follows.{Follows, LegalFrom, IsLegal}
+use Rattle.te_history.specs.declared.entry.Entry.{Entry}
+use Rattle.te_history.specs.declared.entry.Entry.TheVariants.{Post, Commit, Withdraw, Take, Rest, Stuck, End}
+use Rattle.te_history.specs.State.{idle, given, State, opening, with_standing, with_given, changed, state_from, state, is_post_by, posts_by}
+use Rattle.te_history.specs.Follows.{LooselyFollows, Follows, LooseFrom, LegalFrom, IsLoose, IsLegal}
 
 state_from-after : (s : State) (history : List Entry) (e : Entry) → state_from s (history ++ e ∷ []) ≡ changed (state_from s history) e
 state_from-after s [] e = refl
@@ -73,12 +73,30 @@ length-state_from s (e ∷ es) = length-state_from (changed s e) es ∙ length-c
 pub length-state : (callers : ℕ) (history : List Entry) → length (state callers history).callers ≡ callers
 length-state callers history = length-state_from (opening callers) history ∙ length-replicate callers idle
 
--- ---- legal histories
+-- ---- loose and legal histories
 
-legal_from-after : (callers : ℕ) (before history : List Entry) (e : Entry) → LegalFrom callers before history → Follows callers (before ++ history) e → LegalFrom callers before (history ++ e ∷ [])
+loose_from-after : (callers : ℕ) (before history : List Entry) (e : Entry) → LooseFrom callers before history → LooselyFollows callers (before ++ history) e
+    → LooseFrom callers before (history ++ e ∷ [])
+loose_from-after callers before [] e loose follows = (subst (λ (h : List Entry). LooselyFollows callers h e) (append-nil before) follows, tt)
+loose_from-after callers before (x ∷ xs) e loose follows = (
+  loose.0,
+  loose_from-after callers (before ++ x ∷ []) xs e loose.1
+      (subst (λ (h : List Entry). LooselyFollows callers h e) (sym (append_assoc before (x ∷ []) xs)) follows),
+)
+
+-- a loose history with an entry that follows it loosely
+pub loose-after : (callers : ℕ) (history : List Entry) (e : Entry) → IsLoose callers history → LooselyFollows callers history e
+    → IsLoose callers (history ++ e ∷ [])
+loose-after callers history e loose follows = loose_from-after callers [] history e loose follows
+
+legal_from-after : (callers : ℕ) (before history : List Entry) (e : Entry) → LegalFrom callers before history → Follows callers (before ++ history) e
+    → LegalFrom callers before (history ++ e ∷ [])
 legal_from-after callers before [] e legal follows = (subst (λ (h : List Entry). Follows callers h e) (append-nil before) follows, tt)
-legal_from-after callers before (x ∷ xs) e legal follows =
-    (legal.0, legal_from-after callers (before ++ x ∷ []) xs e legal.1 (subst (λ (h : List Entry). Follows callers h e) (sym (append_assoc before (x ∷ []) xs)) follows))
+legal_from-after callers before (x ∷ xs) e legal follows = (
+  legal.0,
+  legal_from-after callers (before ++ x ∷ []) xs e legal.1
+      (subst (λ (h : List Entry). Follows callers h e) (sym (append_assoc before (x ∷ []) xs)) follows),
+)
 
 -- a legal history with an entry that follows it
 pub legal-after : (callers : ℕ) (history : List Entry) (e : Entry) → IsLegal callers history → Follows callers history e → IsLegal callers (history ++ e ∷ [])

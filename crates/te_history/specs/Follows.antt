@@ -8,11 +8,11 @@ use Rattle.te_cert.specs.declared.cert.Member.{Member}
 use Rattle.te_cert.specs.declared.cert.Cert.{Cert}
 use Rattle.te_cert.specs.Play.{play}
 use Rattle.te_cert.specs.Checks.{ThreadsRise}
-use Rattle.tevents.specs.declared.history.How.{How}
-use Rattle.tevents.specs.declared.history.How.TheVariants as ways
-use Rattle.tevents.specs.declared.history.Entry.{Entry}
-use Rattle.tevents.specs.declared.history.Entry.TheVariants as entries
-use Rattle.tevents.specs.State.{Standing, idle, parked, given, ended, State, state, parked_list, posts_by}
+use Rattle.te_history.specs.declared.status.How.{How}
+use Rattle.te_history.specs.declared.status.How.TheVariants as ways
+use Rattle.te_history.specs.declared.entry.Entry.{Entry}
+use Rattle.te_history.specs.declared.entry.Entry.TheVariants as entries
+use Rattle.te_history.specs.State.{Standing, idle, parked, given, ended, State, state, parked_list, posts_by}
 
 abbrev pub IsRunning : State → Type 0
 IsRunning s = s.stuck ≡ false

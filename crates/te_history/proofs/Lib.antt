@@ -1,0 +1,11 @@
+pub mod AfterEntry
+pub mod SeatsAfter
+pub mod KeptAfter
+pub mod Places
+pub mod Rising
+pub mod Events
+pub mod PlayLengths
+pub mod RefusedDontFollow
+pub mod RefusedCommits
+pub mod RoomNeverRises
+pub mod RefusalsWorked

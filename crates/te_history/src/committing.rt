@@ -1,0 +1,153 @@
+// Whether a commit may follow.
+
+ghost use Rattle.std.specs.Prelude.{ℕ, false, ◌≡◌, ◌≢◌, ◌↔◌, ◌⊎◌, ◌<◌, ◌≤◌, [], ◌∷◌, length, slice_get, IfOk, IfErr, IfSome, IfNone, IsTrue};
+ghost use Rattle.te_cert.specs.declared.cert.Member.{Member as Party};
+ghost use Rattle.te_cert.specs.declared.cert.CertFault.TheVariants as unsound;
+ghost use Rattle.te_cert.specs.Checks.{ThreadsRise};
+ghost use Rattle.te_history.specs.declared.entry.StepFault.TheVariants as faults;
+ghost use Rattle.te_history.specs.declared.status.Status.{Status as Stance};
+ghost use Rattle.te_history.specs.declared.status.Status.TheVariants.{Parked};
+ghost use Rattle.te_history.specs.Histories.{now, HasStatus};
+ghost use Rattle.te_history.specs.Follows.{Commits};
+ghost use Rattle.te_history.specs.Refusals.{AreCallers, AreAllParked, AreParked, IsFirstStranger, IsFirstStale, IsFirstOther, RefusesCommit, IsUnordered, IsUnsound};
+
+use crate::entry::StepFault;
+use crate::history::Hist;
+use crate::same::is_same;
+use crate::status::Status;
+use std::alloc::Global;
+use te_cert::{Cert, CertFault, Member, check};
+use te_terms::{Event, NoMemory, Outcome};
+
+fn rises(members: &[Member]) -> bool
+    ensures { IsTrue result ↔ ThreadsRise members.now }
+{
+    for i in 1..members.len() {
+        if members[i].thread <= members[i - 1].thread {
+            return false;
+        }
+    }
+    true
+}
+
+fn ordered(members: &[Member]) -> Result<(), StepFault>
+    ensures ok { IfOk result (λ _. (members.now ≢ []) × ThreadsRise members.now) }
+    ensures refused { IfErr result (λ fault. IsUnordered members.now fault) }
+{
+    if members.is_empty() {
+        Err(StepFault::Unsound(CertFault::Empty))
+    } else if !rises(members) {
+        Err(StepFault::Unsound(CertFault::Order))
+    } else {
+        Ok(())
+    }
+}
+
+fn are_callers(members: &[Member], callers: u32) -> Result<(), StepFault>
+    requires { ThreadsRise members.now }
+    ensures ok { IfOk result (λ _. AreCallers callers members.now) }
+    ensures refused { IfErr result (λ fault. (i : ℕ) × (fault ≡ faults.Stranger i) × IsFirstStranger callers members.now i) }
+{
+    for i in 0..members.len() {
+        if members[i].thread >= callers {
+            return Err(StepFault::Stranger(i as u32));
+        }
+    }
+    Ok(())
+}
+
+fn is_parked_under(status: &Status, ticket: u32) -> bool
+    ensures { IsTrue result ↔ (status.now ≡ Parked ticket) }
+{
+    match status {
+        Status::Parked(under) => *under == ticket,
+        _ => false,
+    }
+}
+
+fn are_parked(hist: &Hist, members: &[Member]) -> Result<(), StepFault>
+    requires rise { ThreadsRise members.now }
+    requires callers { AreCallers hist.now.callers members.now }
+    requires few { hist.now.callers ≤ 64 }
+    ensures ok { IfOk result (λ _. AreAllParked (now hist.now) members.now) }
+    ensures refused { IfErr result (λ fault. (i : ℕ) × (status : Stance) × (fault ≡ faults.Stale i status) × IsFirstStale (now hist.now) members.now i status) }
+{
+    for i in 0..members.len() {
+        let member = &members[i];
+        let status = hist.status(member.thread);
+        if !is_parked_under(&status, member.ticket) {
+            return Err(StepFault::Stale(i as u32, status));
+        }
+    }
+    Ok(())
+}
+
+// The members' events, in order.
+fn events_of(alloc: Global, hist: &Hist, members: &[Member]) -> Result<Vec<Event>, NoMemory>
+    requires { AreAllParked (now hist.now) members.now }
+    ensures { IfOk result (λ events. AreParked (now hist.now) members.now events.items) }
+{
+    let mut events = Vec::new(alloc);
+    for i in 0..members.len() {
+        let event = hist.parked_event(members[i].thread).copy()?;
+        events.push(event)?;
+    }
+    Ok(events)
+}
+
+// The first place at which the two lists differ, or at which only one of them goes on.
+fn first_other(outcomes: &[Outcome], played: &[Outcome]) -> Option<usize>
+    ensures some { IfSome result (λ i. IsFirstOther outcomes.now played.now i) }
+    ensures within { IfSome result (λ i. i ≤ length played.now) }
+    ensures none { IfNone result (outcomes.now ≡ played.now) }
+{
+    for i in 0..played.len() {
+        let Some(outcome) = outcomes.get(i) else {
+            return Some(i);
+        };
+        if !is_same(outcome, &played[i]) {
+            return Some(i);
+        }
+    }
+    if played.len() < outcomes.len() {
+        Some(played.len())
+    } else {
+        None
+    }
+}
+
+fn unsound(fault: CertFault) -> StepFault
+    ensures { IsUnsound fault result }
+{
+    match fault {
+        CertFault::Memory => StepFault::Memory,
+        _ => StepFault::Unsound(fault),
+    }
+}
+
+/// Whether a commit of this certificate with these outcomes follows a history, on a running board.
+pub(crate) fn may_commit(
+    alloc: Global,
+    hist: &Hist,
+    cert: &Cert,
+    outcomes: &[Outcome],
+) -> Result<(), StepFault>
+    ensures ok { IfOk result (λ _. Commits (now hist.now) cert.now outcomes.now) }
+    ensures refused { IfErr result (λ fault. (fault ≡ faults.Memory) ⊎ RefusesCommit hist.now.callers (now hist.now) cert.now outcomes.now fault) }
+{
+    let members = cert.members.as_slice();
+    ordered(members)?;
+    are_callers(members, hist.callers())?;
+    are_parked(hist, members)?;
+    let Ok(events) = events_of(alloc, hist, members) else {
+        return Err(StepFault::Memory);
+    };
+    let played = match check(alloc, cert, &events) {
+        Ok(played) => played,
+        Err(fault) => return Err(unsound(fault)),
+    };
+    match first_other(outcomes, played.as_slice()) {
+        Some(i) => Err(StepFault::Result(i as u32)),
+        None => Ok(()),
+    }
+}
