@@ -10,7 +10,7 @@ use Rattle.std.specs.Str.{bytes_eq}
 use Rattle.std.proofs.lemmas.Slice.Eq.{bytes_eq-Decides}
 use Rattle.std.proofs.lemmas.Map.Text.{btree_map_updates_str}
 use Rattle.te_reader.specs.Grammar.{IsNew}
-use Rattle.te_reader.specs.Reads.{place_of, declared_in}
+use Rattle.te_reader.specs.NameReads.{place_of, declared_in}
 use Rattle.te_reader.specs.ChannelIndex.{IsIndex}
 use Rattle.te_reader.proofs.NameLemmas.{place_cons, declared}
 use Rattle.te_reader.proofs.SpelledIsRead.{place_absent}

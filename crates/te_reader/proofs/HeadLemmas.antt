@@ -1,5 +1,5 @@
 -- The first token that was taken is the first token.
-use Rattle.std.proofs.Common.{◌≡◌, ℕ, Bool, true, false, List, [], ◌∷◌, refl, sym, ◌∙◌, ap}
+use Rattle.std.proofs.Common.{◌≡◌, inl, inr, ℕ, Bool, true, false, List, [], ◌∷◌, refl, subst, sym, ◌∙◌, ap}
 use Rattle.std.specs.Prelude.{Option, Some, None, ◌==◌, if◌then◌else◌}
 use Rattle.std.proofs.lemmas.Bool.{eqb-true}
 use Rattle.te_reader.specs.declared.token.Word.{Word}
@@ -7,7 +7,8 @@ use Rattle.te_reader.specs.declared.token.Word.TheVariants as words
 use Rattle.te_reader.specs.declared.token.Sign.{Sign}
 use Rattle.te_reader.specs.declared.token.Sign.TheVariants as signs
 use Rattle.te_reader.specs.Tokens.{Token, word, name, inner, integer, sign}
-use Rattle.te_reader.specs.Heads.{word_number, sign_number, word_first, sign_first, name_first, integer_first}
+use Rattle.te_reader.specs.Grammar.{bound}
+use Rattle.te_reader.specs.Heads.{word_number, sign_number, word_first, sign_first, name_first, inner_first, bound_first, integer_first}
 
 -- ---- a word and a sign by their numbers
 
@@ -93,6 +94,10 @@ both_same {A = A} {B = B} p q e = (ap (first p.0) e, ap (second p.1) e) where
   second d None = d
   second d (Some r) = r.1
 
+-- what holds of what was read holds of what it is
+pub carried : {A : Type 0} (P : A → List Token → Type 0) (a p : A) (r rest : List Token) → ◌≡◌ {A = Option (A × List Token)} (Some (a, r)) (Some (p, rest)) → P a r → P p rest
+carried {A = A} P a p r rest e h = let same = both_same {A = A} {B = List Token} (a, r) (p, rest) e in subst (λ (x : A). P x rest) same.0 (subst (λ (x : List Token). P a x) same.1 h)
+
 -- ---- the first token
 
 pub name_is : (ts : List Token) (n : List ℕ) (rest : List Token) → name_first ts ≡ Some (n, rest) → ts ≡ name n ∷ rest
@@ -103,6 +108,24 @@ name_is (word w ∷ ts) n rest e = absurd cc
 name_is (inner m ∷ ts) n rest e = absurd cc
 name_is (integer m ∷ ts) n rest e = absurd cc
 name_is (sign g ∷ ts) n rest e = absurd cc
+
+pub inner_is : (ts : List Token) (n : List ℕ) (rest : List Token) → inner_first ts ≡ Some (n, rest) → ts ≡ inner n ∷ rest
+unfolding inner_first
+inner_is (inner m ∷ ts) n rest e = let r = both_same _ _ e in let n_is = r.0 in let rest_is = r.1 in cc
+inner_is [] n rest e = absurd cc
+inner_is (word w ∷ ts) n rest e = absurd cc
+inner_is (name m ∷ ts) n rest e = absurd cc
+inner_is (integer m ∷ ts) n rest e = absurd cc
+inner_is (sign g ∷ ts) n rest e = absurd cc
+
+pub bound_name_is : (ts : List Token) (n : List ℕ) (rest : List Token) → bound_first ts ≡ Some (n, rest) → bound n ts rest
+unfolding bound_first
+bound_name_is (name m ∷ ts) n rest e = let r = both_same _ _ e in let n_is = r.0 in let rest_is = r.1 in inl cc
+bound_name_is (inner m ∷ ts) n rest e = let r = both_same _ _ e in let n_is = r.0 in let rest_is = r.1 in inr cc
+bound_name_is [] n rest e = absurd cc
+bound_name_is (word w ∷ ts) n rest e = absurd cc
+bound_name_is (integer m ∷ ts) n rest e = absurd cc
+bound_name_is (sign g ∷ ts) n rest e = absurd cc
 
 pub integer_is : (ts : List Token) (n : List ℕ) (rest : List Token) → integer_first ts ≡ Some (n, rest) → ts ≡ integer n ∷ rest
 unfolding integer_first

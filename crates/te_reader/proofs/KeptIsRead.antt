@@ -1,23 +1,24 @@
--- What is spelled of the first form and keeps the limits and the rules on names is read: statements, threads and programs.
+-- What is spelled and keeps the limits and the rules on names is read: statements, threads and programs.
 use Rattle.std.proofs.Common.{◌≡◌, ◌≢◌, ℕ, zero, suc, ◌<◌, ◌≤◌, Bool, true, false, nat_lt, List, [], ◌∷◌, ◌++◌, length, take, refl, sym, ◌∙◌, ap, subst, append_assoc, length-append, arith}
 use Rattle.std.specs.Prelude.{Some, None, nat_le, if◌then◌else◌}
 use Rattle.std.specs.List.{AllByRecursion}
 use Rattle.std.proofs.lemmas.List.{append-nil}
 use Rattle.std.proofs.lemmas.Bool.Decides.{nat_tests}
-use Rattle.te_terms.specs.Expressions.{Expression, whole, tuple}
-use Rattle.te_terms.specs.Terms.{Term, always, never, throw, send, recv, and_then, choose, catch, when}
-use Rattle.te_script.specs.Scripts.{Scope, IsExpression, IsEvent, Statement, sync, emit, Thread, Program, with_register, AreStatements, AreDistinct, AreApart, IsThread, thread_names, IsProgram}
+use Rattle.te_terms.specs.Expressions.{Expression}
+use Rattle.te_terms.specs.Terms.{Term}
+use Rattle.te_script.specs.Scripts.{Scope, IsExpression, IsEvent, IsWithin, Statement, sync, emit, Thread, Program, with_register, AreStatements, AreDistinct, AreApart, IsThread, thread_names, IsProgram}
 use Rattle.te_reader.specs.declared.token.Word.TheVariants as words
 use Rattle.te_reader.specs.declared.token.Sign.TheVariants as signs
 use Rattle.te_reader.specs.Tokens as tokens
 use Rattle.te_reader.specs.Tokens.{Token, word, sign}
 use Rattle.te_reader.specs.Heads.{word_first, sign_first, name_first}
 use Rattle.te_reader.specs.Grammar.{is, ◌⨟◌, IsAt, IsNew, IsShort, alone, spells_expression, spells_event, spells_statements, spells_thread, spells_threads, spells_names, spells_channels, spells_program}
-use Rattle.te_reader.specs.FirstForm.{IsPlainEvent, IsPlainStatement, First}
-use Rattle.te_reader.specs.Reads.{Read, place_of, declared_in, register_of, read_sync, read_emit, read_statement, Body, read_body, read_thread, read_new_thread, read_threads, read_names, read_channels, read_program}
-use Rattle.te_reader.proofs.ListsKept.{all_weaker}
-use Rattle.te_reader.proofs.ReadIsSpelled.{names_of}
-use Rattle.te_reader.proofs.SpelledIsRead.{place_found, place_absent, declares, expression_is_read, event_is_read, most_of, most_in}
+use Rattle.te_reader.specs.NameReads.{Read, names_of, place_of, declared_in}
+use Rattle.te_reader.specs.Reads.{register_of, read_sync, read_emit, read_statement, Body, read_body, read_thread, read_new_thread, read_threads, read_names, read_channels, read_program}
+use Rattle.te_reader.proofs.ListsKept.{all_weaker, all_at}
+use Rattle.te_reader.proofs.ReadIsSpelled.{scope_of}
+use Rattle.te_reader.proofs.SpelledIsRead.{place_found, place_absent, declares, other_sign, InScope, expression_is_read}
+use Rattle.te_reader.proofs.EventIsRead.{Fits, event_is_read}
 
 -- ---- the first registers
 
@@ -74,27 +75,7 @@ whole_taken (x ∷ xs) = ap (λ ys. x ∷ ys) (whole_taken xs)
 no_channel : (n : List ℕ) (channels : List (List ℕ)) → AllByRecursion (λ y. n ≢ y) channels → IsNew n channels
 no_channel n channels h = all_weaker (λ y. n ≢ y) (λ y. y ≢ n) (λ y ne same. ne (sym same)) channels h
 
-all_at : (P : List ℕ → Type 0) (xs : List (List ℕ)) (r : ℕ) (n : List ℕ) → AllByRecursion P xs → IsAt xs r n → P n
-all_at P [] r n h at = absurd cc
-all_at P (x ∷ xs) zero n h at = let same : x ≡ n = cc in subst P same h.0
-all_at P (x ∷ xs) (suc r) n h at = all_at P xs r n h.1 at
-
 -- ---- statements
-
-most_of_expression : (s : Scope) (x : Expression) → IsExpression s x → most_of x
-most_of_expression s (whole x) h = tt
-most_of_expression s (tuple cs) h = h.1
-
-most_in_event : (s : Scope) (t : Term) → IsEvent s t → most_in t
-most_in_event s (always e) h = most_of_expression s e h
-most_in_event s (send p e) h = most_of_expression s e h.1
-most_in_event s never h = tt
-most_in_event s (throw e) h = tt
-most_in_event s (recv p) h = tt
-most_in_event s (and_then e n f) h = tt
-most_in_event s (choose e f) h = tt
-most_in_event s (catch e n f) h = tt
-most_in_event s (when test p q e f) h = tt
 
 -- what a thread's registers keep
 pub record Registers (channels registers : List (List ℕ)) : Type 0 where
@@ -124,21 +105,21 @@ module _ (m : ℕ) (channels registers : List (List ℕ)) (keeps : Registers cha
             let more = declares 8 (take w registers) n (omega (arith, long, inside, keeps.few)) short new ∙ ap Some (next_taken registers w n at_w) in
             rw (absent, place_absent (take w registers) n new, more, long) (ap (λ x. Some (x, take (suc x) registers)) (sym same))
 
-  distinct_first : (w : ℕ) → AreDistinct (take w registers)
-  distinct_first w = distinct_taken registers w keeps.distinct
+  in_scope : (w : ℕ) → InScope (names_of channels (take w registers))
+  in_scope w = record { channels = keeps.channels_distinct; registers = distinct_taken registers w keeps.distinct; inners = tt; apart = tt }
 
-  emit_is_read : (w : ℕ) (s : Scope) (x : Expression) (ts rest : List Token) → IsExpression s x → IsPlainStatement (emit x) → (spells_expression true (names_of channels (take w registers)) x ⨟ is (sign signs.Semicolon)) ts rest → read_emit channels (take w registers) ts ≡ Some (x, rest)
+  emit_is_read : (w : ℕ) (s : Scope) (x : Expression) (ts rest : List Token) → IsExpression s x → (spells_expression true (names_of channels (take w registers)) x ⨟ is (sign signs.Semicolon)) ts rest → read_emit channels (take w registers) ts ≡ Some (x, rest)
   unfolding read_emit sign_first
-  emit_is_read w s x ts rest scoped plain h =
-      rw (expression_is_read channels (take w registers) keeps.channels_distinct (distinct_first w) x ts h.0 (most_of_expression s x scoped) plain h.1, h.2) refl
+  emit_is_read w s x ts rest scoped h = rw (expression_is_read (names_of channels (take w registers)) (in_scope w) s x ts h.0 scoped h.1, h.2) refl
 
-  sync_is_read : (w : ℕ) (s : Scope) (t : Term) (ts rest : List Token) → IsEvent s t → IsPlainEvent t
+  sync_is_read : (w : ℕ) (t : Term) (ts rest : List Token) → IsEvent (scope_of m (names_of channels (take w registers))) t → IsWithin t
       → (is (sign signs.Arrow) ⨟ is (word words.Sync) ⨟ spells_event true alone (names_of channels (take w registers)) t ⨟ is (sign signs.Semicolon)) ts rest → read_sync channels (take w registers) ts ≡ Some (t, rest)
   unfolding read_sync sign_first word_first
-  sync_is_read w s t ts rest scoped plain h =
+  sync_is_read w t ts rest scoped within h =
       let a = h.2 in
       let b = a.2 in
-      rw (h.1, a.1, event_is_read channels (take w registers) keeps.channels_distinct (distinct_first w) t a.0 b.0 (most_in_event s t scoped) plain b.1, b.2) refl
+      let fits : Fits 32 0 t = record { few = omega (arith, within.nodes); low = within.height; layered = within.height } in
+      rw (h.1, a.1, event_is_read m t 32 0 alone (names_of channels (take w registers)) a.0 b.0 (in_scope w) scoped fits (other_sign signs.Dot signs.Semicolon b.0 rest b.2 refl) b.1, b.2) refl
 
   -- the closing brace ends the statements
   body_ended : (w left : ℕ) (ts rest : List Token) → w ≡ length registers → ts ≡ sign signs.CloseBrace ∷ rest → read_body left channels (take w registers) ts ≡ Some (record { statements = []; registers = registers }, rest)
@@ -168,18 +149,25 @@ module _ (m : ℕ) (channels registers : List (List ℕ)) (keeps : Registers cha
   unfolding sign_first
   no_brace_at_name n ts inside e = rw e refl
 
-  pub body_is_read : (stmts : List Statement) (w left : ℕ) (ts middle rest : List Token) → length stmts ≤ left → AreStatements m (length registers) w stmts → AllByRecursion IsPlainStatement stmts → spells_statements true channels registers w stmts ts middle
+  -- a register that is written is among all
+  next_within : (w r : ℕ) → r < length registers → w ≤ length registers → with_register w r ≤ length registers
+  next_within w r h k = by (nat_lt r w) where
+    by : (b : Bool) → (if b then w else suc r) ≤ length registers
+    by true = k
+    by false = omega (arith, h)
+
+  pub body_is_read : (stmts : List Statement) (w left : ℕ) (ts middle rest : List Token) → w ≤ length registers → length stmts ≤ left → AreStatements m (length registers) w stmts → spells_statements true channels registers w stmts ts middle
       → middle ≡ sign signs.CloseBrace ∷ rest → read_body left channels (take w registers) ts ≡ Some (record { statements = stmts; registers = registers }, rest)
-  body_is_read [] w left ts middle rest most order plain h close = body_ended w left ts rest order (h ∙ close)
-  body_is_read (s ∷ stmts) w zero ts middle rest most order plain h close = absurd (omega arith)
-  body_is_read (emit x ∷ stmts) w (suc left) ts middle rest most order plain h close =
+  body_is_read [] w left ts middle rest written most order h close = body_ended w left ts rest order (h ∙ close)
+  body_is_read (s ∷ stmts) w zero ts middle rest written most order h close = absurd (omega arith)
+  body_is_read (emit x ∷ stmts) w (suc left) ts middle rest written most order h close =
       let inside = h.0 in
       let a = h.2 in
       let b = a.2 in
-      let one = emit_is_read w (record { written = w; level = 0; channels = m }) x inside b.0 order.0 plain.0 (a.0, a.1, b.1) in
-      let later = body_is_read stmts w left b.0 middle rest (omega arith) order.1 plain.1 b.2 close in
+      let one = emit_is_read w (record { written = w; level = 0; channels = m }) x inside b.0 order.0 (a.0, a.1, b.1) in
+      let later = body_is_read stmts w left b.0 middle rest written (omega arith) order.1 b.2 close in
       statement_then_body left w w (emit x) _ ts b.0 rest (no_brace_at_emit ts inside h.1) (emit_statement w x ts inside b.0 h.1 one) later
-  body_is_read (sync r t ∷ stmts) w (suc left) ts middle rest most order plain h close =
+  body_is_read (sync r t ∷ stmts) w (suc left) ts middle rest written most order h close =
       let n = h.0 in
       let fits = h.1.0 in
       let k = h.1.1 in
@@ -187,9 +175,11 @@ module _ (m : ℕ) (channels registers : List (List ℕ)) (keeps : Registers cha
       let b = a.2 in
       let c = b.2 in
       let d = c.2 in
-      let one = sync_is_read w (record { written = w; level = 0; channels = m }) t k.0 d.0 order.1 plain.0 (a.0, a.1, (b.0, b.1, (c.0, c.1, d.1))) in
+      let long : length (take w registers) ≡ w = length_taken registers w written in
+      let scoped : IsEvent (scope_of m (names_of channels (take w registers))) t = subst (λ (x : ℕ). IsEvent (record { written = x; level = 0; channels = m }) t) (sym long) order.1 in
+      let one = sync_is_read w t k.0 d.0 scoped order.2 (a.0, a.1, (b.0, b.1, (c.0, c.1, d.1))) in
       let reg = register_is_read w r n order.0 fits.1 fits.0 in
-      let later = body_is_read stmts (with_register w r) left d.0 middle rest (omega arith) order.3 plain.1 d.2 close in
+      let later = body_is_read stmts (with_register w r) left d.0 middle rest (next_within w r (at_inside registers r n fits.0) written) (omega arith) order.3 d.2 close in
       statement_then_body left w (with_register w r) (sync r t) _ ts d.0 rest (no_brace_at_name n ts k.0 k.1) (sync_statement w r n t ts k.0 d.0 k.1 one reg) later
 
 -- ---- threads
@@ -199,17 +189,17 @@ from_none : (channels registers : List (List ℕ)) (left : ℕ) (ts : List Token
 from_none channels [] left ts o e = e
 from_none channels (r ∷ rs) left ts o e = e
 
-pub thread_is_read : (m : ℕ) (channels : List (List ℕ)) (t : Thread) (ts behind rest : List Token) → AreDistinct channels → IsThread m t → AreApart t.registers channels → AllByRecursion IsPlainStatement t.statements
+pub thread_is_read : (m : ℕ) (channels : List (List ℕ)) (t : Thread) (ts behind rest : List Token) → AreDistinct channels → IsThread m t → AreApart t.registers channels
     → ts ≡ word words.Thread ∷ behind → spells_thread true channels t ts rest → read_thread channels behind ≡ Some (t, rest)
 unfolding read_thread name_first sign_first
-thread_is_read m channels t ts behind rest distinct kept apart plain begins h =
+thread_is_read m channels t ts behind rest distinct kept apart begins h =
     let a = h.1 in
     let b = a.2 in
     let c = b.2 in
     let d = c.2 in
     let same : behind ≡ a.0 = let two : word words.Thread ∷ behind ≡ word words.Thread ∷ a.0 = sym begins ∙ a.1 in cc in
     let keeps : Registers channels t.registers = record { channels_distinct = distinct; distinct = kept.distinct; few = kept.registers; apart = apart } in
-    let body = body_is_read m channels t.registers keeps t.statements 0 1024 c.0 d.0 rest kept.statements kept.in_order plain d.1 d.2 in
+    let body = body_is_read m channels t.registers keeps t.statements 0 1024 c.0 d.0 rest (omega arith) kept.statements kept.in_order d.1 d.2 in
     let short : nat_le (length t.name) 32 ≡ true = grind (arith, nat_tests, h.0) in
     rw (same, b.1, short, c.1, from_none channels t.registers 1024 c.0 _ body) refl
 
@@ -236,16 +226,16 @@ unfolding read_threads word_first
 thread_then_more left channels names more t threads ts behind after rest begins e f = rw (begins, e, f) refl
 
 pub threads_are_read : (m : ℕ) (channels : List (List ℕ)) (threads : List Thread) (left : ℕ) (names : List (List ℕ)) (ts : List Token) → AreDistinct channels → length threads ≤ left → AreDistinct (names ++ thread_names threads)
-    → AllByRecursion (IsThread m) threads → AllByRecursion (λ t. AreApart t.registers channels) threads → AllByRecursion (λ t. AllByRecursion IsPlainStatement t.statements) threads → spells_threads true channels threads ts []
+    → AllByRecursion (IsThread m) threads → AllByRecursion (λ t. AreApart t.registers channels) threads → spells_threads true channels threads ts []
     → read_threads left channels names ts ≡ Some (threads, [])
-threads_are_read m channels [] left names ts distinct most apart kept regs plain h = rw h (no_more_threads left channels names)
-threads_are_read m channels (t ∷ threads) zero names ts distinct most apart kept regs plain h = absurd (omega arith)
-threads_are_read m channels (t ∷ threads) (suc left) names ts distinct most apart kept regs plain h =
+threads_are_read m channels [] left names ts distinct most apart kept regs h = rw h (no_more_threads left channels names)
+threads_are_read m channels (t ∷ threads) zero names ts distinct most apart kept regs h = absurd (omega arith)
+threads_are_read m channels (t ∷ threads) (suc left) names ts distinct most apart kept regs h =
     let begins = h.1.1 in
-    let one = thread_is_read m channels t ts begins.0 h.0 distinct kept.0 regs.0 plain.0 begins.1 h.1 in
+    let one = thread_is_read m channels t ts begins.0 h.0 distinct kept.0 regs.0 begins.1 h.1 in
     let new = new_thread_is_read channels names t begins.0 h.0 one (new_before names (thread_names threads) t.name apart) in
     let all : AreDistinct ((names ++ t.name ∷ []) ++ thread_names threads) = subst (λ (xs : List (List ℕ)). AreDistinct xs) (sym (append_assoc names (t.name ∷ []) (thread_names threads))) apart in
-    let later = threads_are_read m channels threads left (names ++ t.name ∷ []) h.0 distinct (omega arith) all kept.1 regs.1 plain.1 h.2 in
+    let later = threads_are_read m channels threads left (names ++ t.name ∷ []) h.0 distinct (omega arith) all kept.1 regs.1 h.2 in
     thread_then_more left channels names (names ++ t.name ∷ []) t threads ts begins.0 h.0 [] begins.1 new later
 
 -- ---- channels
@@ -284,11 +274,11 @@ threads_begin : (channels : List (List ℕ)) (threads : List Thread) (ts rest : 
 threads_begin channels [] ts rest some h = absurd (omega arith)
 threads_begin channels (t ∷ threads) ts rest some h = (h.1.1.0, h.1.1.1)
 
-pub program_is_read : (p : Program) (ts : List Token) → IsProgram p → First p → spells_program true p ts [] → read_program ts ≡ Some (p, [])
+pub program_is_read : (p : Program) (ts : List Token) → IsProgram p → spells_program true p ts [] → read_program ts ≡ Some (p, [])
 unfolding read_program
-program_is_read p ts kept plain h =
+program_is_read p ts kept h =
     let begins = threads_begin p.channels p.threads h.0 [] kept.some_thread h.2 in
     let channels = channels_are_read p.channels ts begins.0 h.0 kept.channels kept.channel_names h.1 begins.1 in
-    let threads = threads_are_read (length p.channels) p.channels p.threads 64 [] h.0 kept.channel_names kept.threads kept.names kept.each kept.apart plain h.2 in
+    let threads = threads_are_read (length p.channels) p.channels p.threads 64 [] h.0 kept.channel_names kept.threads kept.names kept.each kept.apart h.2 in
     let some : nat_lt 0 (length p.threads) ≡ true = grind (arith, nat_tests, kept.some_thread) in
     rw (channels, threads, some) refl

@@ -70,3 +70,9 @@ grows_one channels registers n room short new no_channel = record {
   short = λ h. AllByRecursion-append IsShort registers n h short;
   apart = λ h. AllByRecursion-append (λ x. AllByRecursion (λ y. x ≢ y) channels) registers n h (new_apart n channels no_channel);
 }
+
+-- what holds of all names holds of the one at a place
+pub all_at : (P : List ℕ → Type 0) (xs : List (List ℕ)) (r : ℕ) (n : List ℕ) → AllByRecursion P xs → IsAt xs r n → P n
+all_at P [] r n h at = absurd cc
+all_at P (x ∷ xs) zero n h at = let same : x ≡ n = cc in subst P same h.0
+all_at P (x ∷ xs) (suc r) n h at = all_at P xs r n h.1 at

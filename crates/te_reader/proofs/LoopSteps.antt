@@ -7,7 +7,8 @@ use Rattle.te_reader.specs.declared.token.Word.TheVariants as words
 use Rattle.te_reader.specs.declared.token.Sign.TheVariants as signs
 use Rattle.te_reader.specs.Tokens.{Token}
 use Rattle.te_reader.specs.Heads.{word_first, sign_first, name_first}
-use Rattle.te_reader.specs.Reads.{Read, Body, ◌>>=◌, declared_in, read_names, read_statement, read_body, read_new_thread, read_threads}
+use Rattle.te_reader.specs.NameReads.{Read, ◌>>=◌, declared_in}
+use Rattle.te_reader.specs.Reads.{Body, read_names, read_statement, read_body, read_new_thread, read_threads}
 use Rattle.te_reader.specs.Behind.{behind, behind_body}
 use Rattle.te_reader.proofs.NameLemmas.{declared}
 

@@ -6,8 +6,8 @@ use Rattle.std.specs.List.{prefix_len}
 use Rattle.std.specs.Str.{bytes_eq}
 use Rattle.std.proofs.lemmas.Bool.Decides.{nat_tests}
 use Rattle.std.proofs.lemmas.Slice.Eq.{bytes_eq-Decides}
-use Rattle.te_reader.specs.Grammar.{IsAt, IsNew, IsShort}
-use Rattle.te_reader.specs.Reads.{◌>>=◌, checked, if_absent, place_of, declared_in}
+use Rattle.te_reader.specs.Grammar.{Names, IsAt, IsNew, IsShort, IsFree, with_inner}
+use Rattle.te_reader.specs.NameReads.{◌>>=◌, checked, if_absent, place_of, declared_in, bound_in}
 
 -- what an optional step that came to something is made of
 pub bind_some : {A B : Type 0} (o : Option A) (f : A → Option B) (y : B) → (o >>= f) ≡ Some y → (x : A) × (o ≡ Some x) × (f x ≡ Some y)
@@ -81,3 +81,21 @@ declared most names n more e =
       new = place_none names n (absent_some _ _ a.1);
       appended = cc;
     }
+
+-- an inner name that was bound is free, and is in scope then
+pub bound_is : (s : Names) (n : List ℕ) (more : Names) → bound_in s n ≡ Some more → IsFree s n × (more ≡ with_inner s n)
+unfolding bound_in
+bound_is s n more e =
+    let a = bind_some (if_absent (place_of s.channels n)) _ more e in
+    let b = bind_some (if_absent (place_of s.registers n)) _ more a.2 in
+    let c = bind_some (if_absent (place_of s.inners n)) _ more b.2 in
+    let d = bind_some (checked (nat_le (length n) 32)) (λ _. Some (with_inner s n)) more c.2 in
+    let fits = checked_some _ _ d.1 in (
+      record {
+        short = grind (arith, nat_tests, fits);
+        no_channel = place_none s.channels n (absent_some _ _ a.1);
+        no_register = place_none s.registers n (absent_some _ _ b.1);
+        no_inner = place_none s.inners n (absent_some _ _ c.1);
+      },
+      cc,
+    )

@@ -1,4 +1,4 @@
--- What was read of statements, threads and channels is spelled by the tokens, keeps the limits and the rules on names, and is of the first form.
+-- What was read of statements, threads and channels is spelled by the tokens, and keeps the limits and the rules on names.
 use Rattle.std.proofs.Common.{◌≡◌, ℕ, zero, suc, ◌<◌, ◌≤◌, true, false, nat_lt, List, [], ◌∷◌, ◌++◌, length, take, refl, sym, ◌∙◌, ap, subst, append_assoc, length-append, arith}
 use Rattle.std.specs.Prelude.{Option, Some, None, nat_le}
 use Rattle.std.specs.List.{AllByRecursion}
@@ -13,12 +13,15 @@ use Rattle.te_reader.specs.Tokens as tokens
 use Rattle.te_reader.specs.Tokens.{Token, word, sign}
 use Rattle.te_reader.specs.Heads.{word_first, sign_first, name_first}
 use Rattle.te_reader.specs.Grammar.{is, ◌⨟◌, IsAt, IsNew, IsShort, alone, spells_expression, spells_event, spells_statements, spells_thread, spells_threads, spells_names, spells_channels, spells_program}
-use Rattle.te_reader.specs.FirstForm.{IsPlainStatement, First}
-use Rattle.te_reader.specs.Reads.{Read, ◌>>=◌, checked, if_absent, place_of, declared_in, old_or_new, register_of, read_expression, read_event, read_sync, read_emit, emit_or_sync, read_statement, Body, brace_or_more, read_body, named_body, read_thread, read_new_thread, end_or_thread, read_threads, semicolon_or_name, read_names, if_some, none_or_channels, read_channels, read_program}
+use Rattle.te_reader.specs.NameReads.{Read, ◌>>=◌, checked, if_absent, place_of, names_of, declared_in}
+use Rattle.te_reader.specs.ExpressionReads.{read_expression}
+use Rattle.te_reader.specs.EventReads.{read_event}
+use Rattle.te_reader.specs.Reads.{old_or_new, register_of, read_sync, read_emit, emit_or_sync, read_statement, Body, brace_or_more, read_body, named_body, read_thread, read_new_thread, end_or_thread, read_threads, semicolon_or_name, read_names, if_some, none_or_channels, read_channels, read_program}
 use Rattle.te_reader.proofs.NameLemmas.{bind_some, checked_some, absent_some, place_is, place_none, declared}
 use Rattle.te_reader.proofs.HeadLemmas.{both_same, name_is, word_is, sign_is}
 use Rattle.te_reader.proofs.ListsKept.{distinct_push, at_more, at_last, short_at, taken, Grows, stays, goes_on, grows_one}
-use Rattle.te_reader.proofs.ReadIsSpelled.{names_of, ReadExpression, expression_read, ReadEvent, event_read}
+use Rattle.te_reader.proofs.ReadIsSpelled.{ReadExpression, expression_read}
+use Rattle.te_reader.proofs.EventIsSpelled.{ReadEvent, event_read}
 
 -- ---- registers
 
@@ -63,7 +66,6 @@ module _ (m : ℕ) (channels : List (List ℕ)) (many : length channels ≤ m) w
     pub most : length body.statements ≤ left
     pub in_order : AreStatements m (length body.registers) (length registers) body.statements
     pub spelled : AllByRecursion IsShort registers → (spells_statements true channels body.registers (length registers) body.statements ⨟ is (sign signs.CloseBrace)) ts rest
-    pub plain : AllByRecursion IsPlainStatement body.statements
 
   -- the registers in scope at a statement are the first of all
   in_scope : (registers all : List (List ℕ)) → Grows channels registers all → take (length registers) all ≡ registers
@@ -74,10 +76,10 @@ module _ (m : ℕ) (channels : List (List ℕ)) (many : length channels ≤ m) w
       → ReadBody left registers body after rest → ReadBody (suc left) registers (record body { statements = emit x ∷ body.statements }) ts rest
   unfolding read_emit
   emit_before left registers x body ts inside after rest begins e later =
-      let a = bind_some (read_expression channels registers inside) _ _ e in
+      let a = bind_some (read_expression (names_of channels registers) inside) _ _ e in
       let b = bind_some (sign_first signs.Semicolon a.0.1) _ _ a.2 in
       let same = both_same _ _ b.2 in
-      let value : ReadExpression m channels registers many x inside a.0.1 = subst (λ (y : Expression). ReadExpression m channels registers many y inside a.0.1) same.0 (expression_read m channels registers many a.0.0 inside a.0.1 a.1) in
+      let value : ReadExpression m (names_of channels registers) many x inside a.0.1 = subst (λ (y : Expression). ReadExpression m (names_of channels registers) many y inside a.0.1) same.0 (expression_read m (names_of channels registers) many a.0.0 inside a.0.1 a.1) in
       let names = in_scope registers body.registers later.grows in
       record {
         grows = later.grows;
@@ -88,7 +90,6 @@ module _ (m : ℕ) (channels : List (List ℕ)) (many : length channels ≤ m) w
           (inside, begins, (a.0.1, subst (λ (rs : List (List ℕ)). spells_expression true (names_of channels rs) x inside a.0.1) (sym names) value.spelled, (after, sign_is signs.Semicolon a.0.1 after (b.1 ∙ ap Some same.1), l.1))),
           l.2,
         );
-        plain = (value.plain, later.plain);
       }
 
   -- a sync before a body
@@ -98,10 +99,10 @@ module _ (m : ℕ) (channels : List (List ℕ)) (many : length channels ≤ m) w
   sync_before left registers more n r t body ts inside after rest begins e of later =
       let a = bind_some (sign_first signs.Arrow inside) _ _ e in
       let b = bind_some (word_first words.Sync a.0) _ _ a.2 in
-      let c = bind_some (read_event channels registers b.0) _ _ b.2 in
+      let c = bind_some (read_event 32 alone (names_of channels registers) 0 b.0) _ _ b.2 in
       let d = bind_some (sign_first signs.Semicolon c.0.1) _ _ c.2 in
       let same = both_same _ _ d.2 in
-      let event : ReadEvent m channels registers many t b.0 c.0.1 = subst (λ (u : Term). ReadEvent m channels registers many u b.0 c.0.1) same.0 (event_read m channels registers many c.0.0 b.0 c.0.1 c.1) in
+      let event : ReadEvent m alone (names_of channels registers) 0 t b.0 c.0.1 = subst (λ (u : Term). ReadEvent m alone (names_of channels registers) 0 u b.0 c.0.1) same.0 (event_read m 32 alone (names_of channels registers) 0 c.0.0 b.0 c.0.1 many c.1) in
       let reg = register_read channels registers n r more of in
       let all = goes_on channels registers more body.registers reg.grows later.grows in
       let names = in_scope registers body.registers all in
@@ -109,7 +110,7 @@ module _ (m : ℕ) (channels : List (List ℕ)) (many : length channels ≤ m) w
       record {
         grows = all;
         most = omega (arith, later.most);
-        in_order = (reg.known, event.scoped, record { nodes = omega (arith, event.leaf.0); height = omega (arith, event.leaf.1) }, rw reg.written later.in_order);
+        in_order = (reg.known, event.scoped, record { nodes = omega (arith, event.few); height = event.low }, rw reg.written later.in_order);
         spelled = λ short. let l = later.spelled (reg.grows.short short) in (
           l.0,
           (
@@ -137,7 +138,6 @@ module _ (m : ℕ) (channels : List (List ℕ)) (many : length channels ≤ m) w
           ),
           l.2,
         );
-        plain = (event.plain, later.plain);
       }
 
   -- no statement before the closing brace
@@ -149,7 +149,6 @@ module _ (m : ℕ) (channels : List (List ℕ)) (many : length channels ≤ m) w
         most = omega arith;
         in_order = refl;
         spelled = λ short. (ts, refl, sign_is signs.CloseBrace ts rest (f ∙ ap Some same.1));
-        plain = tt;
       } in
       subst (λ (b : Body). ReadBody left registers b ts rest) same.0 none
 
@@ -204,7 +203,6 @@ module _ (m : ℕ) (channels : List (List ℕ)) (many : length channels ≤ m) w
     pub kept : IsThread m t
     pub apart : AreApart t.registers channels
     pub spelled : (all : List Token) → all ≡ word words.Thread ∷ ts → spells_thread true channels t all rest
-    pub plain : AllByRecursion IsPlainStatement t.statements
 
   pub thread_of_body : (n : List ℕ) (body : Body) (ts inside within rest : List Token) → IsShort n → ts ≡ tokens.name n ∷ inside → inside ≡ sign signs.OpenBrace ∷ within → ReadBody 1024 [] body within rest
       → ReadThread (record { name = n; registers = body.registers; statements = body.statements }) ts rest
@@ -212,7 +210,6 @@ module _ (m : ℕ) (channels : List (List ℕ)) (many : length channels ≤ m) w
     kept = record { registers = b.grows.few (omega arith); distinct = b.grows.distinct tt; statements = b.most; in_order = b.in_order };
     apart = b.grows.apart tt;
     spelled = λ all begins. (short, (ts, begins, (inside, named, (within, opened, b.spelled tt))));
-    plain = b.plain;
   }
 
   pub thread_read : (t : Thread) (ts rest : List Token) → read_thread channels ts ≡ Some (t, rest) → ReadThread t ts rest
@@ -238,12 +235,11 @@ module _ (m : ℕ) (channels : List (List ℕ)) (many : length channels ≤ m) w
     pub kept : AllByRecursion (IsThread m) threads
     pub apart : AllByRecursion (λ t. AreApart t.registers channels) threads
     pub spelled : spells_threads true channels threads ts rest
-    pub plain : AllByRecursion (λ t. AllByRecursion IsPlainStatement t.statements) threads
 
   no_threads : (left : ℕ) (names : List (List ℕ)) (threads : List Thread) (ts rest : List Token) → end_or_thread ts (λ _. None) None ≡ Some (threads, rest) → ReadThreads left names threads ts rest
   no_threads left names threads ts rest e =
       let same = both_same _ _ e in
-      let none : ReadThreads left names [] ts ts = record { most = omega arith; distinct = λ d. rw (append-nil names) d; kept = tt; apart = tt; spelled = refl; plain = tt } in
+      let none : ReadThreads left names [] ts ts = record { most = omega arith; distinct = λ d. rw (append-nil names) d; kept = tt; apart = tt; spelled = refl } in
       subst (λ (last : List Token). ReadThreads left names threads ts last) same.1 (subst (λ (x : List Thread). ReadThreads left names x ts ts) same.0 none)
 
   thread_before : (left : ℕ) (names more : List (List ℕ)) (t : Thread) (threads : List Thread) (ts behind after rest : List Token) → ts ≡ word words.Thread ∷ behind → read_new_thread channels names behind ≡ Some ((t, more), after)
@@ -263,7 +259,6 @@ module _ (m : ℕ) (channels : List (List ℕ)) (many : length channels ≤ m) w
         kept = (read.kept, later.kept);
         apart = (read.apart, later.apart);
         spelled = (after, read.spelled ts begins, later.spelled);
-        plain = (read.plain, later.plain);
       }
 
   pub threads_read : (left : ℕ) (names : List (List ℕ)) (threads : List Thread) (ts rest : List Token) → read_threads left channels names ts ≡ Some (threads, rest) → ReadThreads left names threads ts rest
@@ -361,7 +356,6 @@ channels_read channels ts rest e = by (word_first words.Channels ts) refl e wher
 pub record ReadProgram (p : Program) (ts rest : List Token) : Type 0 where
   pub kept : IsProgram p
   pub spelled : spells_program true p ts rest
-  pub plain : First p
 
 pub program_of : (channels : List (List ℕ)) (threads : List Thread) (ts middle rest : List Token) → ReadChannels channels ts middle → 0 < length threads → read_threads 64 channels [] middle ≡ Some (threads, rest) → ReadProgram (record { channels = channels; threads = threads }) ts rest
 program_of channels threads ts middle rest c some e =
@@ -369,7 +363,6 @@ program_of channels threads ts middle rest c some e =
     record {
       kept = record { channels = c.few; channel_names = c.distinct; some_thread = some; threads = t.most; names = t.distinct tt; each = t.kept; apart = t.apart };
       spelled = (middle, c.spelled, t.spelled);
-      plain = t.plain;
     }
 
 pub program_read : (p : Program) (ts rest : List Token) → read_program ts ≡ Some (p, rest) → ReadProgram p ts rest

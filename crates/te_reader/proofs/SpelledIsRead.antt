@@ -1,37 +1,71 @@
--- What is spelled of the first form is read: names, expressions and events.
-use Rattle.std.proofs.Common.{◌≡◌, ◌≢◌, ℕ, zero, suc, ◌<◌, ◌≤◌, Bool, true, false, List, [], ◌∷◌, ◌++◌, length, refl, sym, ◌∙◌, ap, arith}
-use Rattle.std.specs.Prelude.{Some, None, nat_lt, nat_le, ◌&&◌, if◌then◌else◌}
+-- What is spelled is read: names and expressions.
+use Rattle.std.proofs.Common.{◌≡◌, ◌≢◌, ℕ, zero, suc, ◌<◌, ◌≤◌, ◌⊎◌, inl, inr, Bool, true, false, List, [], ◌∷◌, ◌++◌, length, refl, sym, ◌∙◌, arith}
+use Rattle.std.specs.Prelude.{Some, None, pos, nat_lt, nat_le, ◌&&◌, ◌==◌, if◌then◌else◌}
 use Rattle.std.specs.Option.{option_map}
 use Rattle.std.specs.List.{AllByRecursion}
 use Rattle.std.specs.Str.{bytes_eq}
 use Rattle.std.proofs.lemmas.Bool.Decides.{nat_tests}
 use Rattle.std.proofs.lemmas.Slice.Eq.{bytes_eq-Decides}
-use Rattle.te_terms.specs.Expressions.{register, name, known, Primitive, int, chan, part, Calculation, one, both, Expression, whole, tuple}
-use Rattle.te_terms.specs.Terms.{Term, always, never, throw, send, recv, and_then, choose, catch, when}
-use Rattle.te_script.specs.Scripts.{AreDistinct}
+use Rattle.te_terms.specs.declared.expr.Arith.{Arith}
+use Rattle.te_terms.specs.declared.expr.Arith.TheVariants as ariths
+use Rattle.te_terms.specs.Expressions.{Variable, register, name, known, Primitive, int, chan, part, Calculation, one, both, Expression, whole, tuple}
+use Rattle.te_script.specs.Scripts.{Scope, IsExpression, AreDistinct}
+use Rattle.te_script.proofs.Appending.{AllByRecursion-append}
+use Rattle.te_reader.specs.declared.token.Word.{Word}
+use Rattle.te_reader.specs.declared.token.Sign.{Sign}
 use Rattle.te_reader.specs.declared.token.Sign.TheVariants as signs
 use Rattle.te_reader.specs.Tokens as tokens
-use Rattle.te_reader.specs.Tokens.{Token}
-use Rattle.te_reader.specs.Heads.{word_first, sign_first, name_first, integer_first}
-use Rattle.te_reader.specs.Grammar.{IsAt, IsNew, IsShort, spells_primitive, spells_inside, spells_expression, spells_event, alone}
-use Rattle.te_reader.specs.FirstForm.{IsPlain, IsPlainExpression, IsPlainEvent}
-use Rattle.te_reader.specs.Reads.{place_of, declared_in, integer_of, read_channel, read_primitive, read_calculations, read_tuple, read_expression, read_event}
+use Rattle.te_reader.specs.Tokens.{Token, word, sign}
+use Rattle.te_reader.specs.Heads.{word_number, sign_number, word_first, sign_first, name_first, inner_first, bound_first, integer_first}
+use Rattle.te_reader.specs.Grammar.{Names, IsAt, IsNew, IsShort, IsFree, bound, with_inner, spells_variable, spells_integer, spells_primitive, arith_sign, spells_calculation, spells_further, spells_inside, spells_expression}
+use Rattle.te_reader.specs.NameReads.{place_of, declared_in, bound_in, integer_of, variable_named}
+use Rattle.te_reader.specs.ExpressionReads.{read_place, read_inner_part, read_named, read_primitive, arith_first, read_calculation, read_calculations, read_tuple, read_expression}
 use Rattle.te_reader.proofs.NameLemmas.{place_cons}
-use Rattle.te_reader.proofs.ReadIsSpelled.{names_of}
+use Rattle.te_reader.proofs.ListsKept.{distinct_push, all_at}
 
 -- ---- the first token
 
-pub takes_name : (n : List ℕ) (rest : List Token) → name_first (tokens.name n ∷ rest) ≡ Some (n, rest)
-unfolding name_first
-takes_name n rest = refl
+pub takes_sign : (g : Sign) (ts rest : List Token) → ts ≡ sign g ∷ rest → sign_first g ts ≡ Some rest
+unfolding sign_first
+takes_sign g ts rest e = let same : (sign_number g == sign_number g) ≡ true = grind (arith, nat_tests) in rw (e, same) refl
 
-pub takes_integer : (n : List ℕ) (rest : List Token) → integer_first (tokens.integer n ∷ rest) ≡ Some (n, rest)
-unfolding integer_first
-takes_integer n rest = refl
+pub other_sign : (h g : Sign) (ts rest : List Token) → ts ≡ sign g ∷ rest → (sign_number h == sign_number g) ≡ false → sign_first h ts ≡ None
+unfolding sign_first
+other_sign h g ts rest e unlike = rw (e, unlike) refl
 
-pub no_integer : (n : List ℕ) (rest : List Token) → integer_first (tokens.name n ∷ rest) ≡ None
-unfolding integer_first
-no_integer n rest = refl
+pub takes_word : (w : Word) (ts rest : List Token) → ts ≡ word w ∷ rest → word_first w ts ≡ Some rest
+unfolding word_first
+takes_word w ts rest e = let same : (word_number w == word_number w) ≡ true = grind (arith, nat_tests) in rw (e, same) refl
+
+pub other_word : (v w : Word) (ts rest : List Token) → ts ≡ word w ∷ rest → (word_number v == word_number w) ≡ false → word_first v ts ≡ None
+unfolding word_first
+other_word v w ts rest e unlike = rw (e, unlike) refl
+
+pub takes_bound : (n : List ℕ) (ts rest : List Token) → bound n ts rest → bound_first ts ≡ Some (n, rest)
+unfolding bound_first
+takes_bound n ts rest (inl e) = rw e refl
+takes_bound n ts rest (inr e) = rw e refl
+
+pub no_bound : (w : Word) (ts rest : List Token) → ts ≡ word w ∷ rest → bound_first ts ≡ None
+unfolding bound_first
+no_bound w ts rest e = rw e refl
+
+-- a name, an inner name and an integer are no sign
+no_sign_at_name : (g : Sign) (n : List ℕ) (ts rest : List Token) → ts ≡ tokens.name n ∷ rest → sign_first g ts ≡ None
+unfolding sign_first
+no_sign_at_name g n ts rest e = rw e refl
+
+no_sign_at_inner : (g : Sign) (n : List ℕ) (ts rest : List Token) → ts ≡ tokens.inner n ∷ rest → sign_first g ts ≡ None
+unfolding sign_first
+no_sign_at_inner g n ts rest e = rw e refl
+
+no_sign_at_integer : (g : Sign) (n : List ℕ) (ts rest : List Token) → ts ≡ tokens.integer n ∷ rest → sign_first g ts ≡ None
+unfolding sign_first
+no_sign_at_integer g n ts rest e = rw e refl
+
+no_sign_at_bound : (g : Sign) (n : List ℕ) (ts rest : List Token) → bound n ts rest → sign_first g ts ≡ None
+no_sign_at_bound g n ts rest (inl e) = no_sign_at_name g n ts rest e
+no_sign_at_bound g n ts rest (inr e) = no_sign_at_inner g n ts rest e
 
 -- ---- places
 
@@ -75,75 +109,152 @@ declares most names n room short new =
     let fits : (nat_lt (length names) most && nat_le (length n) 32) ≡ true = grind (arith, nat_tests) in
     rw (absent, fits) refl
 
+-- ---- names in scope
+
+-- names of one kind are distinct, and inner names are apart from registers
+pub record InScope (s : Names) : Type 0 where
+  pub channels : AreDistinct s.channels
+  pub registers : AreDistinct s.registers
+  pub inners : AreDistinct s.inners
+  pub apart : AllByRecursion (λ n. IsNew n s.registers) s.inners
+
+pub one_more_in_scope : (s : Names) (n : List ℕ) → InScope s → IsFree s n → InScope (with_inner s n)
+one_more_in_scope s n keeps free = record {
+  channels = keeps.channels;
+  registers = keeps.registers;
+  inners = distinct_push s.inners n keeps.inners free.no_inner;
+  apart = AllByRecursion-append (λ x. IsNew x s.registers) s.inners n keeps.apart free.no_register;
+}
+
+pub binds : (s : Names) (n : List ℕ) → IsFree s n → bound_in s n ≡ Some (with_inner s n)
+unfolding bound_in
+binds s n free =
+    let short : nat_le (length n) 32 ≡ true = grind (arith, nat_tests, free.short) in
+    rw (place_absent s.channels n free.no_channel, place_absent s.registers n free.no_register, place_absent s.inners n free.no_inner, short) refl
+
 -- ---- expressions
 
--- a tuple has at most four calculations
-abbrev pub most_of : Expression → Type 0
-most_of (whole x) = Unit {0}
-most_of (tuple cs) = length cs ≤ 4
+place_is_read : (d : ℕ) (ts rest : List Token) → d ≤ 3 → spells_integer (pos d) ts rest → read_place ts ≡ Some (d, rest)
+unfolding read_place integer_first
+place_is_read d ts rest most h = let small : nat_le d 3 ≡ true = grind (arith, nat_tests, most) in rw (h.2, h.1, small) refl
 
-abbrev pub most_in : Term → Type 0
-most_in (always e) = most_of e
-most_in (send p e) = most_of e
-most_in t = Unit {0}
+pub no_dot_at_expression : (s : Names) (x : Expression) (ts rest : List Token) → spells_expression true s x ts rest → sign_first signs.Dot ts ≡ None
+no_dot_at_expression s (whole (register r)) ts rest h = no_sign_at_name signs.Dot h.0 ts rest h.1.1
+no_dot_at_expression s (whole (name l)) ts rest h = no_sign_at_bound signs.Dot h.0 ts rest h.1.1
+no_dot_at_expression s (whole (known v)) ts rest h = absurd h
+no_dot_at_expression s (tuple cs) ts rest h = other_sign signs.Dot signs.Open ts h.0 h.1 refl
 
-module _ (channels registers : List (List ℕ)) (known_channels : AreDistinct channels) (known_registers : AreDistinct registers) where
-  pub channel_is_read : (c : ℕ) (ts rest : List Token) → spells_primitive true (names_of channels registers) (chan c) ts rest → read_channel channels ts ≡ Some (chan c, rest)
-  unfolding read_channel
-  channel_is_read c ts rest h = rw (h.1.1, takes_name h.0 rest, place_found channels c h.0 known_channels h.1.0) refl
+no_close_at_variable : (s : Names) (x : Variable) (ts rest : List Token) → spells_variable true s x ts rest → sign_first signs.Close ts ≡ None
+no_close_at_variable s (register r) ts rest h = no_sign_at_name signs.Close h.0 ts rest h.1.1
+no_close_at_variable s (name l) ts rest h = no_sign_at_bound signs.Close h.0 ts rest h.1.1
+no_close_at_variable s (known v) ts rest h = absurd h
 
-  pub primitive_is_read : (p : Primitive) (ts rest : List Token) → IsPlain (one p) → spells_primitive true (names_of channels registers) p ts rest → read_primitive channels ts ≡ Some (p, rest)
-  unfolding read_primitive integer_of
-  primitive_is_read (int z) ts rest plain h = rw (h.1.2, takes_integer h.1.0 rest, h.1.1, h.0) refl
-  primitive_is_read (chan c) ts rest plain h =
-      let none : integer_first ts ≡ None = ap integer_first h.1.1 ∙ no_integer h.0 rest in
-      rw none (channel_is_read c ts rest h)
-  primitive_is_read (part x d) ts rest plain h = absurd plain
+no_close_at_primitive : (s : Names) (p : Primitive) (ts rest : List Token) → spells_primitive true s p ts rest → sign_first signs.Close ts ≡ None
+no_close_at_primitive s (int z) ts rest h = no_sign_at_integer signs.Close h.1.0 ts rest h.1.2
+no_close_at_primitive s (chan c) ts rest h = no_sign_at_name signs.Close h.0 ts rest h.1.1
+no_close_at_primitive s (part x d) ts rest h = no_close_at_variable s x ts h.1.0 h.1.1
 
-  -- a primitive begins with an integer or a name, and with no sign
-  no_close : (p : Primitive) (ts rest : List Token) → IsPlain (one p) → spells_primitive true (names_of channels registers) p ts rest → sign_first signs.Close ts ≡ None
-  unfolding sign_first
-  no_close (int z) ts rest plain h = rw h.1.2 refl
-  no_close (chan c) ts rest plain h = rw h.1.1 refl
-  no_close (part x d) ts rest plain h = absurd plain
+no_close_at_calculation : (s : Names) (c : Calculation) (ts rest : List Token) → spells_calculation true s c ts rest → sign_first signs.Close ts ≡ None
+no_close_at_calculation s (one p) ts rest h = no_close_at_primitive s p ts rest h
+no_close_at_calculation s (both o p q) ts rest h = no_close_at_primitive s p ts h.0 h.1
 
-  pub calculations_are_read : (left : ℕ) (c : Calculation) (cs : List Calculation) (ts rest : List Token) → length (c ∷ cs) ≤ left → AllByRecursion IsPlain (c ∷ cs) → spells_inside true (names_of channels registers) (c ∷ cs) ts rest → read_calculations left channels ts ≡ Some (c ∷ cs, rest)
-  unfolding read_calculations sign_first
-  calculations_are_read zero c cs ts rest most plain h = absurd (omega arith)
-  calculations_are_read (suc left) (both o p q) cs ts rest most plain h = absurd plain.0
-  calculations_are_read (suc left) (one p) [] ts rest most plain h = rw (primitive_is_read p ts h.0 plain.0 h.1, h.2) refl
-  calculations_are_read (suc left) (one p) (d ∷ ds) ts rest most plain h =
+pub takes_arith : (o : Arith) (ts rest : List Token) → ts ≡ sign (arith_sign o) ∷ rest → arith_first ts ≡ Some (o, rest)
+unfolding arith_first sign_first
+takes_arith ariths.Add ts rest e = rw e refl
+takes_arith ariths.Sub ts rest e = rw e refl
+takes_arith ariths.Mul ts rest e = rw e refl
+
+no_dot_at_arith : (o : Arith) (ts rest : List Token) → ts ≡ sign (arith_sign o) ∷ rest → sign_first signs.Dot ts ≡ None
+no_dot_at_arith ariths.Add ts rest e = other_sign signs.Dot signs.Plus ts rest e refl
+no_dot_at_arith ariths.Sub ts rest e = other_sign signs.Dot signs.Minus ts rest e refl
+no_dot_at_arith ariths.Mul ts rest e = other_sign signs.Dot signs.Star ts rest e refl
+
+no_arith : (g : Sign) (ts rest : List Token) → ts ≡ sign g ∷ rest → (g ≡ signs.Close) ⊎ (g ≡ signs.Comma) → (sign_first signs.Dot ts ≡ None) × (arith_first ts ≡ None)
+unfolding arith_first sign_first
+no_arith g ts rest e (inl f) = rw (e, f) (refl, refl)
+no_arith g ts rest e (inr f) = rw (e, f) (refl, refl)
+
+-- what goes on behind a calculation
+behind_calculation : (s : Names) (cs : List Calculation) (ts rest : List Token) → spells_further true s cs ts rest → (sign_first signs.Dot ts ≡ None) × (arith_first ts ≡ None)
+behind_calculation s [] ts rest h = no_arith signs.Close ts rest h (inl refl)
+behind_calculation s (c ∷ cs) ts rest h = no_arith signs.Comma ts h.0 h.1 (inr refl)
+
+module _ (s : Names) (keeps : InScope s) where
+  register_named : (r : ℕ) (n : List ℕ) → IsAt s.registers r n → variable_named s n ≡ Some (register r)
+  unfolding variable_named
+  register_named r n at = rw (place_found s.registers r n keeps.registers at) refl
+
+  inner_named : (l : ℕ) (n : List ℕ) → IsAt s.inners l n → variable_named s n ≡ Some (name l)
+  unfolding variable_named
+  inner_named l n at = rw (place_absent s.registers n (all_at (λ x. IsNew x s.registers) s.inners l n keeps.apart at), place_found s.inners l n keeps.inners at) refl
+
+  at_name : (n : List ℕ) (ts behind : List Token) → ts ≡ tokens.name n ∷ behind → read_primitive s ts ≡ read_named s n behind
+  unfolding read_primitive integer_first name_first
+  at_name n ts behind e = rw e refl
+
+  at_inner : (n : List ℕ) (ts behind : List Token) → ts ≡ tokens.inner n ∷ behind → read_primitive s ts ≡ read_inner_part s ts
+  unfolding read_primitive integer_first name_first
+  at_inner n ts behind e = rw e refl
+
+  named_channel : (c : ℕ) (n : List ℕ) (ts : List Token) → sign_first signs.Dot ts ≡ None → place_of s.channels n ≡ Some c → read_named s n ts ≡ Some (chan c, ts)
+  unfolding read_named
+  named_channel c n ts e f = rw (e, f) refl
+
+  named_part : (x : Variable) (d : ℕ) (n : List ℕ) (ts behind rest : List Token) → sign_first signs.Dot ts ≡ Some behind → variable_named s n ≡ Some x → read_place behind ≡ Some (d, rest) → read_named s n ts ≡ Some (part x d, rest)
+  unfolding read_named
+  named_part x d n ts behind rest e f g = rw (e, f, g) refl
+
+  inner_part : (l d : ℕ) (n : List ℕ) (ts middle behind rest : List Token) → ts ≡ tokens.inner n ∷ middle → place_of s.inners n ≡ Some l → sign_first signs.Dot middle ≡ Some behind → read_place behind ≡ Some (d, rest) → read_inner_part s ts ≡ Some (part (name l) d, rest)
+  unfolding read_inner_part inner_first
+  inner_part l d n ts middle behind rest e f g h = rw (e, f, g, h) refl
+
+  part_is_read : (x : Variable) (d : ℕ) (ts middle behind rest : List Token) → spells_variable true s x ts middle → sign_first signs.Dot middle ≡ Some behind → read_place behind ≡ Some (d, rest) → read_primitive s ts ≡ Some (part x d, rest)
+  part_is_read (register r) d ts middle behind rest h dot place = at_name h.0 ts middle h.1.1 ∙ named_part (register r) d h.0 middle behind rest dot (register_named r h.0 h.1.0) place
+  part_is_read (name l) d ts middle behind rest h dot place = by h.1.1 where
+    by : bound h.0 ts middle → read_primitive s ts ≡ Some (part (name l) d, rest)
+    by (inl e) = at_name h.0 ts middle e ∙ named_part (name l) d h.0 middle behind rest dot (inner_named l h.0 h.1.0) place
+    by (inr e) = at_inner h.0 ts middle e ∙ inner_part l d h.0 ts middle behind rest e (place_found s.inners l h.0 keeps.inners h.1.0) dot place
+  part_is_read (known v) d ts middle behind rest h dot place = absurd h
+
+  pub primitive_is_read : (p : Primitive) (ts rest : List Token) → spells_primitive true s p ts rest → sign_first signs.Dot rest ≡ None → read_primitive s ts ≡ Some (p, rest)
+  unfolding read_primitive integer_of integer_first
+  primitive_is_read (int z) ts rest h no_dot = rw (h.1.2, h.1.1, h.0) refl
+  primitive_is_read (chan c) ts rest h no_dot = at_name h.0 ts rest h.1.1 ∙ named_channel c h.0 rest no_dot (place_found s.channels c h.0 keeps.channels h.1.0)
+  primitive_is_read (part x d) ts rest h no_dot =
+      let a = h.1 in
+      let b = a.2 in
+      part_is_read x d ts a.0 b.0 rest a.1 (takes_sign signs.Dot a.0 b.0 b.1) (place_is_read d b.0 rest h.0 b.2)
+
+  pub calculation_is_read : (c : Calculation) (ts rest : List Token) → spells_calculation true s c ts rest → (sign_first signs.Dot rest ≡ None) × (arith_first rest ≡ None) → read_calculation s ts ≡ Some (c, rest)
+  unfolding read_calculation
+  calculation_is_read (one p) ts rest h ends = rw (primitive_is_read p ts rest h ends.0, ends.1) refl
+  calculation_is_read (both o p q) ts rest h ends =
+      let a = h.2 in
+      rw (primitive_is_read p ts h.0 h.1 (no_dot_at_arith o h.0 a.0 a.1), takes_arith o h.0 a.0 a.1, primitive_is_read q a.0 rest a.2 ends.0) refl
+
+  pub calculations_are_read : (left : ℕ) (c : Calculation) (cs : List Calculation) (ts rest : List Token) → length (c ∷ cs) ≤ left → spells_inside true s (c ∷ cs) ts rest → read_calculations left s ts ≡ Some (c ∷ cs, rest)
+  unfolding read_calculations
+  calculations_are_read zero c cs ts rest most h = absurd (omega arith)
+  calculations_are_read (suc left) c [] ts rest most h =
+      rw (calculation_is_read c ts h.0 h.1 (behind_calculation s [] h.0 rest h.2), takes_sign signs.Close h.0 rest h.2) refl
+  calculations_are_read (suc left) c (d ∷ ds) ts rest most h =
       let after = h.2 in
-      let later = calculations_are_read left d ds after.0 rest (omega arith) plain.1 after.2 in
-      rw (primitive_is_read p ts h.0 plain.0 h.1, after.1, later) refl
+      let later = calculations_are_read left d ds after.0 rest (omega arith) after.2 in
+      rw (calculation_is_read c ts h.0 h.1 (behind_calculation s (d ∷ ds) h.0 rest h.2), other_sign signs.Close signs.Comma h.0 after.0 after.1 refl, takes_sign signs.Comma h.0 after.0 after.1, later) refl
 
-  pub tuple_is_read : (cs : List Calculation) (ts rest : List Token) → length cs ≤ 4 → AllByRecursion IsPlain cs → spells_inside true (names_of channels registers) cs ts rest → read_tuple channels ts ≡ Some (cs, rest)
-  unfolding read_tuple sign_first
-  tuple_is_read [] ts rest most plain h = rw h refl
-  tuple_is_read (both o p q ∷ cs) ts rest most plain h = absurd plain.0
-  tuple_is_read (one p ∷ cs) ts rest most plain h = rw (no_close p ts h.0 plain.0 h.1) (calculations_are_read 4 (one p) cs ts rest most plain h)
+  pub tuple_is_read : (cs : List Calculation) (ts rest : List Token) → length cs ≤ 4 → spells_inside true s cs ts rest → read_tuple s ts ≡ Some (cs, rest)
+  unfolding read_tuple
+  tuple_is_read [] ts rest most h = rw (takes_sign signs.Close ts rest h) refl
+  tuple_is_read (c ∷ cs) ts rest most h = rw (no_close_at_calculation s c ts h.0 h.1) (calculations_are_read 4 c cs ts rest most h)
 
-  pub expression_is_read : (x : Expression) (ts rest : List Token) → most_of x → IsPlainExpression x → spells_expression true (names_of channels registers) x ts rest → read_expression channels registers ts ≡ Some (x, rest)
-  unfolding read_expression name_first sign_first
-  expression_is_read (whole (register r)) ts rest most plain h = rw (h.1.1, place_found registers r h.0 known_registers h.1.0) refl
-  expression_is_read (whole (name l)) ts rest most plain h = absurd plain
-  expression_is_read (whole (known v)) ts rest most plain h = absurd plain
-  expression_is_read (tuple cs) ts rest most plain h = rw (h.1, tuple_is_read cs h.0 rest most plain h.2) refl
-
-  pub event_is_read : (t : Term) (ts rest : List Token) → most_in t → IsPlainEvent t → spells_event true alone (names_of channels registers) t ts rest → read_event channels registers ts ≡ Some (t, rest)
-  unfolding read_event word_first
-  event_is_read (always e) ts rest most plain h = rw (h.1, expression_is_read e h.0 rest most plain h.2) refl
-  event_is_read (send (chan c) e) ts rest most plain h =
-      let inside = h.2 in
-      rw (h.1, channel_is_read c h.0 inside.0 inside.1, expression_is_read e inside.0 rest most plain inside.2) refl
-  event_is_read (send (int z) e) ts rest most plain h = absurd plain
-  event_is_read (send (part x d) e) ts rest most plain h = absurd plain
-  event_is_read (recv (chan c)) ts rest most plain h = rw (h.1, channel_is_read c h.0 rest h.2) refl
-  event_is_read (recv (int z)) ts rest most plain h = absurd plain
-  event_is_read (recv (part x d)) ts rest most plain h = absurd plain
-  event_is_read never ts rest most plain h = absurd plain
-  event_is_read (throw e) ts rest most plain h = absurd plain
-  event_is_read (and_then e n f) ts rest most plain h = absurd plain
-  event_is_read (choose e f) ts rest most plain h = absurd plain
-  event_is_read (catch e n f) ts rest most plain h = absurd plain
-  event_is_read (when test p q e f) ts rest most plain h = absurd plain
+  pub expression_is_read : (scope : Scope) (x : Expression) (ts rest : List Token) → IsExpression scope x → spells_expression true s x ts rest → read_expression s ts ≡ Some (x, rest)
+  unfolding read_expression name_first inner_first
+  expression_is_read scope (whole (register r)) ts rest scoped h = rw (h.1.1, register_named r h.0 h.1.0) refl
+  expression_is_read scope (whole (name l)) ts rest scoped h = by h.1.1 where
+    by : bound h.0 ts rest → read_expression s ts ≡ Some (whole (name l), rest)
+    by (inl e) = rw (e, inner_named l h.0 h.1.0) refl
+    by (inr e) = rw (e, place_found s.inners l h.0 keeps.inners h.1.0) refl
+  expression_is_read scope (whole (known v)) ts rest scoped h = absurd h
+  expression_is_read scope (tuple cs) ts rest scoped h =
+      let opened = takes_sign signs.Open (sign signs.Open ∷ h.0) h.0 refl in
+      rw (h.1, opened, tuple_is_read cs h.0 rest scoped.1 h.2) refl

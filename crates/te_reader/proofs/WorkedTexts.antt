@@ -1,19 +1,24 @@
--- Worked texts: one that is a text of its program, and two that are texts of none.
+-- Worked texts: two that are texts of their programs, and two that are texts of none.
 use Rattle.std.proofs.Common.{◌≡◌, ℕ, ◌<◌, Bool, true, List, [], ◌∷◌, length, refl, sym, ◌∙◌, ap, subst, arith}
 use Rattle.std.specs.Prelude.{Some, codes, pos}
-use Rattle.te_terms.specs.Expressions.{register, name, known, int, chan, one, whole, tuple}
-use Rattle.te_terms.specs.Terms.{send, recv}
+use Rattle.te_terms.specs.declared.expr.Arith.TheVariants as ariths
+use Rattle.te_terms.specs.declared.expr.Test.TheVariants as tests
+use Rattle.te_terms.specs.Expressions.{register, name, known, int, chan, part, one, both, whole, tuple}
+use Rattle.te_terms.specs.Terms.{always, never, throw, send, recv, and_then, choose, catch, when}
 use Rattle.te_script.specs.Scripts.{Statement, sync, emit, Thread, Program, AreDistinct}
 use Rattle.te_reader.specs.declared.token.Word.TheVariants as words
 use Rattle.te_reader.specs.declared.token.Sign.TheVariants as signs
 use Rattle.te_reader.specs.Tokens as tokens
 use Rattle.te_reader.specs.Tokens.{Token, word, sign}
 use Rattle.te_reader.specs.Lexed.{reserved_as, lexed_behind, lexed}
-use Rattle.te_reader.specs.Heads.{word_first, sign_first, name_first, integer_first}
+use Rattle.te_reader.specs.Heads.{word_first, sign_first, name_first, inner_first, bound_first, integer_first}
 use Rattle.te_reader.specs.Grammar.{spells_statements, spells_threads, spells_channels, spells_program}
 use Rattle.te_reader.specs.Text.{Text}
 use Rattle.te_reader.specs.FirstForm.{First}
-use Rattle.te_reader.specs.Reads.{place_of, declared_in, integer_of, read_channel, read_primitive, read_calculations, read_tuple, read_expression, read_event, read_sync, register_of, read_emit, read_statement, read_body, read_thread, read_new_thread, read_threads, read_names, read_channels, read_program, read_text}
+use Rattle.te_reader.specs.NameReads.{place_of, declared_in, integer_of, variable_named, bound_in}
+use Rattle.te_reader.specs.ExpressionReads.{read_place, read_inner_part, read_named, read_primitive, arith_first, read_calculation, read_calculations, read_tuple, read_expression}
+use Rattle.te_reader.specs.EventReads.{read_leaf, made, read_braced, read_part, read_do, read_second, read_choose, read_try, test_first, read_condition, read_if, read_one, read_alone, read_in_do, read_in_choose, read_event}
+use Rattle.te_reader.specs.Reads.{read_sync, register_of, read_emit, read_statement, read_body, read_thread, read_new_thread, read_threads, read_names, read_channels, read_program, read_text}
 use Rattle.te_reader.proofs.SpelledIsLexed.{spelled_is_lexed}
 use Rattle.te_reader.proofs.TextIsRead.{text_is_read}
 
@@ -33,11 +38,38 @@ exchange = record {
 }
 
 exchange_is_read : read_text exchange_text ≡ Some exchange
-unfolding reserved_as lexed_behind word_first sign_first name_first integer_first place_of declared_in integer_of read_channel read_primitive read_calculations read_tuple read_expression read_event read_sync register_of read_emit read_statement read_body read_thread read_new_thread read_threads read_names read_channels read_program read_text
+unfolding reserved_as lexed_behind word_first sign_first name_first inner_first bound_first integer_first place_of declared_in integer_of variable_named read_place read_inner_part read_named read_primitive arith_first read_calculation read_calculations read_tuple read_expression read_leaf made bound_in read_braced read_part read_do read_second read_choose read_try test_first read_condition read_if read_one read_alone read_in_do read_in_choose read_event read_sync register_of read_emit read_statement read_body read_thread read_new_thread read_threads read_names read_channels read_program read_text
 exchange_is_read = refl
 
 pub exchange_has_its_text : Text exchange_text exchange × First exchange
-exchange_has_its_text = text_is_read exchange_text exchange exchange_is_read
+exchange_has_its_text = (text_is_read exchange_text exchange exchange_is_read, (((tt, tt), tt), ((tt, (tt, tt)), tt)))
+
+-- ---- what is raised in a part of a `do` is caught
+
+abbrev pub caught_text : List ℕ
+caught_text = codes "channels c; thread a { x <- sync try { do { _0 <- recv c; throw (_0.0 + 1) } } catch u { choose { always u | if u.0 < 3 { always () } else { never } } }; }"
+
+abbrev pub caught : Program
+caught = record {
+  channels = codes "c" ∷ [];
+  threads =
+      record {
+        name = codes "a";
+        registers = codes "x" ∷ [];
+        statements =
+            sync 0
+            (catch (and_then (recv (chan 0)) 0 (throw (tuple (both ariths.Add (part (name 0) 0) (int (pos 1)) ∷ [])))) 0
+            (choose (always (whole (name 0))) (when tests.Less (part (name 0) 0) (int (pos 3)) (always (tuple [])) never))) ∷ [];
+      }
+      ∷ [];
+}
+
+caught_is_read : read_text caught_text ≡ Some caught
+unfolding reserved_as lexed_behind word_first sign_first name_first inner_first bound_first integer_first place_of declared_in integer_of variable_named read_place read_inner_part read_named read_primitive arith_first read_calculation read_calculations read_tuple read_expression read_leaf made bound_in read_braced read_part read_do read_second read_choose read_try test_first read_condition read_if read_one read_alone read_in_do read_in_choose read_event read_sync register_of read_emit read_statement read_body read_thread read_new_thread read_threads read_names read_channels read_program read_text
+caught_is_read = refl
+
+pub caught_has_its_text : Text caught_text caught
+caught_has_its_text = text_is_read caught_text caught caught_is_read
 
 -- ---- a register that no statement wrote
 

@@ -1,7 +1,8 @@
 -- What was read before, in front of what is read yet.
 use Rattle.std.specs.Prelude.{List, ◌++◌, Some, None}
 use Rattle.te_script.specs.Scripts.{Statement}
-use Rattle.te_reader.specs.Reads.{Read, Body}
+use Rattle.te_reader.specs.NameReads.{Read}
+use Rattle.te_reader.specs.Reads.{Body}
 
 abbrev pub behind : {A : Type 0} → List A → Read (List A) → Read (List A)
 behind done None = None

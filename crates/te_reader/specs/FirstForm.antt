@@ -1,8 +1,13 @@
 -- Programs of the first form: one node an event, declared channels, and expressions without arithmetic or places.
 use Rattle.std.specs.List.{AllByRecursion}
-use Rattle.te_terms.specs.Expressions.{int, chan, Calculation, one, Expression, whole, tuple, register}
+use Rattle.te_terms.specs.Expressions.{Primitive, int, chan, Calculation, one, Expression, whole, tuple, register}
 use Rattle.te_terms.specs.Terms.{Term, always, send, recv}
 use Rattle.te_script.specs.Scripts.{Statement, sync, emit, Program}
+
+-- a declared channel
+abbrev pub IsChannel : Primitive → Type 0
+IsChannel (chan c) = Unit {0}
+IsChannel _ = ⊥
 
 -- an integer or a channel
 abbrev pub IsPlain : Calculation → Type 0

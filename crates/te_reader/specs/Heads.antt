@@ -5,7 +5,7 @@ use Rattle.te_reader.specs.declared.token.Word.{Word}
 use Rattle.te_reader.specs.declared.token.Word.TheVariants as words
 use Rattle.te_reader.specs.declared.token.Sign.{Sign}
 use Rattle.te_reader.specs.declared.token.Sign.TheVariants as signs
-use Rattle.te_reader.specs.Tokens.{Token, word, name, integer, sign}
+use Rattle.te_reader.specs.Tokens.{Token, word, name, inner, integer, sign}
 use Rattle.te_reader.specs.Lexed.{Stream}
 
 -- ---- words and signs by number
@@ -58,6 +58,16 @@ sign_first s _ = None
 unfoldable pub name_first : List Token → Option (List ℕ × List Token)
 name_first (name n ∷ ts) = Some (n, ts)
 name_first _ = None
+
+unfoldable pub inner_first : List Token → Option (List ℕ × List Token)
+inner_first (inner n ∷ ts) = Some (n, ts)
+inner_first _ = None
+
+-- a NAME or an INNER
+unfoldable pub bound_first : List Token → Option (List ℕ × List Token)
+bound_first (name n ∷ ts) = Some (n, ts)
+bound_first (inner n ∷ ts) = Some (n, ts)
+bound_first _ = None
 
 unfoldable pub integer_first : List Token → Option (List ℕ × List Token)
 integer_first (integer n ∷ ts) = Some (n, ts)

@@ -145,4 +145,5 @@ IsOneSign l p = ⊥
 -- a name has a byte
 abbrev pub HasByte : Lexeme → Type 0
 HasByte (lexemes.Name n) = 0 < length n.now
+HasByte (lexemes.Inner n) = 0 < length n.now
 HasByte l = Unit {0}

@@ -5,6 +5,10 @@ pub mod Integers
 pub mod Grammar
 pub mod Text
 pub mod FirstForm
+pub mod NameReads
+pub mod ExpressionReads
+pub mod EventReads
 pub mod Reads
+pub mod Answering
 pub mod Behind
 pub mod ChannelIndex

@@ -1,139 +1,17 @@
--- What the reader of the first form answers, as functions of the tokens. Contracts inside this crate cite it.
-use Rattle.std.specs.Prelude.{◌≡◌, ℕ, zero, suc, Bool, true, false, List, [], ◌∷◌, ◌++◌, length, ℤ, nat_lt, nat_le, ◌&&◌, Option, Some, None, Result, Ok, Err, option_and_then, if◌then◌else◌}
-use Rattle.std.specs.List.{position}
-use Rattle.std.specs.Str.{bytes_eq}
-use Rattle.te_terms.specs.Values.{fits_i64}
-use Rattle.te_terms.specs.Expressions.{register, Primitive, int, chan, Calculation, one, Expression, whole, tuple}
-use Rattle.te_terms.specs.declared.code.Node.{Node}
-use Rattle.te_terms.specs.Codes.{term_under}
-use Rattle.te_terms.specs.Terms.{Term, always, send, recv}
+-- What scripts are read as, as functions of the tokens. Contracts inside this crate cite it.
+use Rattle.std.specs.Prelude.{ℕ, zero, suc, Bool, true, false, List, [], ◌∷◌, ◌++◌, length, nat_lt, nat_le, Option, Some, None}
+use Rattle.te_terms.specs.Expressions.{Expression}
+use Rattle.te_terms.specs.Terms.{Term}
 use Rattle.te_script.specs.Scripts.{Statement, sync, emit, Thread, Program}
-use Rattle.te_reader.specs.declared.fault.ScriptFault.{ScriptFault}
-use Rattle.te_reader.specs.declared.fault.ScriptFault.TheVariants as faults
 use Rattle.te_reader.specs.declared.token.Word.TheVariants as words
 use Rattle.te_reader.specs.declared.token.Sign.TheVariants as signs
 use Rattle.te_reader.specs.Tokens.{Token}
-use Rattle.te_reader.specs.Lexed.{Stream, lexed}
-use Rattle.te_reader.specs.Heads.{word_first, sign_first, name_first, integer_first}
-use Rattle.te_reader.specs.Integers.{integer_value}
-
-infixl 10 ◌>>=◌
-abbrev pub ◌>>=◌ : {A B : Type 0} → Option A → (A → Option B) → Option B
-o >>= f = option_and_then f o
-
--- what was read, and the tokens behind it
-abbrev pub Read : Type 0 → Type 0
-Read A = Option (A × List Token)
-
--- what is read must be what a call answers, with the tokens behind it; want of memory tells nothing
-abbrev pub Answers : {R X : Type 0} → Result R ScriptFault → (R → X) → Stream → Stream → Read X → Type 0
-Answers (Ok r) seen old new o = (o ≡ Some (seen r, new.tokens)) × (new.whole ≡ old.whole)
-Answers (Err faults.Refused) seen old new o = o ≡ None
-Answers (Err faults.Memory) seen old new o = Unit {0}
-
-abbrev pub checked : Bool → Option (Unit {0})
-checked true = Some tt
-checked false = None
-
--- ---- names and integers
-
--- the first place of a name
-unfoldable pub place_of : List (List ℕ) → List ℕ → Option ℕ
-place_of names n = position (λ x. bytes_eq x n) names
-
-abbrev pub if_absent : Option ℕ → Option (Unit {0})
-if_absent None = Some tt
-if_absent (Some i) = None
-
--- a list with one name more, which is short and not yet among them
-unfoldable pub declared_in : ℕ → List (List ℕ) → List ℕ → Option (List (List ℕ))
-declared_in most names n = do
-  _ ← if_absent (place_of names n)
-  _ ← checked (nat_lt (length names) most && nat_le (length n) 32)
-  Some (names ++ n ∷ [])
-
--- an integer, where it is one of 64 bits
-abbrev pub fitting : ℤ → Option ℤ
-fitting z = if fits_i64 z then Some z else None
-
-unfoldable pub integer_of : List ℕ → Option ℤ
-integer_of spelling = fitting (integer_value spelling)
-
--- ---- expressions
-
-unfoldable pub read_channel : List (List ℕ) → List Token → Read Primitive
-read_channel channels ts = do
-  n ← name_first ts
-  c ← place_of channels n.0
-  Some (chan c, n.1)
-
-abbrev pub integer_or_channel : List (List ℕ) → List Token → Read (List ℕ) → Read Primitive
-integer_or_channel channels ts (Some d) = do
-  z ← integer_of d.0
-  Some (int z, d.1)
-integer_or_channel channels ts None = read_channel channels ts
-
-unfoldable pub read_primitive : List (List ℕ) → List Token → Read Primitive
-read_primitive channels ts = integer_or_channel channels ts (integer_first ts)
-
--- the end of a tuple, or a comma and more
-abbrev pub end_or_more : Calculation → List Token → (List Token → Read (List Calculation)) → Option (List Token) → Read (List Calculation)
-end_or_more c ts more (Some rest) = Some (c ∷ [], rest)
-end_or_more c ts more None = do
-  behind ← sign_first signs.Comma ts
-  cs ← more behind
-  Some (c ∷ cs.0, cs.1)
-
--- at least one calculation and at most so many, up to the tuple's end
-unfoldable pub read_calculations : ℕ → List (List ℕ) → List Token → Read (List Calculation)
-read_calculations zero channels ts = None
-read_calculations (suc left) channels ts = do
-  p ← read_primitive channels ts
-  end_or_more (one p.0) p.1 (read_calculations left channels) (sign_first signs.Close p.1)
-
-abbrev pub empty_or_calculations : List (List ℕ) → List Token → Option (List Token) → Read (List Calculation)
-empty_or_calculations channels ts (Some rest) = Some ([], rest)
-empty_or_calculations channels ts None = read_calculations 4 channels ts
-
--- the inside of a tuple
-unfoldable pub read_tuple : List (List ℕ) → List Token → Read (List Calculation)
-read_tuple channels ts = empty_or_calculations channels ts (sign_first signs.Close ts)
-
-abbrev pub register_or_tuple : List (List ℕ) → List (List ℕ) → List Token → Read (List ℕ) → Read Expression
-register_or_tuple channels registers ts (Some n) = do
-  r ← place_of registers n.0
-  Some (whole (register r), n.1)
-register_or_tuple channels registers ts None = do
-  inside ← sign_first signs.Open ts
-  cs ← read_tuple channels inside
-  Some (tuple cs.0, cs.1)
-
-unfoldable pub read_expression : List (List ℕ) → List (List ℕ) → List Token → Read Expression
-read_expression channels registers ts = register_or_tuple channels registers ts (name_first ts)
-
--- ---- events
-
-abbrev pub read_recv : List (List ℕ) → List Token → Read Term
-read_recv channels ts = do
-  behind ← word_first words.Recv ts
-  p ← read_channel channels behind
-  Some (recv p.0, p.1)
-
-abbrev pub send_or_recv : List (List ℕ) → List (List ℕ) → List Token → Option (List Token) → Read Term
-send_or_recv channels registers ts (Some behind) = do
-  p ← read_channel channels behind
-  e ← read_expression channels registers p.1
-  Some (send p.0 e.0, e.1)
-send_or_recv channels registers ts None = read_recv channels ts
-
-abbrev pub always_or_other : List (List ℕ) → List (List ℕ) → List Token → Option (List Token) → Read Term
-always_or_other channels registers ts (Some behind) = do
-  e ← read_expression channels registers behind
-  Some (always e.0, e.1)
-always_or_other channels registers ts None = send_or_recv channels registers ts (word_first words.Send ts)
-
-unfoldable pub read_event : List (List ℕ) → List (List ℕ) → List Token → Read Term
-read_event channels registers ts = always_or_other channels registers ts (word_first words.Always ts)
+use Rattle.te_reader.specs.Lexed.{lexed}
+use Rattle.te_reader.specs.Heads.{word_first, sign_first, name_first}
+use Rattle.te_reader.specs.Grammar.{alone}
+use Rattle.te_reader.specs.NameReads.{◌>>=◌, Read, checked, place_of, if_absent, declared_in, names_of}
+use Rattle.te_reader.specs.ExpressionReads.{read_expression}
+use Rattle.te_reader.specs.EventReads.{read_event}
 
 -- ---- statements
 
@@ -142,7 +20,7 @@ unfoldable pub read_sync : List (List ℕ) → List (List ℕ) → List Token �
 read_sync channels registers ts = do
   a ← sign_first signs.Arrow ts
   b ← word_first words.Sync a
-  t ← read_event channels registers b
+  t ← read_event 32 alone (names_of channels registers) 0 b
   rest ← sign_first signs.Semicolon t.1
   Some (t.0, rest)
 
@@ -160,7 +38,7 @@ register_of channels registers n = do
 
 unfoldable pub read_emit : List (List ℕ) → List (List ℕ) → List Token → Read Expression
 read_emit channels registers ts = do
-  e ← read_expression channels registers ts
+  e ← read_expression (names_of channels registers) ts
   rest ← sign_first signs.Semicolon e.1
   Some (e.0, rest)
 
@@ -275,31 +153,3 @@ read_text bytes = do
   p ← read_program (lexed bytes).tokens
   _ ← if_end (lexed bytes).whole p.1
   Some p.0
-
--- ---- contracts
-
--- the first node of a code, as a term
-abbrev pub leaf : Node → Term
-leaf node = term_under (node ∷ []) 0
-
--- names with one more, or what refused it
-abbrev pub Declares : Result (Unit {0}) ScriptFault → List (List ℕ) → Option (List (List ℕ)) → Type 0
-Declares (Ok u) new o = o ≡ Some new
-Declares (Err faults.Refused) new o = o ≡ None
-Declares (Err faults.Memory) new o = Unit {0}
-
-abbrev pub DeclaresChannel : Result (List (List ℕ)) ScriptFault → Option (List (List ℕ)) → Type 0
-DeclaresChannel (Ok more) o = o ≡ Some more
-DeclaresChannel (Err faults.Refused) o = o ≡ None
-DeclaresChannel (Err faults.Memory) o = Unit {0}
-
-abbrev pub DeclaresRegister : Result ℕ ScriptFault → List (List ℕ) → Option (ℕ × List (List ℕ)) → Type 0
-DeclaresRegister (Ok r) new o = o ≡ Some (r, new)
-DeclaresRegister (Err faults.Refused) new o = o ≡ None
-DeclaresRegister (Err faults.Memory) new o = Unit {0}
-
--- the program of a script, or none where it is refused
-abbrev pub AnswersText : Result Program ScriptFault → Option Program → Type 0
-AnswersText (Ok p) o = o ≡ Some p
-AnswersText (Err faults.Refused) o = o ≡ None
-AnswersText (Err faults.Memory) o = Unit {0}

@@ -1,5 +1,6 @@
 ghost use Rattle.std.specs.Prelude.{◌≡◌, ◌↔◌, ◌<◌, ◌≤◌, [], length, IsTrue};
-ghost use Rattle.te_reader.specs.Reads.{place_of, declared_in, DeclaresChannel};
+ghost use Rattle.te_reader.specs.NameReads.{place_of, declared_in};
+ghost use Rattle.te_reader.specs.Answering.{DeclaresChannel};
 
 use crate::fault::ScriptFault;
 use crate::names::declare;

@@ -1,5 +1,5 @@
 ghost use Rattle.std.specs.Prelude.{◌≡◌, ◌↔◌, ◌<◌, true, length, IsTrue, IfSome};
-ghost use Rattle.te_reader.specs.Heads.{word_first, sign_first, name_first, integer_first, Takes, TakesBytes, IsEnd};
+ghost use Rattle.te_reader.specs.Heads.{word_first, sign_first, name_first, inner_first, bound_first, integer_first, Takes, TakesBytes, IsEnd};
 ghost use Rattle.te_reader.specs.Lexed.{lexed};
 
 use crate::lexing::lexeme;
@@ -78,6 +78,35 @@ impl<'a> Cursor<'a> {
     {
         match self.head {
             Lexeme::Name(spelling) => {
+                *self = Cursor::new(self.rest);
+                Some(spelling)
+            }
+            _ => None,
+        }
+    }
+
+    /// Takes an inner name that begins with `_`, where one stands here.
+    #[tactic(auto, unfolding(crate::specs::Heads::inner_first))]
+    pub fn take_inner(&mut self) -> Option<&'a [u8]>
+        ensures { TakesBytes result self.old self.new (inner_first self.old.tokens) }
+    {
+        match self.head {
+            Lexeme::Inner(spelling) => {
+                *self = Cursor::new(self.rest);
+                Some(spelling)
+            }
+            _ => None,
+        }
+    }
+
+    /// Takes a name that a part of an event may bind, where one stands here.
+    #[tactic(auto, unfolding(crate::specs::Heads::bound_first))]
+    pub fn take_bound(&mut self) -> Option<&'a [u8]>
+        ensures name { TakesBytes result self.old self.new (bound_first self.old.tokens) }
+        ensures some { IfSome result (λ n. 0 < length n.now) }
+    {
+        match self.head {
+            Lexeme::Name(spelling) | Lexeme::Inner(spelling) => {
                 *self = Cursor::new(self.rest);
                 Some(spelling)
             }

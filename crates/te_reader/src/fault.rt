@@ -7,8 +7,7 @@ use te_terms::NoMemory;
 /// Why a text was not read as a script.
 #[derive(Clone, Copy, Debug, PartialEq, Eq)]
 pub enum ScriptFault {
-    /// The text is the text of no script of the first form: one node an event, declared channels, and
-    /// expressions without arithmetic or places.
+    /// The bytes are the text of no script.
     Refused,
     /// There was no memory.
     Memory,

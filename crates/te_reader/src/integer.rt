@@ -1,9 +1,9 @@
 ghost use Rattle.std.specs.Prelude.{◌≡◌, nat_le, if◌then◌else◌, pos, ◌-ℤ◌};
 ghost use Rattle.te_reader.specs.Integers.{digits_value, integer_value};
-ghost use Rattle.te_reader.specs.Reads.{fitting, integer_of};
+ghost use Rattle.te_reader.specs.NameReads.{fitting, integer_of};
 
 /// The integer of an INT token, where it is one of 64 bits.
-#[tactic(auto, unfolding(crate::specs::Reads::integer_of))]
+#[tactic(auto, unfolding(crate::specs::NameReads::integer_of))]
 pub fn integer(spelling: &[u8]) -> Option<i64>
     ensures { result ≡ integer_of spelling.now }
 {

@@ -6,16 +6,21 @@ mod cursor;
 mod event;
 mod expression;
 mod fault;
+mod first_form;
 mod integer;
 mod lexing;
 mod names;
+mod node;
 mod reserved;
+mod scope;
 mod script;
 mod statement;
 mod thread;
 mod token;
 
 pub use fault::ScriptFault;
+#[doc(hidden)]
+pub use first_form::is_first_form;
 pub use script::read_script;
 
 #[cfg(test)]

@@ -1,11 +1,12 @@
 ghost use Rattle.std.specs.Prelude.{◌≡◌, ◌<◌, ◌≤◌, length, IfSome};
-ghost use Rattle.te_reader.specs.Reads.{place_of, declared_in, Declares};
+ghost use Rattle.te_reader.specs.NameReads.{place_of, declared_in};
+ghost use Rattle.te_reader.specs.Answering.{Declares};
 
 use crate::fault::ScriptFault;
 use te_terms::{Name, Rows};
 
 /// The first place of a name in a list.
-#[tactic(auto, unfolding(crate::specs::Reads::place_of))]
+#[tactic(auto, unfolding(crate::specs::NameReads::place_of))]
 pub fn place_of(names: &[Name], name: &[u8]) -> Option<usize>
     ensures value { result ≡ place_of names.now name.now }
     ensures below { IfSome result (λ i. i < length names.now) }
@@ -15,7 +16,7 @@ pub fn place_of(names: &[Name], name: &[u8]) -> Option<usize>
 
 /// Appends a name to a list. It is refused where the list has so many already, where the name has more
 /// than 32 bytes, and where it is among them.
-#[tactic(auto, unfolding(crate::specs::Reads::declared_in))]
+#[tactic(auto, unfolding(crate::specs::NameReads::declared_in))]
 pub fn declare(most: usize, names: &mut Rows<Name>, name: &[u8]) -> Result<(), ScriptFault>
     requires { 0 < length name.now }
     ensures names { Declares result names.new (declared_in most names.old name.now) }

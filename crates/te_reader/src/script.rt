@@ -2,8 +2,8 @@ ghost use Rattle.std.specs.Prelude.{◌≡◌, ◌≤◌, [], ◌∷◌, length,
 ghost use Rattle.te_script.specs.Scripts.{Program};
 ghost use Rattle.te_reader.specs.declared.fault.ScriptFault.TheVariants.{Refused};
 ghost use Rattle.te_reader.specs.Text.{Text};
-ghost use Rattle.te_reader.specs.FirstForm.{First};
-ghost use Rattle.te_reader.specs.Reads.{Answers, AnswersText, read_names, read_channels, read_program, read_text};
+ghost use Rattle.te_reader.specs.Reads.{read_names, read_channels, read_program, read_text};
+ghost use Rattle.te_reader.specs.Answering.{Answers, AnswersText};
 
 use crate::channels::Channels;
 use crate::cursor::Cursor;
@@ -58,15 +58,16 @@ fn read_program(alloc: Global, cursor: &mut Cursor<'_>) -> Result<Script, Script
     })
 }
 
-/// Reads the text of a script of the first form: one node an event, declared channels, and expressions
-/// without arithmetic or places. The language is this project's own.
+/// Reads the text of a script. The language is this project's own.
 ///
-/// `Refused` comes exactly where there is no such script, also where the text has more than 1,048,576
-/// bytes. There is at most one.
+/// `Refused` comes exactly where the bytes are the text of no script, so also where a name isn't of the kind
+/// that its place needs, or where a limit is passed: 1,048,576 bytes, 32 bytes a name, 256 channels, 64
+/// threads, and in a thread 1,024 statements and 8 registers; 4 calculations a tuple, and in an event 4,096
+/// nodes and height 32. There is at most one script.
 pub fn read_script(alloc: Global, bytes: &[u8]) -> Result<Script, ScriptFault>
-    ensures ok { IfOk result (λ script. Text bytes.now script × First script) }
-    ensures refused { result ≡ Err Refused → (script : Program) → Text bytes.now script → First script → ⊥ }
-    ensures one { IfOk result (λ script. (other : Program) → Text bytes.now other → First other → other ≡ script) }
+    ensures ok { IfOk result (λ script. Text bytes.now script) }
+    ensures refused { result ≡ Err Refused → (script : Program) → Text bytes.now script → ⊥ }
+    ensures one { IfOk result (λ script. (other : Program) → Text bytes.now other → other ≡ script) }
 {
     read_text(alloc, bytes)
 }

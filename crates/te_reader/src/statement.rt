@@ -1,9 +1,8 @@
-ghost use Rattle.std.specs.Prelude.{◌≡◌, ◌≤◌, ◌<◌, length, IfOk, IfErr};
-ghost use Rattle.te_terms.specs.Codes.{expression_of};
-ghost use Rattle.te_script.specs.Scripts.{sync};
-ghost use Rattle.te_reader.specs.declared.fault.ScriptFault.TheVariants.{Memory};
+ghost use Rattle.std.specs.Prelude.{◌≡◌, ◌≤◌, ◌<◌, length, IfOk};
+ghost use Rattle.te_terms.specs.Codes.{expression_of, term_under};
 ghost use Rattle.te_script.specs.Texts.{statement_of, HasRoot};
-ghost use Rattle.te_reader.specs.Reads.{Answers, DeclaresRegister, leaf, read_sync, read_emit, read_statement, register_of};
+ghost use Rattle.te_reader.specs.Reads.{read_sync, read_emit, read_statement, register_of};
+ghost use Rattle.te_reader.specs.Answering.{Answers, DeclaresRegister};
 
 use crate::channels::Channels;
 use crate::cursor::Cursor;
@@ -11,11 +10,12 @@ use crate::event::read_event;
 use crate::expression::read_expression;
 use crate::fault::ScriptFault;
 use crate::names::{declare, place_of};
+use crate::scope::Names;
 use crate::token::{Sign, Word};
 use std::alloc::Global;
 use std::sync::Arc;
 use te_script::Stmt;
-use te_terms::{EventCode, Expr, Name, Node, Rows};
+use te_terms::{EventCode, Expr, Name, Rows};
 
 /// Reads a statement, and appends the name of its register where it is a new one.
 #[tactic(auto, unfolding(crate::specs::Reads::read_statement))]
@@ -32,35 +32,33 @@ pub fn read_statement(
     ensures root { IfOk result HasRoot }
 {
     if cursor.take_word(Word::Emit) {
-        let value = read_emit(cursor, channels, registers)?;
+        let value = read_emit(alloc, cursor, channels, registers)?;
         return Ok(Stmt::Emit(value));
     }
     let Some(name) = cursor.take_name() else {
         return Err(ScriptFault::Refused);
     };
-    let node = read_sync(cursor, channels, registers)?;
+    let event = read_sync(alloc, cursor, channels, registers)?;
     let reg = register_of(channels, registers, name)?;
-    sync(alloc, reg, node)
+    let code = Arc::new(alloc, event.code)?;
+    Ok(Stmt::Sync {
+        reg,
+        code,
+        root: event.root,
+    })
 }
 
-// The statement that synchronises on one node.
-fn sync(alloc: Global, reg: u8, node: Node) -> Result<Stmt, ScriptFault>
-    ensures ok { IfOk result (λ s. statement_of s ≡ sync reg (leaf node)) }
-    ensures root { IfOk result HasRoot }
-    ensures err { IfErr result (λ e. e ≡ Memory) }
-{
-    let mut code = EventCode::new(alloc);
-    // One leaf in a new code is refused for want of memory alone.
-    let Ok(root) = code.push(node) else {
-        return Err(ScriptFault::Memory);
-    };
-    let code = Arc::new(alloc, code)?;
-    Ok(Stmt::Sync { reg, code, root })
+// The nodes of an event, and which of them is its root.
+#[derive(Drop)]
+struct Nodes {
+    code: EventCode,
+    root: u32,
 }
 
 // What stands behind `emit`, up to its `;`.
 #[tactic(auto, unfolding(crate::specs::Reads::read_emit))]
 fn read_emit(
+    alloc: Global,
     cursor: &mut Cursor<'_>,
     channels: &Channels<'_>,
     registers: &Rows<Name>,
@@ -68,7 +66,7 @@ fn read_emit(
     requires { length registers.now ≤ 8 }
     ensures { Answers result expression_of cursor.old cursor.new (read_emit channels.now registers.now cursor.old.tokens) }
 {
-    let value = read_expression(cursor, channels, registers)?;
+    let value = read_expression(cursor, &Names::new(alloc, channels, registers))?;
     if !cursor.take_sign(Sign::Semicolon) {
         return Err(ScriptFault::Refused);
     }
@@ -78,21 +76,25 @@ fn read_emit(
 // What stands behind the register of a sync, up to its `;`.
 #[tactic(auto, unfolding(crate::specs::Reads::read_sync))]
 fn read_sync(
+    alloc: Global,
     cursor: &mut Cursor<'_>,
     channels: &Channels<'_>,
     registers: &Rows<Name>,
-) -> Result<Node, ScriptFault>
+) -> Result<Nodes, ScriptFault>
     requires { length registers.now ≤ 8 }
-    ensures { Answers result leaf cursor.old cursor.new (read_sync channels.now registers.now cursor.old.tokens) }
+    ensures event { Answers result (λ e. term_under e.code e.root) cursor.old cursor.new (read_sync channels.now registers.now cursor.old.tokens) }
+    ensures root { IfOk result (λ e. e.root < length e.code) }
 {
     if !cursor.take_sign(Sign::Arrow) || !cursor.take_word(Word::Sync) {
         return Err(ScriptFault::Refused);
     }
-    let node = read_event(cursor, channels, registers)?;
+    let mut names = Names::new(alloc, channels, registers);
+    let mut code = EventCode::new(alloc);
+    let root = read_event(cursor, &mut names, &mut code, 32)?;
     if !cursor.take_sign(Sign::Semicolon) {
         return Err(ScriptFault::Refused);
     }
-    Ok(node)
+    Ok(Nodes { code, root })
 }
 
 // The number of a register, which is appended where it is a new one.

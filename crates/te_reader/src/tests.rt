@@ -97,10 +97,6 @@ fn texts_are_read_or_refused(rt: HostRuntime) {
         (b"channels c; thread a { c <- sync recv c; }", false),
         (b"channels c; thread a { x <- sync recv x; }", false),
         (b"channels c; thread a { emit c; }", false),
-        (b"thread a { x <- sync never; }", false),
-        (b"thread a { emit (1 + 1); }", false),
-        (b"thread a { x <- sync always (1); emit (x.0); }", false),
-        (b"channels c; thread a { x <- sync send 5 (1); }", false),
         (b"thread a { emit (1, ); }", false),
         (b"thread a { emit (, 1); }", false),
         (b"thread a { emit (1 2); }", false),
@@ -143,6 +139,201 @@ fn texts_are_read_or_refused(rt: HostRuntime) {
     ] {
         assert_eq!(rt; is_read(&rt, rt.alloc(), text), want, "{:?}", text);
     }
+}
+
+#[test]
+fn events_of_the_whole_language_are_read(rt: HostRuntime) -> Result<(), Fail> {
+    for (event, want) in [
+        ("never", true),
+        ("throw (1)", true),
+        ("throw x", true),
+        ("throw", false),
+        ("never ()", false),
+        ("send 5 (1)", true),
+        ("send x.0 x", true),
+        ("recv x.3", true),
+        ("recv x . 003", true),
+        ("recv x.-0", true),
+        ("recv x", false),
+        ("recv x.4", false),
+        ("recv x.-1", false),
+        ("recv c.0", false),
+        ("always c", false),
+        ("always (c, x.0 + 1, 2 - x.1, c * c)", true),
+        ("always (x.0 -1)", false),
+        ("always (x.0 - 1)", true),
+        ("always (1 - 1 - 1)", false),
+        ("always (x)", false),
+        ("always (+ 1)", false),
+        ("do { u <- recv c; always u }", true),
+        ("do { _ <- recv c; always _ }", true),
+        ("do { _ <- recv c; recv _.0 }", true),
+        ("do { _ <- recv c; recv _ }", false),
+        (
+            "do { u <- recv c; v <- send u.0 u; always (u.0, v.3) }",
+            true,
+        ),
+        ("do { u <- recv c }", false),
+        ("do { u <- recv c; }", false),
+        ("do { recv c }", false),
+        ("do { }", false),
+        ("do { u <- recv c; u <- recv c; never }", false),
+        ("do { u <- always u; never }", false),
+        ("do { u <- do { u <- never; never }; always u }", true),
+        ("do { u <- do { v <- never; never }; always v }", false),
+        ("do { x <- never; never }", false),
+        ("do { y <- never; always y }", true),
+        ("do { c <- never; never }", false),
+        ("do { fresh <- never; never }", false),
+        (
+            "do { u <- never; do { v <- never; always (u.0, v.0) } }",
+            true,
+        ),
+        ("choose { never | never }", true),
+        (
+            "choose { never | recv c | do { u <- never; always u } }",
+            true,
+        ),
+        ("choose { never | choose { never | never } }", true),
+        ("choose { choose { never | never } | never }", true),
+        ("choose { never }", false),
+        ("choose { never | }", false),
+        ("choose { never, never }", false),
+        ("try { throw (1) } catch u { always u }", true),
+        ("try { throw (1) } catch _0 { always _0 }", true),
+        ("try { always u } catch u { always u }", false),
+        ("try { never } catch c { never }", false),
+        ("try { never }", false),
+        ("try never catch u { never }", false),
+        ("if 0 < x.0 { always x } else { never }", true),
+        ("if x.0 = c { never } else { never }", true),
+        ("if x.0 <-1 { never } else { never }", false),
+        ("if x.0 < -1 { never } else { never }", true),
+        ("if 1 + 1 = 2 { never } else { never }", false),
+        ("if 1 = 2 { never }", false),
+        ("repeat 2 { never }", false),
+    ] {
+        let text = format!(in rt.alloc();
+            "channels c; thread a {{ x <- sync always (); y <- sync {event}; }}"
+        )?;
+        assert_eq!(rt; is_read(&rt, rt.alloc(), text.as_bytes()), want, "{event}");
+    }
+    Ok(())
+}
+
+// A thread that synchronises on so many pieces with their numbers, and a tail.
+fn synchronising(
+    alloc: Global,
+    count: u32,
+    head: &str,
+    before: &str,
+    after: &str,
+    tail: &str,
+) -> Result<Vec<u8>, Fail> {
+    let head = format!(in alloc; "thread a {{ x <- sync {head}")?;
+    let tail = format!(in alloc; "{tail}; }}")?;
+    repeated(alloc, count, head.as_str(), before, after, tail.as_str())
+}
+
+#[test]
+fn an_event_has_height_32_and_no_more(rt: HostRuntime) -> Result<(), Fail> {
+    for (most, head, before, after, tail) in [
+        (31, "do { ", "u", " <- never; ", "never }"),
+        (31, "choose { ", "always (", ") | ", "never }"),
+        (
+            29,
+            "choose { ",
+            "do { u <- always (",
+            "); never } | ",
+            "do { u <- never; v <- never; never } }",
+        ),
+        (
+            30,
+            "choose { ",
+            "do { u <- always (",
+            "); never } | ",
+            "do { u <- never; never } }",
+        ),
+    ] {
+        for (count, want) in [(most, true), (most + 1, false)] {
+            let text = synchronising(rt.alloc(), count, head, before, after, tail)?;
+            assert_eq!(rt;
+                is_read(&rt, rt.alloc(), text.as_slice()),
+                want,
+                "{count} of {before}"
+            );
+        }
+    }
+    for (count, want) in [(31, true), (32, false)] {
+        let mut text = Vec::from_slice(rt.alloc(), b"thread a { x <- sync ")?;
+        for _ in 0..count {
+            text.extend_from_slice(b"try { ")?;
+        }
+        text.extend_from_slice(b"never")?;
+        for _ in 0..count {
+            text.extend_from_slice(b" } catch u { never }")?;
+        }
+        text.extend_from_slice(b"; }")?;
+        assert_eq!(rt; is_read(&rt, rt.alloc(), text.as_slice()), want, "{count}");
+    }
+    Ok(())
+}
+
+#[test]
+fn an_event_has_no_more_than_4096_nodes(rt: HostRuntime) -> Result<(), Fail> {
+    // 4,095 nodes
+    let mut tree = String::from_str(rt.alloc(), "never")?;
+    for _ in 0..11 {
+        tree = format!(in rt.alloc(); "choose {{ {tree} | {tree} }}")?;
+    }
+    let text = format!(in rt.alloc(); "thread a {{ x <- sync {tree}; }}")?;
+    assert!(rt; is_read(&rt, rt.alloc(), text.as_bytes()), "at the limit");
+    let text = format!(in rt.alloc(); "thread a {{ x <- sync choose {{ {tree} | never }}; }}")?;
+    assert!(rt; !is_read(&rt, rt.alloc(), text.as_bytes()), "past it");
+    Ok(())
+}
+
+#[test]
+fn an_event_of_a_mebibyte_is_refused(rt: HostRuntime) -> Result<(), Fail> {
+    for (count, head, before, after, tail) in [
+        (50_000, "do { ", "u", " <- never; ", "never }"),
+        (50_000, "choose { ", "always (", ") | ", "never }"),
+        (70_000, "", "do { u", " <- ", "never"),
+    ] {
+        let text = synchronising(rt.alloc(), count, head, before, after, tail)?;
+        assert!(rt; text.len() <= 1_048_576, "{before}");
+        assert!(rt; !is_read(&rt, rt.alloc(), text.as_slice()), "{before}");
+    }
+    Ok(())
+}
+
+#[test]
+fn scripts_of_the_first_form_are_told(rt: HostRuntime) -> Result<(), Fail> {
+    for (event, want) in [
+        ("always (1, c)", true),
+        ("always x", true),
+        ("send c x", true),
+        ("recv c", true),
+        ("never", false),
+        ("throw x", false),
+        ("always (1 + 1)", false),
+        ("always (x.0)", false),
+        ("send 5 x", false),
+        ("send x.0 x", false),
+        ("recv x.0", false),
+        ("choose { recv c | recv c }", false),
+        ("do { u <- recv c; always u }", false),
+    ] {
+        let text = format!(in rt.alloc();
+            "channels c; thread a {{ x <- sync always (); y <- sync {event}; emit y; }}"
+        )?;
+        let Ok(script) = read_script(rt.alloc(), text.as_bytes()) else {
+            assert!(rt; false, "{event} is refused");
+            return Ok(());
+        };
+        assert_eq!(rt; is_first_form(&script), want, "{event}");
+    }
+    Ok(())
 }
 
 #[test]

@@ -1,5 +1,6 @@
 ghost use Rattle.std.specs.Prelude.{◌≡◌, ◌≤◌, [], ◌∷◌, length, map};
-ghost use Rattle.te_reader.specs.Reads.{Answers, named_body, read_body, read_thread, read_new_thread, read_threads};
+ghost use Rattle.te_reader.specs.Reads.{named_body, read_body, read_thread, read_new_thread, read_threads};
+ghost use Rattle.te_reader.specs.Answering.{Answers};
 
 use crate::channels::Channels;
 use crate::cursor::Cursor;

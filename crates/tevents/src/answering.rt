@@ -6,7 +6,7 @@ use crate::report::{Ending, write_report};
 use crate::rounds::serial;
 use std::alloc::Global;
 use te_history::{Entry, How};
-use te_reader::{ScriptFault, read_script};
+use te_reader::{ScriptFault, is_first_form, read_script};
 use te_terms::NoMemory;
 
 /// A text to be written, and the status to end with once it is.
@@ -17,7 +17,7 @@ pub(crate) struct Written {
 }
 
 /// What `serial` answers to these bytes: the report of one run of the script, or the line that tells
-/// that there is none. The one refusal is want of memory.
+/// that there is none of the first form, which is what runs so far. The one refusal is want of memory.
 pub(crate) fn answer(alloc: Global, bytes: &[u8]) -> Result<Written, NoMemory>
     ensures { IfOk result (λ told. IsAnswer bytes.now told.text.items told.status) }
 {
@@ -26,6 +26,9 @@ pub(crate) fn answer(alloc: Global, bytes: &[u8]) -> Result<Written, NoMemory>
         Err(ScriptFault::Refused) => return fault(alloc),
         Err(ScriptFault::Memory) => return Err(NoMemory),
     };
+    if !is_first_form(&script) {
+        return fault(alloc);
+    }
     let house = serial(alloc, &script)?;
     let text = write_report(alloc, &script, house.history(), Ending::Closed)?;
     Ok(Written {
@@ -34,7 +37,7 @@ pub(crate) fn answer(alloc: Global, bytes: &[u8]) -> Result<Written, NoMemory>
     })
 }
 
-/// The line that tells that the bytes are no script.
+/// The line that tells that the bytes are no script that runs.
 fn fault(alloc: Global) -> Result<Written, NoMemory>
     ensures { IfOk result (λ told. (told.text.items ≡ fault_line) × (told.status ≡ 5)) }
 {

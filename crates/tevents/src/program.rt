@@ -23,7 +23,7 @@ const MOST: usize = 1_048_576;
 /// | 2 | the words aren't `serial` | nothing, and nothing is read |
 /// | 3 | the source failed | nothing |
 /// | 4 | the sink failed | a prefix of a text that the call could have written |
-/// | 5 | the bytes are no text of a script that is read today | the line `script fault` |
+/// | 5 | the bytes are no text of a script that runs today | the line `script fault` |
 /// | 9 | want of memory | nothing |
 pub fn tevents<S: Source, K: Sink>(
     alloc: Global,

@@ -1,6 +1,6 @@
 use Rattle.std.proofs.Common.{[], ◌∷◌, length, sym, ◌∙◌, ap, arith, length-append}
 use Rattle.std.proofs.lemmas.Result.{err_from_is_err_and}
-use Rattle.te_reader.specs.Reads.{declared_in}
+use Rattle.te_reader.specs.NameReads.{declared_in}
 use Rattle.te_reader.proofs.PassedOn.{declared_on}
 use Rattle.te_reader.proofs.NameLemmas.{declared}
 use Rattle.te_reader.proofs.LoopSteps.{names_end, names_no_end, names_refused, names_more}

@@ -1,0 +1,68 @@
+-- What names and integers are read as, and the steps of a reading. Contracts inside this crate cite it.
+use Rattle.std.specs.Prelude.{ℕ, Bool, true, false, List, [], ◌∷◌, ◌++◌, length, ℤ, nat_lt, nat_le, ◌&&◌, Option, Some, None, option_and_then, if◌then◌else◌}
+use Rattle.std.specs.List.{position}
+use Rattle.std.specs.Str.{bytes_eq}
+use Rattle.te_terms.specs.Values.{fits_i64}
+use Rattle.te_terms.specs.Expressions.{Variable, register, name}
+use Rattle.te_reader.specs.Tokens.{Token}
+use Rattle.te_reader.specs.Integers.{integer_value}
+use Rattle.te_reader.specs.Grammar.{Names, with_inner}
+
+infixl 10 ◌>>=◌
+abbrev pub ◌>>=◌ : {A B : Type 0} → Option A → (A → Option B) → Option B
+o >>= f = option_and_then f o
+
+-- what was read, and the tokens behind it
+abbrev pub Read : Type 0 → Type 0
+Read A = Option (A × List Token)
+
+abbrev pub checked : Bool → Option (Unit {0})
+checked true = Some tt
+checked false = None
+
+-- ---- names and integers
+
+-- the first place of a name
+unfoldable pub place_of : List (List ℕ) → List ℕ → Option ℕ
+place_of names n = position (λ x. bytes_eq x n) names
+
+abbrev pub if_absent : Option ℕ → Option (Unit {0})
+if_absent None = Some tt
+if_absent (Some i) = None
+
+-- a list with one name more, which is short and not yet among them
+unfoldable pub declared_in : ℕ → List (List ℕ) → List ℕ → Option (List (List ℕ))
+declared_in most names n = do
+  _ ← if_absent (place_of names n)
+  _ ← checked (nat_lt (length names) most && nat_le (length n) 32)
+  Some (names ++ n ∷ [])
+
+-- an integer, where it is one of 64 bits
+abbrev pub fitting : ℤ → Option ℤ
+fitting z = if fits_i64 z then Some z else None
+
+unfoldable pub integer_of : List ℕ → Option ℤ
+integer_of spelling = fitting (integer_value spelling)
+
+-- the names in scope where no inner name is
+abbrev pub names_of : List (List ℕ) → List (List ℕ) → Names
+names_of channels registers = record { channels = channels; registers = registers; inners = [] }
+
+abbrev pub or_inner : Names → List ℕ → Option ℕ → Option Variable
+or_inner s n (Some r) = Some (register r)
+or_inner s n None = do
+  l ← place_of s.inners n
+  Some (name l)
+
+-- the register of a NAME, or else its inner name
+unfoldable pub variable_named : Names → List ℕ → Option Variable
+variable_named s n = or_inner s n (place_of s.registers n)
+
+-- an inner name more, where it may be bound
+unfoldable pub bound_in : Names → List ℕ → Option Names
+bound_in s n = do
+  _ ← if_absent (place_of s.channels n)
+  _ ← if_absent (place_of s.registers n)
+  _ ← if_absent (place_of s.inners n)
+  _ ← checked (nat_le (length n) 32)
+  Some (with_inner s n)

@@ -1,0 +1,99 @@
+ghost use Rattle.std.specs.Prelude.{◌≡◌, [], length, IfOk};
+ghost use Rattle.te_terms.specs.Codes.{primitive_of, term_at};
+ghost use Rattle.te_terms.specs.Shape.{children, HasFreeChildren};
+ghost use Rattle.te_reader.specs.EventReads.{made, read_leaf, read_one, test_first, read_condition};
+ghost use Rattle.te_reader.specs.Answering.{Answers, AnswersEvent, TakesSome, Puts, leaf};
+
+use crate::cursor::Cursor;
+use crate::expression::{read_expression, read_primitive};
+use crate::fault::ScriptFault;
+use crate::scope::Names;
+use crate::token::{Sign, Word};
+use te_terms::{CodeFault, Cond, EventCode, Expr, Node, Test};
+
+// Takes the sign of a test, where one stands here.
+#[tactic(auto, unfolding(crate::specs::EventReads::test_first))]
+fn take_test(cursor: &mut Cursor<'_>) -> Option<Test>
+    ensures { TakesSome result cursor.old cursor.new (test_first cursor.old.tokens) }
+{
+    if cursor.take_sign(Sign::Equal) {
+        Some(Test::Equal)
+    } else if cursor.take_sign(Sign::Less) {
+        Some(Test::Less)
+    } else {
+        None
+    }
+}
+
+/// Reads what an `if` asks.
+#[tactic(auto, unfolding(crate::specs::EventReads::read_condition))]
+pub fn read_condition(cursor: &mut Cursor<'_>, names: &Names<'_, '_>) -> Result<Cond, ScriptFault>
+    ensures { Answers result (λ c. (c.test, primitive_of c.left, primitive_of c.right)) cursor.old cursor.new
+        (read_condition names.now cursor.old.tokens) }
+{
+    let left = read_primitive(cursor, names)?;
+    let Some(test) = take_test(cursor) else {
+        return Err(ScriptFault::Refused);
+    };
+    let right = read_primitive(cursor, names)?;
+    Ok(Cond { test, left, right })
+}
+
+// The node of an event that has no parts.
+#[tactic(auto, unfolding(crate::specs::EventReads::read_leaf))]
+fn read_leaf(cursor: &mut Cursor<'_>, names: &Names<'_, '_>) -> Result<Node, ScriptFault>
+    ensures event { Answers result leaf cursor.old cursor.new (read_leaf names.now cursor.old.tokens) }
+    ensures no_parts { IfOk result (λ node. children node ≡ []) }
+{
+    if cursor.take_word(Word::Always) {
+        let value: Expr = read_expression(cursor, names)?;
+        return Ok(Node::Always(value));
+    }
+    if cursor.take_word(Word::Send) {
+        let channel = read_primitive(cursor, names)?;
+        let value = read_expression(cursor, names)?;
+        return Ok(Node::Send(channel, value));
+    }
+    if cursor.take_word(Word::Never) {
+        return Ok(Node::Never);
+    }
+    if cursor.take_word(Word::Throw) {
+        let value = read_expression(cursor, names)?;
+        return Ok(Node::Throw(value));
+    }
+    if !cursor.take_word(Word::Recv) {
+        return Err(ScriptFault::Refused);
+    }
+    let channel = read_primitive(cursor, names)?;
+    Ok(Node::Recv(channel))
+}
+
+/// Reads an event that has no parts.
+pub fn read_one(
+    cursor: &mut Cursor<'_>,
+    names: &Names<'_, '_>,
+    code: &mut EventCode,
+) -> Result<u32, ScriptFault>
+    ensures { AnswersEvent result (length names.now.inners) code.old code.new cursor.old cursor.new
+        (read_one names.now (length code.old) cursor.old.tokens) }
+{
+    match read_leaf(cursor, names) {
+        Ok(node) => put(code, node),
+        Err(fault) => Err(fault),
+    }
+}
+
+/// Puts a node behind the others, where the limits of an event allow it.
+pub fn put(code: &mut EventCode, node: Node) -> Result<u32, ScriptFault>
+    requires { HasFreeChildren code.old node }
+    ensures { Puts result code.old code.new node }
+{
+    let _ = code.len();
+    let root = match code.push(node) {
+        Ok(root) => root,
+        Err(CodeFault::Memory) => return Err(ScriptFault::Memory),
+        Err(_) => return Err(ScriptFault::Refused),
+    };
+    let _ = code.len();
+    Ok(root)
+}
