@@ -1,4 +1,5 @@
 pub mod PaddingLemmas
+pub mod PackedLemmas
 pub mod Evaluating
 pub mod TermLemmas
 pub mod ChildLemmas

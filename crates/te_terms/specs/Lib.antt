@@ -4,6 +4,7 @@ pub mod Expressions
 pub mod Terms
 pub mod Measures
 pub mod Limits
+pub mod Packed
 pub mod Steps
 pub mod Joint
 pub mod Codes

@@ -10,6 +10,7 @@ ghost use Rattle.te_terms.specs.Shape.{children, times_named, one_if_fresh, fres
 ghost use Rattle.te_terms.specs.Kept.{Tells, TellsNew, IsLow, IsKept, IsFree, listed, own_weight, adopted};
 
 use crate::expr::{Cond, Expr, Operand};
+use crate::limits::{GREATEST_HEIGHT, MOST_FRESH, MOST_NODES};
 use std::alloc::Global;
 use std::marker::Model;
 use std::slice;
@@ -288,14 +289,14 @@ impl EventCode {
         if !self.takes_children(&node) {
             return Err(CodeFault::Child);
         }
-        if self.nodes.len() >= 4096 {
+        if self.nodes.len() >= MOST_NODES {
             return Err(CodeFault::Full);
         }
-        if self.fresh + node.own_fresh() > 16 {
+        if (self.fresh + node.own_fresh()) as u32 > MOST_FRESH {
             return Err(CodeFault::Fresh);
         }
         let mark = self.mark_over(&node);
-        if mark.height > 32 {
+        if mark.height as u32 > GREATEST_HEIGHT {
             return Err(CodeFault::Depth);
         }
         self.append(node, mark)

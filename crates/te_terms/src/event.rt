@@ -6,6 +6,7 @@ ghost use Rattle.te_terms.specs.Limits.{IsWithinLimits};
 ghost use Rattle.te_terms.specs.Made.{IsMadeOf, HasCode, HasRoot, HasRegisters};
 
 use crate::code::EventCode;
+use crate::limits::MOST_REGISTERS;
 use crate::memory::NoMemory;
 use crate::same::same_under;
 use crate::value::Value;
@@ -25,7 +26,7 @@ pub enum Outcome {
 pub struct Event {
     code: Arc<EventCode>,
     root: u32,
-    regs: [Value; 8],
+    regs: [Value; MOST_REGISTERS],
 }
 
 impl Model for Event {
@@ -57,30 +58,32 @@ impl Event {
         Some(Event { code, root, regs })
     }
 
-    /// The code, the root and the registers, which together make the event's term. It is public for the
-    /// crates above alone, since a term tells of the three only together.
-    #[doc(hidden)]
+    /// What the event was made of: the code, the number of the root among its nodes, and the values of the
+    /// registers, from register 0 on. Together they make the event's term, which tells of none of them alone.
     pub fn parts(&self) -> (&Arc<EventCode>, u32, &[Value; 8])
         ensures { IsMadeOf result.0.now.value result.1 result.2.now self.now }
     {
         (&self.code, self.root, &self.regs)
     }
 
-    /// The code that the event was made of: with the event's root and registers it makes the term.
+    /// The code that the event was made of. Its contract says that there are a root and registers with which it
+    /// makes the event's term; `parts` tells which.
     pub fn code(&self) -> &Arc<EventCode>
         ensures { HasCode result.now.value self.now }
     {
         &self.code
     }
 
-    /// The number of the node under which the event's term stands.
+    /// The number of the node under which the event's term stands. Its contract says that there are a code and
+    /// registers with which it makes the term; `parts` tells which.
     pub fn root(&self) -> u32
         ensures { HasRoot result self.now }
     {
         self.root
     }
 
-    /// The values of the registers, from register 0 on.
+    /// The values of the registers, from register 0 on. The contract says that there are a code and a root with
+    /// which they make the event's term; `parts` tells which.
     pub fn regs(&self) -> &[Value; 8]
         ensures { HasRegisters result.now self.now }
     {

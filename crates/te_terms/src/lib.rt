@@ -5,6 +5,7 @@ mod code;
 mod event;
 mod expr;
 mod laws;
+mod limits;
 mod memory;
 mod name;
 mod rows;
@@ -17,6 +18,10 @@ pub use expr::{Arith, Calc, Calcs, Cond, Expr, Operand as Prim, Test, Var};
 pub use laws::{
     bindings_extend, first_parts_step, fresh_channels_stay_few, heads_are_replaced,
     members_do_one_thing, members_settle, quiet_steps_end, settled_members_stand, turns_end,
+};
+#[doc(hidden)]
+pub use limits::{
+    GREATEST_HEIGHT, LONGEST_NAME, MOST_ATOMS, MOST_FRESH, MOST_NODES, MOST_REGISTERS,
 };
 pub use memory::NoMemory;
 pub use name::Name;

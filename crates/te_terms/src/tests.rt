@@ -212,7 +212,7 @@ fn limits_of_values_and_names(rt: HostRuntime) {
 // A padding byte in a value costs several times the copy.
 #[test]
 fn values_are_packed(rt: HostRuntime) {
-    assert_eq!(rt; size_of::<Value>(), 72);
+    assert_eq!(rt; size_of::<Value>(), 40);
 }
 
 #[test]

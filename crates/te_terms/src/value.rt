@@ -1,7 +1,10 @@
-ghost use Rattle.std.specs.Prelude.{◌≡◌, ◌↔◌, ◌<◌, [], ◌∷◌, ◌++◌, length, slice_get, IfSome, IsNone};
+ghost use Rattle.std.specs.Prelude.{◌≡◌, ◌↔◌, ◌<◌, ◌≤◌, [], ◌∷◌, ◌++◌, length, slice_get, IfSome, IsNone};
 ghost use Rattle.te_terms.specs.Values.{trap_value};
 ghost use Rattle.te_terms.specs.Expressions.{integer_of, channel_of};
+ghost use Rattle.te_terms.specs.Limits.{most_atoms};
+ghost use Rattle.te_terms.specs.Packed.{word_of, is_channel, atom_in, IsNarrow};
 
+use crate::limits::MOST_ATOMS;
 use std::marker::Model;
 
 /// An integer, or a channel named by its number.
@@ -12,6 +15,35 @@ pub enum Atom {
 }
 
 impl Atom {
+    // The word that stands for the atom, beside its kind.
+    fn word(self) -> i64
+        ensures value { result ≡ word_of self }
+        ensures narrow { IsNarrow result (is_channel self) }
+    {
+        match self {
+            Atom::Int(z) => z,
+            Atom::Chan(c) => c as i64,
+        }
+    }
+
+    fn is_channel(self) -> bool
+        ensures { result ≡ is_channel self }
+    {
+        matches!(self, Atom::Chan(_))
+    }
+
+    // The atom that a word stands for.
+    fn of(word: i64, is_channel: bool) -> Atom
+        requires { IsNarrow word is_channel }
+        ensures { result ≡ atom_in word is_channel }
+    {
+        if is_channel {
+            Atom::Chan(word as u32)
+        } else {
+            Atom::Int(word)
+        }
+    }
+
     pub(crate) fn integer(self) -> Result<i64, Trap>
         ensures { result ≡ integer_of self }
     {
@@ -32,27 +64,29 @@ impl Atom {
 }
 
 /// A value: a tuple of 0 to 4 atoms, seen as the list of them.
+// 40 bytes without a gap, since values are copied more than anything else: a word for each atom, its kind,
+// and fillers behind them, so that equal values have equal fields.
 #[derive(Clone, Copy, Debug)]
 pub struct Value {
+    words: [i64; MOST_ATOMS],
+    are_channels: [bool; MOST_ATOMS],
     len: u32,
-    atoms: [Atom; 4],
 }
 
 impl Model for Value {
-    ghost use Rattle.std.specs.Prelude.{List, length, take, pos};
+    ghost use Rattle.std.specs.Prelude.{List, length};
     ghost use Rattle.te_terms.specs.declared.value.Atom.{Atom};
-    ghost use Rattle.te_terms.specs.declared.value.Atom.TheVariants.{Int};
-    ghost use Rattle.te_terms.specs.Padding.{padded, IsPadded, length_back};
+    ghost use Rattle.te_terms.specs.Packed.{atoms_in, words_of, kinds_of, IsPacked};
 
     ghost Value = { List Atom };
 
-    ghost view = { λ v. take v.len v.atoms };
+    ghost view = { λ v. atoms_in v.len v.words v.are_channels };
 
-    ghost invariant = { λ v. IsPadded 4 (Int (pos 0)) v.len v.atoms };
+    ghost invariant = { λ v. IsPacked v.len v.words v.are_channels };
 
-    ghost inverse = { λ xs. record { len = length xs; atoms = padded 4 (Int (pos 0)) xs } };
+    ghost inverse = { λ atoms. record { words = words_of atoms; are_channels = kinds_of atoms; len = length atoms } };
 
-    ghost inverse_ok = { λ a p. λ i. record { len = length_back p i; atoms = p.padded_so i } };
+    ghost inverse_ok = { λ a p. λ i. record { words = p.words_are i; are_channels = p.kinds_are i; len = p.as_long i } };
 }
 
 impl Value {
@@ -61,17 +95,18 @@ impl Value {
         ensures { result ≡ [] }
     {
         Value {
+            words: [0; MOST_ATOMS],
+            are_channels: [false; MOST_ATOMS],
             len: 0,
-            atoms: [Atom::Int(0); 4],
         }
     }
 
     /// The tuple of these atoms; `None` exactly where there are more than 4.
     pub fn of(atoms: &[Atom]) -> Option<Value>
         ensures some { IfSome result (λ v. v ≡ atoms.now) }
-        ensures none { IsNone result ↔ (4 < length atoms.now) }
+        ensures none { IsNone result ↔ (most_atoms < length atoms.now) }
     {
-        if atoms.len() > 4 {
+        if atoms.len() > MOST_ATOMS {
             return None;
         }
         let mut value = Value::unit();
@@ -83,7 +118,8 @@ impl Value {
 
     /// The number of atoms.
     pub fn len(&self) -> usize
-        ensures { result ≡ length self.now }
+        ensures value { result ≡ length self.now }
+        ensures range { length self.now ≤ most_atoms }
     {
         self.len as usize
     }
@@ -93,7 +129,7 @@ impl Value {
         ensures { result ≡ slice_get self.now d }
     {
         if d < self.len as usize {
-            Some(self.atoms[d])
+            Some(Atom::of(self.words[d], self.are_channels[d]))
         } else {
             None
         }
@@ -101,10 +137,12 @@ impl Value {
 
     /// Puts one more atom behind the others.
     pub(crate) fn push(&mut self, atom: Atom)
-        requires { length self.old < 4 }
+        requires { length self.old < most_atoms }
         ensures { self.new ≡ self.old ++ atom ∷ [] }
     {
-        self.atoms[self.len as usize] = atom;
+        let place = self.len as usize;
+        self.words[place] = atom.word();
+        self.are_channels[place] = atom.is_channel();
         self.len += 1;
     }
 }
@@ -119,7 +157,13 @@ impl PartialEq for Value {
     ghost laws = { partial_equiv_from_equiv same_value_equiv };
 
     fn eq(&self, other: &Value) -> bool {
-        self.atoms[..self.len as usize] == other.atoms[..other.len as usize]
+        if self.len != other.len {
+            return false;
+        }
+        if self.words != other.words {
+            return false;
+        }
+        self.are_channels == other.are_channels
     }
 }
 

@@ -3,20 +3,20 @@ use Rattle.te_terms.specs.declared.code.CodeFault.{CodeFault}
 use Rattle.te_terms.specs.declared.code.CodeFault.TheVariants as faults
 use Rattle.te_terms.proofs.code.EventCode.push.Goals as goal
 
-pub returns-then-len-ge4096-clause-child : goal.returns-then-len-ge4096-clause-child
-returns-then-len-ge4096-clause-child c = (λ e. absurd cc, λ no. absurd (no (c.takes_children.ensures.0 c.if-not-takes_children.false)))
+pub returns-then-len-ge-MOST_NODES-clause-child : goal.returns-then-len-ge-MOST_NODES-clause-child
+returns-then-len-ge-MOST_NODES-clause-child c = (λ e. absurd cc, λ no. absurd (no (c.takes_children.ensures.0 c.if-not-takes_children.false)))
 
-pub returns-then-len-ge4096-clause-full : goal.returns-then-len-ge4096-clause-full
-returns-then-len-ge4096-clause-full c = (λ e. (c.takes_children.ensures.0 c.if-not-takes_children.false, omega (arith, c.len.ensures, ap length c.self.view_is)), λ full. refl)
+pub returns-then-len-ge-MOST_NODES-clause-full : goal.returns-then-len-ge-MOST_NODES-clause-full
+returns-then-len-ge-MOST_NODES-clause-full c = (λ e. (c.takes_children.ensures.0 c.if-not-takes_children.false, omega (arith, c.len.ensures, ap length c.self.view_is)), λ full. refl)
 
 pub mark_over-mark-requires : goal.mark_over-mark-requires
 mark_over-mark-requires c = c.takes_children.ensures.0 c.if-not-takes_children.false
 
-pub returns-then-mark-gt32-clause-child : goal.returns-then-mark-gt32-clause-child
-returns-then-mark-gt32-clause-child c = (λ e. absurd cc, λ no. absurd (no (c.takes_children.ensures.0 c.if-not-takes_children.false)))
+pub returns-then-mark-gt-GREATEST_HEIGHT-clause-child : goal.returns-then-mark-gt-GREATEST_HEIGHT-clause-child
+returns-then-mark-gt-GREATEST_HEIGHT-clause-child c = (λ e. absurd cc, λ no. absurd (no (c.takes_children.ensures.0 c.if-not-takes_children.false)))
 
-pub returns-then-mark-gt32-clause-depth : goal.returns-then-mark-gt32-clause-depth
-returns-then-mark-gt32-clause-depth c = (
+pub returns-then-mark-gt-GREATEST_HEIGHT-clause-depth : goal.returns-then-mark-gt-GREATEST_HEIGHT-clause-depth
+returns-then-mark-gt-GREATEST_HEIGHT-clause-depth c = (
   λ e. (c.takes_children.ensures.0 c.if-not-takes_children.false, omega (arith, c.len.ensures, ap length c.self.view_is), omega (arith, c.mark_over-mark.ensures.height_is)),
   λ deep. refl,
 )
