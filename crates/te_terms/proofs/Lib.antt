@@ -7,6 +7,7 @@ pub mod Measured
 pub mod SizeLemmas
 pub mod AdoptLemmas
 pub mod KeptLemmas
+pub mod SlotLemmas
 pub mod SameLemmas
 pub mod CompareLemmas
 pub mod QuietSteps

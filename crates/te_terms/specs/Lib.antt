@@ -11,6 +11,7 @@ pub mod Codes
 pub mod Stored
 pub mod Shape
 pub mod Kept
+pub mod Slots
 pub mod Made
 pub mod Sameness
 pub mod Settling

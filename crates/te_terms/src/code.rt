@@ -9,11 +9,11 @@ ghost use Rattle.te_terms.specs.Limits.{most_nodes, greatest_height, most_fresh,
 ghost use Rattle.te_terms.specs.Shape.{children, times_named, one_if_fresh, fresh_nodes, NamesEarlier, IsForest, HasFreeChildren, term_over};
 ghost use Rattle.te_terms.specs.Kept.{Tells, TellsNew, IsLow, IsKept, IsFree, listed, own_weight, adopted};
 
-use crate::expr::{Cond, Expr, Operand};
+use crate::expr::{Calc, Cond, Expr, Operand};
 use crate::limits::{GREATEST_HEIGHT, MOST_FRESH, MOST_NODES};
+use crate::slot::{Form, Slot, store};
 use std::alloc::Global;
 use std::marker::Model;
-use std::slice;
 use thiserror::Error;
 
 /// One node of an event, with its children by their numbers.
@@ -113,7 +113,9 @@ struct Mark {
 /// are this project's own.
 #[derive(Drop)]
 pub struct EventCode {
-    nodes: Vec<Node>,
+    // Each node but for its calculations, which stand in one list.
+    slots: Vec<Slot>,
+    calcs: Vec<Calc>,
     marks: Vec<Mark>,
     fresh: u8,
 }
@@ -121,13 +123,13 @@ pub struct EventCode {
 impl Model for EventCode {
     ghost use Rattle.std.specs.Prelude.{List};
     ghost use Rattle.te_terms.specs.declared.code.Node.{Node};
-    ghost use Rattle.te_terms.specs.Kept.{IsKept};
+    ghost use Rattle.te_terms.specs.Slots.{nodes_of, IsCode};
 
     ghost Value = { List Node };
 
-    ghost view = { λ c. c.nodes.items };
+    ghost view = { λ c. nodes_of c.slots.items c.calcs.items };
 
-    ghost invariant = { λ c. IsKept c.nodes.items c.marks.items c.fresh };
+    ghost invariant = { λ c. IsCode c.slots.items c.calcs.items c.marks.items c.fresh };
 }
 
 impl EventCode {
@@ -136,7 +138,8 @@ impl EventCode {
         ensures { result ≡ [] }
     {
         EventCode {
-            nodes: Vec::new(alloc),
+            slots: Vec::new(alloc),
+            calcs: Vec::new(alloc),
             marks: Vec::new(alloc),
             fresh: 0,
         }
@@ -147,7 +150,7 @@ impl EventCode {
         ensures value { result ≡ length self.now }
         ensures forest { IsForest self.now }
     {
-        self.nodes.len() as u32
+        self.slots.len() as u32
     }
 
     /// Node `i`, from 0; `None` exactly where there is no such node.
@@ -156,17 +159,10 @@ impl EventCode {
         ensures earlier { IfSome result (λ node. NamesEarlier i node) }
         ensures forest { IsForest self.now }
     {
-        self.nodes.get(i as usize).copied()
-    }
-
-    /// The nodes, in order. It is public for the crates above alone, which read nodes where they lie: a node
-    /// is large to copy.
-    #[doc(hidden)]
-    pub fn as_slice(&self) -> &[Node]
-        ensures value { result.now ≡ self.now }
-        ensures forest { IsForest self.now }
-    {
-        self.nodes.as_slice()
+        match self.slots.get(i as usize) {
+            Some(slot) => Some(slot.node(&self.calcs)),
+            None => None,
+        }
     }
 
     fn is_free(&self, i: u32) -> bool
@@ -259,15 +255,14 @@ impl EventCode {
         ensures memory { IfErr result (λ e. e ≡ faults.Memory) }
         ensures err { OnErr result (self.new ≡ self.old) }
     {
-        let number = self.nodes.len() as u32;
+        let number = self.slots.len() as u32;
         let children = node.children();
         let fresh = self.fresh + node.own_fresh();
-        make_room(&mut self.marks)?;
-        make_room(&mut self.nodes)?;
-        // By reference: the prover takes no enum that holds another one with a model through `Vec::push`.
-        let Ok(()) = self.nodes.extend_from_slice(slice::from_ref(&node)) else {
-            return Err(CodeFault::Memory);
-        };
+        let form = Form::of(&node);
+        make_room(&mut self.marks, 1)?;
+        make_room(&mut self.slots, 1)?;
+        make_room(&mut self.calcs, form.needed())?;
+        store(&mut self.slots, &mut self.calcs, &node, form);
         self.marks.push_reserved(mark);
         adopt(&mut self.marks, children);
         self.fresh = fresh;
@@ -289,7 +284,7 @@ impl EventCode {
         if !self.takes_children(&node) {
             return Err(CodeFault::Child);
         }
-        if self.nodes.len() >= MOST_NODES {
+        if self.len() as usize >= MOST_NODES {
             return Err(CodeFault::Full);
         }
         if (self.fresh + node.own_fresh()) as u32 > MOST_FRESH {
@@ -303,16 +298,16 @@ impl EventCode {
     }
 }
 
-// Makes room for one more: at first for exactly one, since many codes have one node.
-fn make_room<T>(list: &mut Vec<T>) -> Result<(), CodeFault>
+// Makes room for so many more: at first for exactly these, since many codes have one node.
+fn make_room<T>(list: &mut Vec<T>, more: usize) -> Result<(), CodeFault>
     ensures items { list.new.items ≡ list.old.items }
-    ensures ok { OnOk result (vec_len list.new < vec_capacity list.new) }
+    ensures ok { OnOk result (vec_len list.new + more ≤ vec_capacity list.new) }
     ensures memory { IfErr result (λ e. e ≡ faults.Memory) }
 {
     let made = if list.is_empty() {
-        list.reserve_exact(1)
+        list.reserve_exact(more)
     } else {
-        list.reserve(1)
+        list.reserve(more)
     };
     match made {
         Ok(()) => Ok(()),

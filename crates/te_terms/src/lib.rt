@@ -10,6 +10,7 @@ mod memory;
 mod name;
 mod rows;
 mod same;
+mod slot;
 mod value;
 
 pub use code::{CodeFault, EventCode, Node};

@@ -1,3 +1,4 @@
+use super::slot::Slot;
 use super::*;
 use std::alloc::Global;
 use std::sync::Arc;
@@ -213,6 +214,27 @@ fn limits_of_values_and_names(rt: HostRuntime) {
 #[test]
 fn values_are_packed(rt: HostRuntime) {
     assert_eq!(rt; size_of::<Value>(), 40);
+    assert_eq!(rt; size_of::<Slot>(), 16);
+}
+
+// Lists of one, two and four atoms of both kinds come back as they were, and differ where an atom does.
+#[test]
+fn values_keep_their_atoms(rt: HostRuntime) {
+    let atoms = [
+        Atom::Int(LEAST),
+        Atom::Chan(u32::MAX),
+        Atom::Int(0),
+        Atom::Chan(0),
+    ];
+    let whole = value(&atoms);
+    for (place, atom) in atoms.iter().enumerate() {
+        assert_eq!(rt; whole.get(place), Some(*atom));
+    }
+    assert_eq!(rt; whole.get(4), None);
+    assert_eq!(rt; whole == value(&atoms[..3]), false);
+    assert_eq!(rt; value(&[Atom::Int(0)]) == Value::unit(), false);
+    assert_eq!(rt; value(&[Atom::Int(5)]) == value(&[Atom::Chan(5)]), false);
+    assert_eq!(rt; value(&[Atom::Chan(5)]), value(&[Atom::Chan(5)]));
 }
 
 #[test]
@@ -232,6 +254,39 @@ fn nodes_are_pushed(rt: HostRuntime) {
     assert_eq!(rt; code.len(), 4);
     assert_eq!(rt; code.node(2), Some(Node::Catch(0, 1)));
     assert_eq!(rt; code.node(4), None);
+}
+
+// Every kind of node comes back as it was, whatever stands before and behind it.
+#[test]
+fn nodes_are_kept(rt: HostRuntime) {
+    let sum = Calc::Op(Arith::Add, reg(0, 0), int(1));
+    let four = tuple(&[sum, Calc::One(chan(7)), Calc::One(inner(0, 2)), sum]);
+    let cond = Cond {
+        test: Test::Less,
+        left: reg(1, 1),
+        right: int(LEAST),
+    };
+    let nodes = [
+        Node::Send(reg(1, 0), four),
+        Node::Recv(inner(3, 1)),
+        Node::Then(0, 1),
+        Node::Throw(tuple(&[])),
+        Node::Always(Expr::Whole(Var::Inner(9))),
+        Node::If(cond, 3, 4),
+        Node::Send(chan(2), Expr::Whole(Var::Reg(7))),
+        Node::Always(tuple(&[sum])),
+        Node::Catch(6, 7),
+        Node::Fresh,
+        Node::Never,
+        Node::Choose(9, 10),
+    ];
+    let mut code = EventCode::new(rt.alloc());
+    for (i, node) in nodes.iter().enumerate() {
+        assert_eq!(rt; code.push(*node), Ok(i as u32));
+    }
+    for (i, node) in nodes.iter().enumerate() {
+        assert_eq!(rt; code.node(i as u32), Some(*node));
+    }
 }
 
 #[test]

@@ -1,4 +1,4 @@
-use Rattle.std.proofs.Common.{rules, ◌≡◌, ◌<◌, ◌≤◌, pos, false, arith, get_or, length, ap, ◌∙◌, sym, slice_get, subst}
+use Rattle.std.proofs.Common.{rules, ◌≡◌, pos, false, arith, get_or, length, ap, ◌∙◌, sym}
 use Rattle.std.proofs.lemmas.Option.{slice_get_past}
 use mir.Val.{SFits}
 use mir.Syntax.{w64}

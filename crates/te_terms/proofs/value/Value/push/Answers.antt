@@ -1,7 +1,7 @@
-use Rattle.std.proofs.Common.{rules, ◌≡◌, ℕ, ◌+◌, ◌<◌, ℤ, Bool, List, [], ◌∷◌, ◌++◌, length, set, arith, ap, ◌∙◌, sym, subst}
+use Rattle.std.proofs.Common.{rules, ◌≡◌, ◌<◌, ℤ, [], ◌∷◌, ◌++◌, length, arith, ap, ◌∙◌, subst}
 use Rattle.te_terms.specs.Limits.{most_atoms}
-use Rattle.te_terms.specs.Packed.{word_of, is_channel, atoms_in, IsNarrow, IsPacked}
-use Rattle.te_terms.proofs.PackedLemmas.{Pushed, pushed}
+use Rattle.te_terms.specs.Packed.{word_of, is_channel, IsNarrow}
+use Rattle.te_terms.proofs.PackedLemmas.{pushed}
 use mir.Val.{SFits, to_z, of_z}
 use mir.Syntax.{w64}
 use Rattle.std.proofs.Math.Facts.{to_z-of_z}
