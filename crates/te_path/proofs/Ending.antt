@@ -1,6 +1,5 @@
 -- An outcome that has been handed to frames.
 use Rattle.std.proofs.Common.{◌≡◌, ℕ, suc, ◌+◌, ◌<◌, ◌≤◌, List, [], ◌∷◌, ◌++◌, length, Some, None, Option, refl, ap, sym, subst, arith, length-append}
-use Rattle.te_terms.specs.declared.value.Atom.{Atom}
 use Rattle.te_terms.specs.declared.event.Outcome.{Outcome}
 use Rattle.te_terms.specs.declared.event.Outcome.TheVariants.{Gives, Raises}
 use Rattle.te_terms.specs.Steps.{Member}
@@ -12,11 +11,10 @@ use Rattle.te_path.specs.declared.spot.Stop.{Stop}
 use Rattle.te_path.specs.declared.spot.Spot.{Spot}
 use Rattle.te_path.specs.Chains.{IsLinked, Extends, value_parent, inner_at, frames_at}
 use Rattle.te_path.specs.Growth.{AreLinked}
-use Rattle.te_path.specs.Layers.{in_layers}
 use Rattle.te_path.specs.Origins.{Origin, member_at}
 use Rattle.te_path.specs.Paths.{HasFewFresh}
 use Rattle.te_path.specs.Unwinding.{value_in, unwound, Unwound, rest_of}
-use Rattle.te_path.specs.Places.{placed, ending_in, layers_at, node_term, node_left, ended, AreAround, IsPlace, nodes_left, frames_left, left_at, Alike}
+use Rattle.te_path.specs.Places.{placed, ending_in, layers_at, node_left, ended, AreAround, IsPlace, nodes_left, left_at, Alike}
 use Rattle.te_path.specs.Spots.{spelled, stop_of, IsSpot}
 use Rattle.te_path.proofs.Growing.{layers_grown, left_grown, fit_grown}
 use Rattle.te_path.proofs.Unwinds.{ComesTo, Resumes, comes_to}

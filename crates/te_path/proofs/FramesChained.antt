@@ -1,5 +1,5 @@
 -- The frames of a link, unwound.
-use Rattle.std.proofs.Common.{◌≡◌, ◌≢◌, ℕ, zero, suc, ◌-◌, true, false, List, [], ◌∷◌, ◌++◌, ◌≤◌, length, length-append, Option, Some, None, refl, sym, ap, ◌∙◌, ◌<◌, subst, arith}
+use Rattle.std.proofs.Common.{◌≡◌, ◌≢◌, ℕ, zero, suc, ◌-◌, true, false, List, [], ◌∷◌, ◌++◌, ◌≤◌, length, length-append, Some, None, refl, sym, ap, ◌∙◌, ◌<◌, subst, arith}
 use Rattle.std.specs.Prelude.{slice_get}
 use Rattle.te_terms.specs.declared.event.Outcome.{Outcome}
 use Rattle.te_path.specs.declared.frames.FrameCell.{FrameCell}

@@ -14,7 +14,7 @@ use Rattle.te_path.specs.Chains.{IsLinked, Extends, value_parent, frame_parent, 
 use Rattle.te_path.specs.Growth.{AreLinked, Grows, IsMarkOf, cut_to}
 use Rattle.te_path.specs.Origins.{Origin}
 use Rattle.te_path.specs.Paths.{StandsAt, HasFewFresh}
-use Rattle.te_path.specs.Places.{layer_of, layers_at, FrameFits, FramesFit, AreAround, frames_left, left_at}
+use Rattle.te_path.specs.Places.{layer_of, layers_at, FramesFit, AreAround, frames_left, left_at}
 use Rattle.te_path.specs.Spots.{spelled, IsSpot}
 use Rattle.te_path.proofs.Chained.{chain_grown}
 use Rattle.te_path.proofs.ValuesChained.{inner_grown}

@@ -1,5 +1,5 @@
 -- Steps of members, as a walk uses them.
-use Rattle.std.proofs.Common.{◌≡◌, ◌≤◌, ◌+◌, ℕ, List, Option, Some, None, refl, sym, ap, arith}
+use Rattle.std.proofs.Common.{◌≡◌, ◌+◌, ℕ, List, Some, None, sym, ap, arith}
 use Rattle.te_terms.specs.declared.value.Atom.{Atom}
 use Rattle.te_terms.specs.declared.event.Outcome.TheVariants.{Gives, Raises}
 use Rattle.te_terms.specs.Terms.{Term, and_then, catch, bound}

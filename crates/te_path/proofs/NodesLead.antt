@@ -17,7 +17,7 @@ use Rattle.te_path.specs.declared.frames.Awaits.TheVariants.{Given, Raised}
 use Rattle.te_path.specs.declared.place.Place.{Place}
 use Rattle.te_path.specs.declared.spot.Stop.TheVariants as stops
 use Rattle.te_path.specs.Chains.{inner_at}
-use Rattle.te_path.specs.Origins.{Origin, member_at}
+use Rattle.te_path.specs.Origins.{Origin}
 use Rattle.te_path.specs.Places.{node_term, headed}
 use Rattle.te_path.specs.Scopes.{test_over}
 use Rattle.te_path.specs.Leading.{RestsIn, GoesTo, EntersAt}

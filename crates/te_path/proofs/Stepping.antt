@@ -1,5 +1,5 @@
 -- What comes of the node at the head, of the place.
-use Rattle.std.proofs.Common.{◌≡◌, ◌≢◌, ◌⊎◌, inl, inr, ℕ, zero, suc, ◌+◌, ◌<◌, List, [], ◌∷◌, length, map, Option, Some, None, Result, Ok, Err, refl, ap, ◌∙◌, sym, subst, arith}
+use Rattle.std.proofs.Common.{◌≡◌, ◌≢◌, ◌⊎◌, inl, inr, ℕ, zero, suc, ◌+◌, ◌<◌, List, [], ◌∷◌, length, map, Some, None, Result, Ok, Err, refl, ap, ◌∙◌, sym, subst, arith}
 use Rattle.std.specs.Prelude.{slice_get, IfOk}
 use Rattle.te_terms.specs.declared.value.Atom.{Atom}
 use Rattle.te_terms.specs.declared.value.Atom.TheVariants.{Chan}
@@ -25,7 +25,7 @@ use Rattle.te_path.specs.Layers.{Layer, in_layers}
 use Rattle.te_path.specs.Leading.{RestsIn, GoesTo, EndsAs}
 use Rattle.te_path.specs.Origins.{Origin, member_at}
 use Rattle.te_path.specs.Paths.{StandsAt, HasFewFresh}
-use Rattle.te_path.specs.Places.{placed, headed, ending_in, layers_at, layer_of, node_term, head_term, ended, IsPlace, nodes_left, left_at, Alike}
+use Rattle.te_path.specs.Places.{placed, headed, ending_in, layers_at, layer_of, head_term, ended, IsPlace, nodes_left, left_at, Alike}
 use Rattle.te_path.specs.Spots.{spelled, IsSpot}
 use Rattle.te_path.specs.Wents.{GoesOn}
 use Rattle.te_path.proofs.MemberLaws.{alike_by_step}

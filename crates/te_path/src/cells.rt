@@ -2,7 +2,7 @@
 
 ghost use Rattle.std.specs.Prelude.{◌≡◌, [], IfOk};
 ghost use Rattle.te_path.specs.declared.cells.Cells.{Cells};
-ghost use Rattle.te_path.specs.Growth.{AreLinked, Grows, IsMarkOf};
+ghost use Rattle.te_path.specs.Growth.{AreLinked, Grows, IsMarkOf, cut_to};
 
 use crate::frames::FrameCells;
 use crate::values::ValueCells;
@@ -62,7 +62,8 @@ impl Cells {
 
     /// Goes back to the cells of a mark that was made of them.
     pub fn cut(&mut self, mark: CellMark)
-        ensures { (past : Cells) → IsMarkOf past mark → Grows past self.old → self.new ≡ past }
+        ensures cut { self.new ≡ cut_to mark self.old }
+        ensures past { (past : Cells) → IsMarkOf past mark → Grows past self.old → self.new ≡ past }
     {
         self.values.cut(mark.values);
         self.frames.cut(mark.frames);

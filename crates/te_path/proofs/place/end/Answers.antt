@@ -1,4 +1,3 @@
-use Rattle.std.proofs.Common.{sym, ap, ◌∙◌}
 use Rattle.te_path.specs.Origins.{origin_of}
 use Rattle.te_path.proofs.Ending.{end_is, taker_sees, resumed}
 use Rattle.te_path.proofs.place.end.Goals as goal

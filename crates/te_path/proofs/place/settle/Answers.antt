@@ -1,7 +1,6 @@
 use Rattle.std.proofs.Common.{◌∙◌, subst}
 use Rattle.te_path.specs.Origins.{origin_of}
 use Rattle.te_path.specs.Places.{placed, nodes_left}
-use Rattle.te_path.specs.Spots.{spelled}
 use Rattle.te_path.specs.Wents.{GoesOn, Keeps}
 use Rattle.te_path.proofs.Growing.{grows_on}
 use Rattle.te_path.proofs.InLayers.{alike_on}

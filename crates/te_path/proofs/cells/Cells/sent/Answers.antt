@@ -1,4 +1,4 @@
-use Rattle.std.proofs.Common.{[], sym}
+use Rattle.std.proofs.Common.{[]}
 use Rattle.te_terms.specs.Joint.{sending}
 use Rattle.te_path.specs.Origins.{origin_of}
 use Rattle.te_path.specs.Spots.{spelled}

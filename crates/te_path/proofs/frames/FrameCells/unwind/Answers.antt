@@ -1,4 +1,4 @@
-use Rattle.std.proofs.Common.{sym, ap, ◌∙◌, arith}
+use Rattle.std.proofs.Common.{sym, ◌∙◌, arith}
 use Rattle.std.proofs.lemmas.Option.{slice_get_within}
 use Rattle.te_path.proofs.FramesChained.{is_taken, is_passed}
 use Rattle.te_path.proofs.frames.FrameCells.unwind.Goals as goal

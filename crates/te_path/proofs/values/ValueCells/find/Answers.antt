@@ -1,4 +1,4 @@
-use Rattle.std.proofs.Common.{sym, ap, ◌∙◌, arith}
+use Rattle.std.proofs.Common.{sym, ◌∙◌, arith}
 use Rattle.te_path.proofs.ValuesChained.{is_found, is_further}
 use Rattle.te_path.proofs.values.ValueCells.find.Goals as goal
 

@@ -1,4 +1,4 @@
-use Rattle.std.proofs.Common.{sym, ap, ◌∙◌, arith}
+use Rattle.std.proofs.Common.{sym, arith}
 use Rattle.te_path.proofs.ValuesChained.{level_is, level_low}
 use Rattle.te_path.proofs.values.ValueCells.level.Goals as goal
 

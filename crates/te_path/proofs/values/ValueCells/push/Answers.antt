@@ -1,6 +1,5 @@
-use Rattle.std.proofs.Common.{rules, ◌≡◌, ◌≢◌, ◌-◌, ◌+◌, ◌<◌, suc, List, [], ◌∷◌, ◌++◌, length, take, Some, None, refl, sym, ap, ◌∙◌, arith, length-append, IsTrue}
-use Rattle.std.specs.Prelude.{slice_get, Ok}
-use Rattle.te_path.specs.Chains.{inner_at, frames_at, value_parent, frame_parent, IsLinked, AreValues}
+use Rattle.std.proofs.Common.{rules, ◌≡◌, [], ◌∷◌, ◌++◌, length, ap, ◌∙◌}
+use Rattle.te_path.specs.Chains.{inner_at}
 use Rattle.te_path.proofs.ValuesChained.{cell_pushed}
 use Rattle.te_path.proofs.values.ValueCells.push.Goals as goal
 
