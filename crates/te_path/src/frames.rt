@@ -151,10 +151,10 @@ impl FrameCells {
 }
 
 /// The value that is given or raised.
-pub(crate) fn value_in(outcome: &Outcome) -> Value
-    ensures { result ≡ value_in outcome.now }
+pub(crate) fn value_in(outcome: &Outcome) -> &Value
+    ensures { result.now ≡ value_in outcome.now }
 {
     match outcome {
-        Outcome::Gives(value) | Outcome::Raises(value) => *value,
+        Outcome::Gives(value) | Outcome::Raises(value) => value,
     }
 }

@@ -89,8 +89,7 @@ pub(crate) fn look(posted: &Posted, cells: &Cells, place: Place) -> Next
         values: &cells.values,
         top: place.values,
     };
-    let node = node(posted.code, place.node);
-    match &node {
+    match node(posted.code, place.node) {
         Node::Always(e) => match e.eval_in(&scope) {
             Ok(value) => if place.frames == 0 {
                 Next::Stays(Stop::Done(value))
@@ -107,7 +106,7 @@ pub(crate) fn look(posted: &Posted, cells: &Cells, place: Place) -> Next
             },
             Err(trap) => raised(trap),
         },
-        Node::Send(p, e) => match to_send(p, e, &scope) {
+        Node::Send(p, e) => match to_send(&p, &e, &scope) {
             Ok(message) => Next::Stays(Stop::Send(message.channel, message.value)),
             Err(trap) => raised(trap),
         },
@@ -116,12 +115,12 @@ pub(crate) fn look(posted: &Posted, cells: &Cells, place: Place) -> Next
             Err(_) => raised(Trap::Kind),
         },
         Node::If(cond, a, b) => match cond.holds_in(&scope) {
-            Ok(true) => Next::Goes(*a),
-            Ok(false) => Next::Goes(*b),
+            Ok(true) => Next::Goes(a),
+            Ok(false) => Next::Goes(b),
             Err(trap) => raised(trap),
         },
-        Node::Then(a, b) => Next::Enters(Awaits::Given, *a, *b),
-        Node::Catch(a, b) => Next::Enters(Awaits::Raised, *a, *b),
+        Node::Then(a, b) => Next::Enters(Awaits::Given, a, b),
+        Node::Catch(a, b) => Next::Enters(Awaits::Raised, a, b),
         Node::Choose(_, _) => Next::Stays(Stop::Choice),
         Node::Never => Next::Stays(Stop::Dead),
         Node::Fresh => Next::Fresh,
@@ -134,8 +133,7 @@ pub(crate) fn turn_of(posted: &Posted, cells: &Cells, place: Place) -> Turn
     requires { place.node < length posted.now.code.now }
     ensures { Turns (origin_of posted.now) cells.now place result }
 {
-    let node = node(posted.code, place.node);
-    match &node {
+    match node(posted.code, place.node) {
         Node::If(cond, a, b) => {
             let scope = Linked {
                 regs: posted.regs,
@@ -143,13 +141,13 @@ pub(crate) fn turn_of(posted: &Posted, cells: &Cells, place: Place) -> Turn
                 top: place.values,
             };
             match cond.holds_in(&scope) {
-                Ok(true) => Turn::Goes(*a),
-                Ok(false) => Turn::Goes(*b),
+                Ok(true) => Turn::Goes(a),
+                Ok(false) => Turn::Goes(b),
                 Err(_) => Turn::Other,
             }
         }
-        Node::Then(a, b) => Turn::Enters(Awaits::Given, *a, *b),
-        Node::Catch(a, b) => Turn::Enters(Awaits::Raised, *a, *b),
+        Node::Then(a, b) => Turn::Enters(Awaits::Given, a, b),
+        Node::Catch(a, b) => Turn::Enters(Awaits::Raised, a, b),
         _ => Turn::Other,
     }
 }

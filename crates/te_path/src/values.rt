@@ -78,12 +78,12 @@ impl ValueCells {
     }
 
     /// Puts a value behind those of the parent, and answers its link.
-    pub(crate) fn push(&mut self, value: Value, parent: u32) -> Result<u32, NoMemory>
+    pub(crate) fn push(&mut self, value: &Value, parent: u32) -> Result<u32, NoMemory>
         requires { parent ≤ length self.old }
         ensures extends { Extends self.old self.new }
         ensures linked { IsLinked value_parent self.new }
         ensures was_linked { IsLinked value_parent self.old }
-        ensures ok { IfOk result (λ link. (link ≡ length self.new) × (inner_at self.new link ≡ inner_at self.old parent ++ value ∷ [])) }
+        ensures ok { IfOk result (λ link. (link ≡ length self.new) × (inner_at self.new link ≡ inner_at self.old parent ++ value.now ∷ [])) }
         ensures err { OnErr result (self.new ≡ self.old) }
     {
         if self.list.len() >= 4_294_967_295 {
@@ -91,7 +91,7 @@ impl ValueCells {
         }
         let level = self.level(parent);
         self.list.push(ValueCell {
-            value,
+            value: *value,
             parent,
             level,
         })?;
