@@ -22,7 +22,9 @@ use Rattle.te_path.specs.declared.spot.Stop.TheVariants as stops
 use Rattle.te_path.specs.declared.spot.Spot.{Spot}
 use Rattle.te_path.specs.Chains.{chain, linked, chain_within, inner_at, frames_at, frame_parent}
 use Rattle.te_path.specs.Layers.{Layer, in_layers}
-use Rattle.te_path.specs.Leading.{RestsIn, GoesTo, EndsAs}
+use Rattle.te_path.specs.declared.looking.Turn.{Turn}
+use Rattle.te_path.specs.declared.looking.Turn.TheVariants as turns
+use Rattle.te_path.specs.Leading.{RestsIn, GoesTo, EndsAs, Turns, stop_of_turn}
 use Rattle.te_path.specs.Origins.{Origin, member_at}
 use Rattle.te_path.specs.Paths.{StandsAt, HasFewFresh}
 use Rattle.te_path.specs.Places.{placed, headed, ending_in, layers_at, layer_of, head_term, ended, IsPlace, nodes_left, left_at, Alike}
@@ -57,6 +59,21 @@ some_chain parent cells (suc i) some h e =
 some_mapped : {A B : Type 0} (f : A → B) (xs : List A) → xs ≢ [] → map f xs ≢ []
 some_mapped f [] some e = some refl
 some_mapped f (x ∷ xs) some e = cc
+
+-- a node that rests
+pub rests_so : (o : Origin) (cells : Cells) (p : Place) (turn : Turn) (stop : Stop) → Turns o cells p turn → stop_of_turn turn ≡ Some stop → RestsIn o.code p.node p.frames (headed o cells p) stop
+rests_so o cells p (turns.Waits c) stop at e =
+    let same : stops.Recv c ≡ stop = cc in
+    subst (λ s. RestsIn o.code p.node p.frames (headed o cells p) s) same at
+rests_so o cells p turns.Chooses stop at e =
+    let same : stops.Choice ≡ stop = cc in
+    subst (λ s. RestsIn o.code p.node p.frames (headed o cells p) s) same at
+rests_so o cells p turns.Dead stop at e =
+    let same : stops.Dead ≡ stop = cc in
+    subst (λ s. RestsIn o.code p.node p.frames (headed o cells p) s) same at
+rests_so o cells p (turns.Goes j) stop at e = absurd cc
+rests_so o cells p (turns.Enters awaits a b) stop at e = absurd cc
+rests_so o cells p turns.Other stop at e = absurd cc
 
 module _ (o : Origin) (cells : Cells) (p : Place) (is : IsPlace o cells p) where
   abbrev around_it : List Layer

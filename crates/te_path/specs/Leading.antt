@@ -1,5 +1,5 @@
 -- What comes of the node at the head of a place. No public clause cites this module.
-use Rattle.std.specs.Prelude.{◌≡◌, ◌≢◌, ◌⊎◌, ℕ, suc, ◌+◌, ◌<◌, List, length, Some, None, Result, Ok, Err, slice_get}
+use Rattle.std.specs.Prelude.{◌≡◌, ◌≢◌, ◌⊎◌, ℕ, suc, ◌+◌, ◌<◌, List, length, Option, Some, None, Result, Ok, Err, slice_get}
 use Rattle.te_terms.specs.declared.value.Atom.{Atom}
 use Rattle.te_terms.specs.declared.value.Trap.{Trap}
 use Rattle.te_terms.specs.declared.code.Node.{Node}
@@ -59,7 +59,17 @@ Leads o cells p nexts.Fresh = head_term o.code o.regs cells p ≡ fresh
 abbrev pub Turns : Origin → Cells → Place → Turn → Type 0
 Turns o cells p (turns.Goes j) = GoesTo o.code o.regs (inner_at cells.values p.values) (headed o cells p) p.node j
 Turns o cells p (turns.Enters awaits a b) = EntersAt o.code o.regs (inner_at cells.values p.values) p.node awaits a b
+Turns o cells p (turns.Waits c) = RestsIn o.code p.node p.frames (headed o cells p) (stops.Recv c)
+Turns o cells p turns.Chooses = RestsIn o.code p.node p.frames (headed o cells p) stops.Choice
+Turns o cells p turns.Dead = RestsIn o.code p.node p.frames (headed o cells p) stops.Dead
 Turns o cells p turns.Other = Unit {0}
+
+-- the stop at a node that rests
+abbrev pub stop_of_turn : Turn → Option Stop
+stop_of_turn (turns.Waits c) = Some (stops.Recv c)
+stop_of_turn turns.Chooses = Some stops.Choice
+stop_of_turn turns.Dead = Some stops.Dead
+stop_of_turn _ = None
 
 -- a send has a channel and a value, or raises a trap, its channel's before its value's
 abbrev pub Sends : Result ℕ Trap → Result (List Atom) Trap → Result Message Trap → Type 0

@@ -8,7 +8,7 @@ ghost use Rattle.te_path.specs.declared.looking.Next.TheVariants.{Ends};
 ghost use Rattle.te_path.specs.Chains.{inner_at};
 ghost use Rattle.te_path.specs.Origins.{origin_of};
 ghost use Rattle.te_path.specs.Scopes.{channel_over, value_over};
-ghost use Rattle.te_path.specs.Leading.{Leads, Turns, Sends};
+ghost use Rattle.te_path.specs.Leading.{Leads, Turns, Sends, stop_of_turn};
 
 use crate::cells::Cells;
 use crate::frames::Awaits;
@@ -33,15 +33,33 @@ pub(crate) enum Next {
     Fresh,
 }
 
-/// What comes of a node with parts.
+/// What comes of a node that gives no value.
 #[derive(Clone, Copy)]
 pub(crate) enum Turn {
     /// Another node takes its place.
     Goes(u32),
     /// Its first part comes first, and then its second.
     Enters(Awaits, u32, u32),
+    /// It receives on the channel.
+    Waits(u32),
+    /// It is a choice.
+    Chooses,
+    /// It is `never`.
+    Dead,
     /// It is for `look` to tell.
     Other,
+}
+
+/// The stop at a node that rests.
+pub(crate) fn stop_of_turn(turn: Turn) -> Option<Stop>
+    ensures { result ≡ stop_of_turn turn }
+{
+    match turn {
+        Turn::Waits(channel) => Some(Stop::Recv(channel)),
+        Turn::Chooses => Some(Stop::Choice),
+        Turn::Dead => Some(Stop::Dead),
+        Turn::Goes(_) | Turn::Enters(_, _, _) | Turn::Other => None,
+    }
 }
 
 // What stands to be sent.
@@ -127,11 +145,11 @@ pub(crate) fn look(posted: &Posted, cells: &Cells, place: Place) -> Next
     }
 }
 
-/// What comes of the node at the head where it is a `then`, a `catch` or an `if` that doesn't trap. It holds no
-/// large value.
+/// What comes of the node at the head where it gives no value and doesn't trap. It holds no large value.
 pub(crate) fn turn_of(posted: &Posted, cells: &Cells, place: Place) -> Turn
     requires { place.node < length posted.now.code.now }
-    ensures { Turns (origin_of posted.now) cells.now place result }
+    ensures forest { IsForest posted.now.code.now }
+    ensures turns { Turns (origin_of posted.now) cells.now place result }
 {
     match node(posted.code, place.node) {
         Node::If(cond, a, b) => {
@@ -148,7 +166,20 @@ pub(crate) fn turn_of(posted: &Posted, cells: &Cells, place: Place) -> Turn
         }
         Node::Then(a, b) => Turn::Enters(Awaits::Given, a, b),
         Node::Catch(a, b) => Turn::Enters(Awaits::Raised, a, b),
-        _ => Turn::Other,
+        Node::Recv(p) => {
+            let scope = Linked {
+                regs: posted.regs,
+                values: &cells.values,
+                top: place.values,
+            };
+            match p.channel_in(&scope) {
+                Ok(channel) => Turn::Waits(channel),
+                Err(_) => Turn::Other,
+            }
+        }
+        Node::Choose(_, _) => Turn::Chooses,
+        Node::Never => Turn::Dead,
+        Node::Always(_) | Node::Throw(_) | Node::Send(_, _) | Node::Fresh => Turn::Other,
     }
 }
 

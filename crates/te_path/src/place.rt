@@ -1,17 +1,19 @@
 // A place in an event, and the walk over its quiet steps.
 
 ghost use Rattle.std.specs.Prelude.{◌≡◌, ◌+◌, ◌<◌, ◌≤◌, length, IfOk, OnOk, OnErr};
+ghost use Rattle.te_terms.specs.Shape.{IsForest};
 ghost use Rattle.te_path.specs.Growth.{Grows};
 ghost use Rattle.te_path.specs.Origins.{origin_of};
 ghost use Rattle.te_path.specs.Paths.{HasFewFresh};
 ghost use Rattle.te_path.specs.Places.{placed, ending_in, AreAround, IsPlace, nodes_left, left_at, Alike};
 ghost use Rattle.te_path.specs.Spots.{spelled, stop_of, IsSpot};
+ghost use Rattle.te_path.specs.Leading.{Turns};
 ghost use Rattle.te_path.specs.Wents.{GoesOn, Keeps, ComesOn};
 
 use crate::cells::Cells;
 use crate::frames::{FrameCell, value_in};
 use crate::fresh::fresh_value;
-use crate::looking::{Next, Turn, look, turn_of};
+use crate::looking::{Next, Turn, look, stop_of_turn, turn_of};
 use crate::posted::Posted;
 use crate::spot::{Spot, Stop};
 use te_terms::{NoMemory, Outcome};
@@ -24,6 +26,13 @@ pub(crate) struct Place {
     pub(crate) values: u32,
     pub(crate) frames: u32,
     pub(crate) count: u32,
+}
+
+// A place and what comes of its node.
+#[derive(Clone, Copy)]
+struct Down {
+    place: Place,
+    turn: Turn,
 }
 
 /// What one step leaves: another place, or nothing to do, with the spot written.
@@ -48,25 +57,27 @@ pub(crate) fn settle(
 {
     let mut place = from;
     'all: loop {
-        place = descend(cells, posted, place)?;
-        match step(cells, posted, place, spot)? {
+        let down = descend(cells, posted, place)?;
+        match arrive(cells, posted, down, spot)? {
             Went::To(next) => place = next,
             Went::At => return Ok(()),
         }
     }
 }
 
-// Goes on while the node at the head has parts. It holds no large value, so a turn of its loop is cheap.
+// Goes on while the node at the head has a part that comes next. It holds no large value, so a turn of its loop is
+// cheap.
 #[inline(never)]
-fn descend(cells: &mut Cells, posted: &Posted, from: Place) -> Result<Place, NoMemory>
+fn descend(cells: &mut Cells, posted: &Posted, from: Place) -> Result<Down, NoMemory>
     requires { IsPlace (origin_of posted.now) cells.old from }
     ensures grows { Grows cells.old cells.new }
-    ensures ok { IfOk result (λ place. ComesOn (origin_of posted.now) (placed (origin_of posted.now) cells.old from) (nodes_left posted.now.code.now cells.old from) cells.new place) }
+    ensures ok { IfOk result (λ down. ComesOn (origin_of posted.now) (placed (origin_of posted.now) cells.old from) (nodes_left posted.now.code.now cells.old from) cells.new down.place) }
+    ensures turn { IfOk result (λ down. Turns (origin_of posted.now) cells.new down.place down.turn) }
+    ensures forest { IfOk result (λ down. IsForest posted.now.code.now) }
 {
     let mut place = from;
     'down: loop {
         match turn_of(posted, cells, place) {
-            Turn::Other => return Ok(place),
             Turn::Goes(node) => place.node = node,
             Turn::Enters(awaits, node, second) => {
                 place.frames = cells.frames.push(FrameCell {
@@ -77,11 +88,39 @@ fn descend(cells: &mut Cells, posted: &Posted, from: Place) -> Result<Place, NoM
                 })?;
                 place.node = node;
             }
+            turn => return Ok(Down { place, turn }),
         }
     }
 }
 
+// Writes the spot where the node rests, or goes on from it.
+fn arrive(cells: &mut Cells, posted: &Posted, down: Down, spot: &mut Spot) -> Result<Went, NoMemory>
+    requires place { IsPlace (origin_of posted.now) cells.old down.place }
+    requires turn { Turns (origin_of posted.now) cells.old down.place down.turn }
+    requires forest { IsForest posted.now.code.now }
+    ensures grows { Grows cells.old cells.new }
+    ensures ok { IfOk result (λ went. GoesOn (origin_of posted.now) (placed (origin_of posted.now) cells.old down.place) (nodes_left posted.now.code.now cells.old down.place) cells.new spot.new went) }
+    ensures kept { IfOk result (Keeps spot.old spot.new) }
+    ensures err { OnErr result (spot.new ≡ spot.old) }
+{
+    let place = down.place;
+    match stop_of_turn(down.turn) {
+        Some(stop) => {
+            *spot = Spot {
+                stop,
+                node: place.node + 1,
+                values: place.values,
+                frames: place.frames,
+                count: place.count,
+            };
+            Ok(Went::At)
+        }
+        None => step(cells, posted, place, spot),
+    }
+}
+
 // Goes into the node at the head or makes its quiet step.
+#[inline(never)]
 fn step(cells: &mut Cells, posted: &Posted, place: Place, spot: &mut Spot) -> Result<Went, NoMemory>
     requires { IsPlace (origin_of posted.now) cells.old place }
     ensures grows { Grows cells.old cells.new }

@@ -8,7 +8,7 @@ use Rattle.te_path.proofs.place.descend.Goals as goal
 pub down-preserved-in-Goes : goal.down-preserved-in-Goes
 down-preserved-in-Goes c =
     let o = origin_of c.args.posted.now in
-    let on = goes o c.down.cells c.down.place c.down.invariant.on.place c.in-Goes.node c.in-Goes.ensures in
+    let on = goes o c.down.cells c.down.place c.down.invariant.on.place c.in-Goes.node c.in-Goes.ensures.turns in
     record {
       on = record {
         place = on.0;
