@@ -1,15 +1,17 @@
 #!/usr/bin/env python3
-"""Measures the moves of path states: time and calls that take memory.
+"""Measures the moves of path states: instructions, time and calls that take memory.
 
     bench/paths.py [--runs N] [--moves N]
 
 It proves and builds the program bench/paths.rattle over copies of te_terms and te_path in a temporary folder, and runs
 it on an event of height 4 (four moves a walk) and one of height 32 (thirty-one moves a walk). Each walk is made by a copy of
-the first state. The time is the least of N runs (5), of the processor; that of the copies alone is taken off. The calls
-that take memory are counted by bench/count_allocations.c, which cc builds.
+the first state. The time is the least of N runs (5), of the processor; that of the copies alone is taken off. The
+instructions are those that valgrind's callgrind counts over 1,000 walks, those of the copies alone taken off. The calls that
+take memory are counted by bench/count_allocations.c, which cc builds.
 """
 import argparse
 import os
+import re
 import resource
 import shutil
 import subprocess
@@ -57,6 +59,13 @@ def allocations(program, counter, folder, words):
         return int(file.read())
 
 
+def instructions(program, words):
+    """How many instructions callgrind counts, and the number of moves."""
+    counting = ["valgrind", "--tool=callgrind", "--callgrind-out-file=/dev/null", program, *words]
+    done = subprocess.run(counting, capture_output=True, text=True, check=True)
+    return int(re.search(r"Collected : (\d+)", done.stderr).group(1)), int(done.stdout)
+
+
 def main():
     parser = argparse.ArgumentParser()
     parser.add_argument("--runs", type=int, default=5)
@@ -78,8 +87,11 @@ def main():
                 taken[what] = allocations(program, counter, folder, words) - allocations(program, counter, folder, [event, what, "0"])
             move = (spent["moves"] - spent["copies"]) / moves * 1e9
             copy = spent["copies"] / int(walks) * 1e9
-            print(f"{event}: {moves} moves, {move:.0f} ns a move, {taken['moves'] - taken['copies']} allocations")
-            print(f"  {walks} copies, {copy:.0f} ns a copy, {taken['copies']} allocations")
+            walked, counted = instructions(program, [event, "moves", "1000"])
+            copied, _ = instructions(program, [event, "copies", "1000"])
+            made, _ = instructions(program, [event, "copies", "0"])
+            print(f"{event}: {moves} moves, {(walked - copied) / counted:.0f} instructions and {move:.0f} ns a move, {taken['moves'] - taken['copies']} allocations")
+            print(f"  {walks} copies, {(copied - made) / 1000:.0f} instructions and {copy:.0f} ns a copy, {taken['copies']} allocations")
 
 
 if __name__ == "__main__":

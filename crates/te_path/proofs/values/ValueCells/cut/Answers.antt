@@ -1,0 +1,5 @@
+use Rattle.te_path.proofs.ValuesChained.{are_cut}
+use Rattle.te_path.proofs.values.ValueCells.cut.Goals as goal
+
+pub invariant_of-self : goal.invariant_of-self
+invariant_of-self c = rw c.truncate.ensures.items (are_cut c.self.inside.list.items c.self.invariant c.args.len)
