@@ -2,6 +2,7 @@
 use Rattle.std.proofs.Common.{◌≡◌, ◌<◌, ◌∙◌, sym, refl, arith, lit<}
 use Rattle.std.specs.Prelude.{ℕ, zero, suc, List, [], ◌∷◌, Bool, true, false, Ok, nat_lt}
 use Rattle.te_terms.specs.declared.event.Outcome.{Outcome}
+use Rattle.te_terms.specs.Steps.{come_to}
 use Rattle.te_terms.specs.declared.event.Outcome.TheVariants.{Gives}
 use Rattle.te_terms.specs.Expressions.{chan}
 use Rattle.te_terms.specs.Terms.{Term, always, never, send, recv, choose}
@@ -16,7 +17,7 @@ use Rattle.te_cert.proofs.RowsRing as ring
 -- ---- from labels to a certificate: the order of the choices of two members doesn't matter
 
 abbrev choosers : List steps.Member
-choosers = record { thread = 0; term = choose (always (single 1)) never } ∷ record { thread = 1; term = choose (always (single 2)) never } ∷ []
+choosers = come_to 0 0 0 (choose (always (single 1)) never) ∷ come_to 1 0 0 (choose (always (single 2)) never) ∷ []
 
 abbrev second_first : List Label
 second_first = choice 1 true ∷ choice 0 true ∷ []
@@ -27,7 +28,7 @@ chosen = Gives (single_value 1) ∷ Gives (single_value 2) ∷ []
 pub labels_reduce : Reduces choosers second_first chosen
 labels_reduce = record {
   actions = labelled (choice 1 true) ∷ labelled (choice 0 true) ∷ [];
-  end = record { thread = 0; term = always (single 1) } ∷ record { thread = 1; term = always (single 2) } ∷ [];
+  end = come_to 0 0 0 (always (single 1)) ∷ come_to 1 0 0 (always (single 2)) ∷ [];
   labels_are = refl;
   reaches = refl;
   ends_so = refl;
@@ -74,7 +75,7 @@ abbrev alone_or_not : Term
 alone_or_not = choose (always unit) (send (chan 0) (single 1))
 
 abbrev whole_group : List steps.Member
-whole_group = record { thread = 0; term = alone_or_not } ∷ record { thread = 1; term = recv (chan 0) } ∷ []
+whole_group = come_to 0 0 0 alone_or_not ∷ come_to 1 0 0 (recv (chan 0)) ∷ []
 
 abbrev whole_cert : Cert
 whole_cert = record {
@@ -94,5 +95,5 @@ pub whole_plays : play whole_group ((false ∷ []) ∷ [] ∷ []) whole_cert.mee
     ≡ Ok (record { outcomes = Gives [] ∷ Gives (single_value 1) ∷ []; word = choice 0 false ∷ meeting 0 1 ∷ [] })
 whole_plays = refl
 
-pub first_plays_alone : play (record { thread = 0; term = alone_or_not } ∷ []) ((true ∷ []) ∷ []) [] ≡ Ok (record { outcomes = Gives [] ∷ []; word = choice 0 true ∷ [] })
+pub first_plays_alone : play (come_to 0 0 0 alone_or_not ∷ []) ((true ∷ []) ∷ []) [] ≡ Ok (record { outcomes = Gives [] ∷ []; word = choice 0 true ∷ [] })
 first_plays_alone = refl

@@ -52,7 +52,7 @@ parts : (t e f : Term) (left : Bool) → head t ≡ choose e f → after_choice 
 parts t e f true at = ap (λ h. option_map (λ u. with_head u t) (chosen_from true h)) at
 parts t e f false at = ap (λ h. option_map (λ u. with_head u t) (chosen_from false h)) at
 
-choosing_turn : (m : Member) (e f : Term) → head m.term ≡ choose e f → turn_at m ≡ by_choice (record m { term = with_head e m.term }) (record m { term = with_head f m.term })
+choosing_turn : (m : Member) (e f : Term) → head m.term ≡ choose e f → turn_at m ≡ by_choice (at_term m (with_head e m.term)) (at_term m (with_head f m.term))
 choosing_turn m e f at = rw (parts m.term e f true at, parts m.term e f false at) refl
 
 -- without a letter it lacks one

@@ -1,10 +1,4 @@
-pub mod TurnsEnd
 pub mod Advancing
-pub mod Letters
-pub mod Seats
-pub mod SeatsSet
-pub mod Meets
-pub mod SoFar
 pub mod MembersReplaced
 pub mod PlacesOfThreads
 pub mod ChainsJoin
@@ -19,7 +13,6 @@ pub mod GoingAhead
 pub mod StepsTaken
 pub mod StepsBack
 pub mod ReductionsPlay
-pub mod Checked
 pub mod MeetingsBetween
 pub mod Accepted
 pub mod RowsTerms

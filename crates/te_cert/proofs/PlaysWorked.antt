@@ -2,6 +2,7 @@
 use Rattle.std.proofs.Common.{◌≡◌, refl}
 use Rattle.std.specs.Prelude.{List, [], ◌∷◌, Bool, true, Ok, Err}
 use Rattle.te_terms.specs.declared.event.Outcome.TheVariants.{Gives}
+use Rattle.te_terms.specs.Steps.{come_to}
 use Rattle.te_terms.specs.Expressions.{chan}
 use Rattle.te_terms.specs.Terms.{always, send, recv, and_then}
 use Rattle.te_terms.specs.Joint.{meeting}
@@ -30,13 +31,13 @@ pub catch_plays : play raises.catching_group two_silent (record { sender = 1; re
 catch_plays = refl
 
 -- a trap is caught
-pub trap_plays : play (record { thread = 0; term = trap.overflows } ∷ []) ([] ∷ []) [] ≡ Ok (record { outcomes = Gives trap.caught ∷ []; word = [] })
+pub trap_plays : play (come_to 0 0 0 trap.overflows ∷ []) ([] ∷ []) [] ≡ Ok (record { outcomes = Gives trap.caught ∷ []; word = [] })
 trap_plays = refl
 
 -- a letter that no choice takes
-pub letter_over : play (record { thread = 0; term = always (single 1) } ∷ []) ((true ∷ []) ∷ []) [] ≡ Err (letters_left 0)
+pub letter_over : play (come_to 0 0 0 (always (single 1)) ∷ []) ((true ∷ []) ∷ []) [] ≡ Err (letters_left 0)
 letter_over = refl
 
 -- no thread meets itself
-pub meets_itself : play (record { thread = 0; term = and_then (send (chan 0) (single 1)) 0 (recv (chan 0)) } ∷ []) ([] ∷ []) (record { sender = 0; receiver = 0 } ∷ []) ≡ Err (no_meeting 0)
+pub meets_itself : play (come_to 0 0 0 (and_then (send (chan 0) (single 1)) 0 (recv (chan 0))) ∷ []) ([] ∷ []) (record { sender = 0; receiver = 0 } ∷ []) ≡ Err (no_meeting 0)
 meets_itself = refl
