@@ -3,7 +3,7 @@ ghost use Rattle.std.specs.Option.{option_copied, ok_or};
 ghost use Rattle.te_terms.specs.declared.value.Atom.TheVariants.{Int};
 ghost use Rattle.te_terms.specs.declared.value.Trap.TheVariants.{Range, Kind};
 ghost use Rattle.te_terms.specs.Values.{arith_result, fits_i64};
-ghost use Rattle.te_terms.specs.Expressions.{in_primitive, in_calculation, in_expression, variable_value, primitive_atom, channel_value, calculation_atom, value_of, compared, test_value};
+ghost use Rattle.te_terms.specs.Expressions.{Variable, in_primitive, in_calculation, in_expression, variable_value, primitive_atom, channel_value, calculation_atom, value_of, compared, test_value};
 ghost use Rattle.te_terms.specs.Terms.{scoped};
 ghost use Rattle.te_terms.specs.Codes.{variable_of, primitive_of, calculation_of, expression_of};
 
@@ -18,14 +18,37 @@ pub enum Var {
     Inner(u8),
 }
 
-impl Var {
+/// Where the variables of an expression find their values. It is public for the crates above alone, whose
+/// inner values need not stand in a row.
+#[doc(hidden)]
+pub trait Scope {
+    ghost values: { Self → Variable → Variable };
+
     /// The value of the variable, where it is in scope.
-    fn value<'a>(self, regs: &'a [Value; 8], inner: &'a [Value]) -> Option<&'a Value>
-        ensures { ok_or (option_copied result) Kind ≡ variable_value (scoped regs.now inner.now (variable_of self)) }
-    {
-        match self {
-            Var::Reg(r) => regs.get(r as usize),
-            Var::Inner(n) => inner.get(n as usize),
+    fn find(&self, x: Var) -> Option<&Value>
+        ensures { ok_or (option_copied result) Kind ≡ variable_value (values self.now (variable_of x)) };
+}
+
+// Registers, and inner values in a row, that of level 0 first.
+#[derive(Clone, Copy)]
+struct InRow<'a> {
+    regs: &'a [Value; 8],
+    inner: &'a [Value],
+}
+
+impl Scope for InRow<'_> {
+    ghost values = { λ s. scoped s.regs.now s.inner.now };
+
+    fn find(&self, x: Var) -> Option<&Value> {
+        match x {
+            Var::Reg(r) => {
+                let regs = self.regs;
+                regs.get(r as usize)
+            }
+            Var::Inner(n) => {
+                let inner = self.inner;
+                inner.get(n as usize)
+            }
         }
     }
 }
@@ -39,14 +62,14 @@ pub enum Operand {
 }
 
 impl Operand {
-    fn atom(self, regs: &[Value; 8], inner: &[Value]) -> Result<Atom, Trap>
-        ensures { result ≡ primitive_atom (in_primitive (scoped regs.now inner.now) (primitive_of self)) }
+    fn atom<S: Scope>(self, scope: &S) -> Result<Atom, Trap>
+        ensures { result ≡ primitive_atom (in_primitive (S.values scope.now) (primitive_of self)) }
     {
         match self {
             Operand::Int(z) => Ok(Atom::Int(z)),
             Operand::Chan(c) => Ok(Atom::Chan(c)),
             Operand::Part(x, d) => {
-                let Some(value) = x.value(regs, inner) else {
+                let Some(value) = scope.find(x) else {
                     return Err(Trap::Kind);
                 };
                 value.get(d as usize).ok_or(Trap::Kind)
@@ -59,7 +82,16 @@ impl Operand {
     pub fn channel(&self, regs: &[Value; 8], inner: &[Value]) -> Result<u32, Trap>
         ensures { result ≡ channel_value (in_primitive (scoped regs.now inner.now) (primitive_of self.now)) }
     {
-        self.atom(regs, inner)?.channel()
+        self.channel_in(&InRow { regs, inner })
+    }
+
+    /// The channel that the primitive names in the scope, or the same traps. It is public for the crates above
+    /// alone.
+    #[doc(hidden)]
+    pub fn channel_in<S: Scope>(&self, scope: &S) -> Result<u32, Trap>
+        ensures { result ≡ channel_value (in_primitive (S.values scope.now) (primitive_of self.now)) }
+    {
+        self.atom(scope)?.channel()
     }
 }
 
@@ -96,14 +128,14 @@ pub enum Calc {
 
 impl Calc {
     // Both operands are found before their kinds are tested.
-    fn atom(&self, regs: &[Value; 8], inner: &[Value]) -> Result<Atom, Trap>
-        ensures { result ≡ calculation_atom (in_calculation (scoped regs.now inner.now) (calculation_of self.now)) }
+    fn atom<S: Scope>(&self, scope: &S) -> Result<Atom, Trap>
+        ensures { result ≡ calculation_atom (in_calculation (S.values scope.now) (calculation_of self.now)) }
     {
         match self {
-            Calc::One(p) => p.atom(regs, inner),
+            Calc::One(p) => p.atom(scope),
             Calc::Op(op, p, q) => {
-                let a = p.atom(regs, inner)?;
-                let b = q.atom(regs, inner)?;
+                let a = p.atom(scope)?;
+                let b = q.atom(scope)?;
                 let x = a.integer()?;
                 let y = b.integer()?;
                 op.of(x, y)
@@ -177,15 +209,23 @@ impl Expr {
     pub fn eval(&self, regs: &[Value; 8], inner: &[Value]) -> Result<Value, Trap>
         ensures { result ≡ value_of (in_expression (scoped regs.now inner.now) (expression_of self.now)) }
     {
+        self.eval_in(&InRow { regs, inner })
+    }
+
+    /// The value of the expression in the scope, or the same traps. It is public for the crates above alone.
+    #[doc(hidden)]
+    pub fn eval_in<S: Scope>(&self, scope: &S) -> Result<Value, Trap>
+        ensures { result ≡ value_of (in_expression (S.values scope.now) (expression_of self.now)) }
+    {
         match self {
-            Expr::Whole(x) => match x.value(regs, inner) {
+            Expr::Whole(x) => match scope.find(*x) {
                 Some(value) => Ok(*value),
                 None => Err(Trap::Kind),
             },
             Expr::Tuple(calcs) => {
                 let mut value = Value::unit();
                 for calc in calcs.as_slice() {
-                    value.push(calc.atom(regs, inner)?);
+                    value.push(calc.atom(scope)?);
                 }
                 Ok(value)
             }
@@ -230,8 +270,16 @@ impl Cond {
     pub fn holds(&self, regs: &[Value; 8], inner: &[Value]) -> Result<bool, Trap>
         ensures { result ≡ test_value self.now.test (in_primitive (scoped regs.now inner.now) (primitive_of self.now.left)) (in_primitive (scoped regs.now inner.now) (primitive_of self.now.right)) }
     {
-        let a = self.left.atom(regs, inner)?;
-        let b = self.right.atom(regs, inner)?;
+        self.holds_in(&InRow { regs, inner })
+    }
+
+    /// Whether the condition holds in the scope, or the same traps. It is public for the crates above alone.
+    #[doc(hidden)]
+    pub fn holds_in<S: Scope>(&self, scope: &S) -> Result<bool, Trap>
+        ensures { result ≡ test_value self.now.test (in_primitive (S.values scope.now) (primitive_of self.now.left)) (in_primitive (S.values scope.now) (primitive_of self.now.right)) }
+    {
+        let a = self.left.atom(scope)?;
+        let b = self.right.atom(scope)?;
         self.test.compares(a, b)
     }
 }
