@@ -1,4 +1,10 @@
 pub mod Advancing
+pub mod Letters
+pub mod Seats
+pub mod SeatsByPlace
+pub mod Places
+pub mod Meets
+pub mod SoFar
 pub mod MembersReplaced
 pub mod PlacesOfThreads
 pub mod ChainsJoin
@@ -7,12 +13,12 @@ pub mod AllAdvance
 pub mod MeetingsLead
 pub mod AllMeet
 pub mod PlaysReduce
-pub mod Places
 pub mod SideBySide
 pub mod GoingAhead
 pub mod StepsTaken
 pub mod StepsBack
 pub mod ReductionsPlay
+pub mod Checked
 pub mod MeetingsBetween
 pub mod Accepted
 pub mod RowsTerms

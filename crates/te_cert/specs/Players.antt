@@ -6,6 +6,7 @@ use Rattle.te_terms.specs.Terms.{Term, closed}
 use Rattle.te_terms.specs.Codes.{term_under}
 use Rattle.te_terms.specs.Steps.{giving, with_head}
 use Rattle.te_terms.specs.Joint.{Label, sending, receiving}
+use Rattle.te_terms.specs.Settling.{settled}
 use Rattle.te_path.specs.declared.cells.Cells.{Cells}
 use Rattle.te_path.specs.declared.spot.Stop.{Stop}
 use Rattle.te_path.specs.declared.spot.Stop.TheVariants as stops
@@ -13,6 +14,7 @@ use Rattle.te_path.specs.Origins.{Origin, origin_of, member_at}
 use Rattle.te_path.specs.Paths.{HasFewFresh}
 use Rattle.te_path.specs.Spots.{spelled, IsSpot}
 use Rattle.te_cert.specs.declared.cert.Member.{Member}
+use Rattle.te_cert.specs.declared.cert.Meeting.{Meeting}
 use Rattle.te_cert.specs.declared.cert.CertFault.{CertFault}
 use Rattle.te_cert.specs.declared.cert.CertFault.TheVariants as faults
 use Rattle.te_cert.specs.declared.lent.Lent.{Lent}
@@ -22,7 +24,7 @@ use Rattle.te_cert.specs.declared.seat.Seat.{Seat}
 use Rattle.te_cert.specs.declared.seat.End.{End}
 use Rattle.te_cert.specs.declared.seat.End.TheVariants as ends
 use Rattle.te_cert.specs.Lending.{lent_term}
-use Rattle.te_cert.specs.Play.{PlayFault, no_letter, no_meeting, unfinished, letters_left, Player, Advance, Table, with_label, with_term, advanced}
+use Rattle.te_cert.specs.Play.{PlayFault, no_letter, no_meeting, unfinished, letters_left, Player, Advance, Table, Played, ◌>>=◌, with_label, with_term, advanced, all_advanced, all_meet, endings}
 use Rattle.te_cert.specs.Advances.{by_letters}
 
 -- ---- who enters
@@ -106,6 +108,12 @@ pub record IsSeatedAt (i : ℕ) (e : Entering) (cells : Cells) (k : Seat) : Type
   pub advances : advanced i (start_of e) ≡ Ok (record { player = seat_of cells e k; word = word })
   pub seat : IsSeat cells e k
 
+-- another seat stands behind the others
+pub record TakesSeat (i : ℕ) (e : Entering) (cells : Cells) (before after : List Seat) : Type 0 where
+  pub seat : Seat
+  pub seated : IsSeatedAt i e cells seat
+  pub put : after ≡ before ++ seat ∷ []
+
 -- ---- meetings
 
 -- it goes on from its head with this value
@@ -119,6 +127,11 @@ value_at (ends.Receiver v) = v
 abbrev pub StandsAtEnd : End → Term → Type 0
 StandsAtEnd ends.Sender t = IsSome (sending t)
 StandsAtEnd (ends.Receiver v) t = IsSome (receiving t)
+
+-- with its quiet steps done it is the other, its letters as before
+pub record PassesOn (v : List Atom) (p q : Player) : Type 0 where
+  pub settles : settled (handed v p).member ≡ q.member
+  pub letters : p.letters ≡ q.letters
 
 -- what the one passes to the other where they stand so
 abbrev pub passing : Stop → Stop → Option (List Atom)
@@ -149,6 +162,14 @@ table_of cells es ks word = record { players = seats_of cells es ks; word = word
 abbrev pub BecomesTable : Result Table PlayFault → List Player → Type 0
 BecomesTable r ps = (word : List Label) × (r ≡ Ok (record { players = ps; word = word }))
 
+-- the play of those who enter
+abbrev pub played_by : List Entering → List Meeting → Result Played PlayFault
+played_by es mts = do
+  start ← all_advanced 0 (starts_of es)
+  last ← all_meet 0 mts (record { players = start.players; word = start.word })
+  os ← endings 0 last.players
+  Ok (record { outcomes = os; word = last.word })
+
 -- ---- what has been done before the rest
 
 abbrev pub players_before : List Player → List Label → Result Table PlayFault → Result Table PlayFault
@@ -176,3 +197,8 @@ TellsFault r e = (e ≡ faults.Memory) ⊎ ((f : PlayFault) × (r ≡ Err f) × 
 abbrev pub Tells : {A : Type 0} → Result A PlayFault → Result A CertFault → Type 0
 Tells (Ok x) answer = answer ≡ Ok x
 Tells (Err f) answer = answer ≡ Err (told f)
+
+-- the answer has the outcomes of the play, or tells its fault
+abbrev pub PlaysTo : Result Played PlayFault → Result (List Outcome) CertFault → Type 0
+PlaysTo r (Ok os) = (word : List Label) × (r ≡ Ok (record { outcomes = os; word = word }))
+PlaysTo r (Err e) = TellsFault r e

@@ -1,20 +1,65 @@
 // The play of a certificate: all members advance, then the meetings, then the endings.
 
-ghost use Rattle.std.specs.Prelude.{◌≡◌, ◌⊎◌, ℕ, ◌<◌, ◌≤◌, ◌^◌, [], length, Some, slice_get, IfOk, IfErr, OnOk, Ok};
+ghost use Rattle.std.specs.Prelude.{◌≡◌, ◌⊎◌, ℕ, ◌<◌, ◌≤◌, ◌^◌, List, [], length, Some, slice_get, IfOk, IfErr, OnOk, Ok};
 ghost use Rattle.te_terms.specs.Joint.{Label};
 ghost use Rattle.te_path.specs.Growth.{AreLinked, Grows};
 ghost use Rattle.te_cert.specs.declared.cert.CertFault.TheVariants as faults;
 ghost use Rattle.te_cert.specs.Play.{Player, meets, all_advanced, all_meet, endings};
 ghost use Rattle.te_cert.specs.Checks.{IsBetween, AreBetween};
 ghost use Rattle.te_cert.specs.Lending.{AreLent};
-ghost use Rattle.te_cert.specs.Players.{of_group, starts_of, seats_of, AreSeated, table_of, BecomesTable, GoesOn, Lacks, value_at, StandsAtEnd, passing, TellsFault};
+ghost use Rattle.te_cert.specs.Players.{of_group, starts_of, seats_of, AreSeated, table_of, BecomesTable, GoesOn, Lacks, value_at, StandsAtEnd, passing, played_by, PlaysTo, TellsFault};
 
 use crate::cert::{CertFault, Meeting};
 use crate::group::Group;
-use crate::seat::{End, Seat, ending, hand, seat};
+use crate::room::Room;
+use crate::seat::{End, Seat, ending, hand, take_seat};
 use std::alloc::Global;
-use te_path::{Cells, Spot, Stop};
+use te_path::{Cells, Stop};
 use te_terms::{Outcome, Rows, Value};
+
+/// The play of those who enter, in this room.
+pub(crate) fn play(
+    alloc: Global,
+    room: &mut Room,
+    group: &Group,
+    meetings: &[Meeting],
+) -> Result<Rows<Outcome>, CertFault>
+    requires as_many { length group.now.members.now ≡ length group.now.lents.now }
+    requires lent { AreLent group.now.lents.now }
+    requires few { length group.now.members.now ≤ 2 ^ 32 }
+    requires between { AreBetween (length group.now.members.now) meetings.now }
+    requires few_meetings { length meetings.now < 2 ^ 32 }
+    ensures { PlaysTo (played_by (of_group group.now) meetings.now) result }
+{
+    let empty = room.cells.mark();
+    room.seats.clear();
+    let answer = stages(alloc, &mut room.cells, &mut room.seats, group, meetings);
+    room.cells.cut(empty);
+    answer
+}
+
+// All advance, all meet, all end.
+fn stages(
+    alloc: Global,
+    cells: &mut Cells,
+    seats: &mut Vec<Seat>,
+    group: &Group,
+    meetings: &[Meeting],
+) -> Result<Rows<Outcome>, CertFault>
+    requires linked { AreLinked cells.old }
+    requires empty { seats.old.items ≡ [] }
+    requires as_many { length group.now.members.now ≡ length group.now.lents.now }
+    requires lent { AreLent group.now.lents.now }
+    requires few { length group.now.members.now ≤ 2 ^ 32 }
+    requires between { AreBetween (length group.now.members.now) meetings.now }
+    requires few_meetings { length meetings.now < 2 ^ 32 }
+    ensures grows { Grows cells.old cells.new }
+    ensures plays { PlaysTo (played_by (of_group group.now) meetings.now) result }
+{
+    seat_all(cells, seats, group)?;
+    meet_all(cells, seats, group, meetings)?;
+    outcomes(alloc, cells, seats, group)
+}
 
 /// The seats of all members, once each has advanced, in order.
 pub(crate) fn seat_all(
@@ -33,10 +78,7 @@ pub(crate) fn seat_all(
     ensures err { IfErr result (λ e. TellsFault (all_advanced 0 (starts_of (of_group group.now))) e) }
 {
     for i in 0..group.members.len() {
-        let seat = seat(cells, i as u32, &group.entrant(i))?;
-        let Ok(()) = seats.push(seat) else {
-            return Err(CertFault::Memory);
-        };
+        take_seat(cells, seats, i as u32, &group.entrant(i))?;
     }
     Ok(())
 }
@@ -83,9 +125,9 @@ fn meet(
     ensures ok { OnOk result ((word : List Label) → BecomesTable (meets j meeting.now (table_of cells.old (of_group group.now) seats.old word)) (seats_of cells.new (of_group group.now) seats.new)) }
     ensures err { IfErr result (λ e. (word : List Label) → TellsFault (meets j meeting.now (table_of cells.old (of_group group.now) seats.old word)) e) }
 {
-    let sender = &seats[meeting.sender as usize].spot;
-    let receiver = &seats[meeting.receiver as usize].spot;
-    let Some(value) = passes(sender, receiver) else {
+    let sender = meeting.sender as usize;
+    let receiver = meeting.receiver as usize;
+    let Some(value) = passes(&seats[sender], &seats[receiver]) else {
         return Err(CertFault::Meet(j));
     };
     go_on(cells, seats, group, meeting.sender, End::Sender)?;
@@ -123,13 +165,13 @@ fn go_on(
 }
 
 // What the one sends, where the other receives on the same channel.
-fn passes(sender: &Spot, receiver: &Spot) -> Option<Value>
-    ensures { result ≡ passing sender.now.stop receiver.now.stop }
+fn passes(sender: &Seat, receiver: &Seat) -> Option<Value>
+    ensures { result ≡ passing sender.now.spot.stop receiver.now.spot.stop }
 {
-    let Stop::Send(channel, value) = sender.stop() else {
+    let Stop::Send(channel, value) = sender.spot.stop() else {
         return None;
     };
-    let Stop::Recv(on) = receiver.stop() else {
+    let Stop::Recv(on) = receiver.spot.stop() else {
         return None;
     };
     if channel == on { Some(value) } else { None }

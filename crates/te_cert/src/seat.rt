@@ -1,12 +1,12 @@
 // One member in play.
 
-ghost use Rattle.std.specs.Prelude.{◌≡◌, ◌↔◌, IfOk, IfErr, IsTrue, drop};
+ghost use Rattle.std.specs.Prelude.{◌≡◌, ◌↔◌, IfOk, IfErr, OnOk, IsTrue, drop};
 ghost use Rattle.te_terms.specs.Steps.{outcome_of};
 ghost use Rattle.te_path.specs.declared.spot.Stop.TheVariants.{Choice};
 ghost use Rattle.te_path.specs.Growth.{AreLinked, Grows};
 ghost use Rattle.te_path.specs.Spots.{spelled};
 ghost use Rattle.te_cert.specs.Play.{advanced, ending};
-ghost use Rattle.te_cert.specs.Players.{IsEntering, entered, start_of, seat_of, IsSeat, IsSeatedAt, Comes, handed, value_at, StandsAtEnd, TellsFault, Tells};
+ghost use Rattle.te_cert.specs.Players.{IsEntering, entered, start_of, seat_of, IsSeat, TakesSeat, Comes, handed, value_at, StandsAtEnd, PassesOn, TellsFault, Tells};
 
 use crate::cert::CertFault;
 use crate::group::Entrant;
@@ -27,21 +27,32 @@ pub(crate) enum End {
     Receiver(Value),
 }
 
-/// The seat of the member at place `i`, once it has advanced from its event.
-pub(crate) fn seat(cells: &mut Cells, i: u32, entrant: &Entrant) -> Result<Seat, CertFault>
+/// Puts the seat of the member at place `i` behind the others, once it has advanced from its event.
+pub(crate) fn take_seat(
+    cells: &mut Cells,
+    seats: &mut Vec<Seat>,
+    i: u32,
+    entrant: &Entrant,
+) -> Result<(), CertFault>
     requires linked { AreLinked cells.old }
     requires entering { IsEntering (entered entrant.now) }
     ensures grows { Grows cells.old cells.new }
-    ensures ok { IfOk result (λ seat. IsSeatedAt i (entered entrant.now) cells.new seat) }
+    ensures ok { OnOk result (TakesSeat i (entered entrant.now) cells.new seats.old.items seats.new.items) }
     ensures err { IfErr result (λ e. TellsFault (advanced i (start_of (entered entrant.now))) e) }
 {
     let Ok(spot) = cells.start(&entrant.posted, entrant.root) else {
         return Err(CertFault::Memory);
     };
+    // Named, since the prover plans no copy of an enum that the function doesn't name.
+    let _stop: Stop = spot.stop();
     let mut seat = Seat { spot, used: 0 };
     match advance(cells, entrant, &mut seat) {
-        Ok(true) => Ok(seat),
-        Ok(false) => Err(CertFault::Choices(i)),
+        Ok(true) => {}
+        Ok(false) => return Err(CertFault::Choices(i)),
+        Err(_) => return Err(CertFault::Memory),
+    }
+    match seats.push(seat) {
+        Ok(()) => Ok(()),
         Err(_) => Err(CertFault::Memory),
     }
 }
@@ -60,11 +71,27 @@ pub(crate) fn hand(
     ensures seat { IfOk result (λ done. IsSeat cells.new (entered entrant.now) seat.new) }
     ensures comes { IfOk result (λ done. Comes (handed (value_at end) (seat_of cells.old (entered entrant.now) seat.old)) done (seat_of cells.new (entered entrant.now) seat.new)) }
 {
-    match end {
-        End::Sender => cells.sent(&entrant.posted, &mut seat.spot)?,
-        End::Receiver(value) => cells.received(&entrant.posted, &mut seat.spot, value)?,
-    }
+    pass_on(cells, entrant, seat, end)?;
     advance(cells, entrant, seat)
+}
+
+// Goes on from the end of a meeting at which the member stands, with its quiet steps alone.
+fn pass_on(
+    cells: &mut Cells,
+    entrant: &Entrant,
+    seat: &mut Seat,
+    end: End,
+) -> Result<(), NoMemory>
+    requires seat { IsSeat cells.old (entered entrant.now) seat.old }
+    requires stands { StandsAtEnd end (spelled (entered entrant.now).origin cells.old seat.old.spot).term }
+    ensures grows { Grows cells.old cells.new }
+    ensures seat { OnOk result (IsSeat cells.new (entered entrant.now) seat.new) }
+    ensures passed { OnOk result (PassesOn (value_at end) (seat_of cells.old (entered entrant.now) seat.old) (seat_of cells.new (entered entrant.now) seat.new)) }
+{
+    match end {
+        End::Sender => cells.sent(&entrant.posted, &mut seat.spot),
+        End::Receiver(value) => cells.received(&entrant.posted, &mut seat.spot, value),
+    }
 }
 
 // Takes the next letter at each choice, until it stands at none; answers whether it lacked no letter.

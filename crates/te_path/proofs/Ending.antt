@@ -1,73 +1,113 @@
--- A place whose outcome has been handed to its frames.
-use Rattle.std.proofs.Common.{◌≡◌, suc, ◌≤◌, List, [], ◌∷◌, ◌++◌, length, take, reverse, Option, Some, None, sym, ap, ◌∙◌, subst, arith}
-use Rattle.smallvec.specs.SmallVec.{SmallVec}
+-- An outcome that has been handed to frames.
+use Rattle.std.proofs.Common.{◌≡◌, ℕ, suc, ◌+◌, ◌<◌, ◌≤◌, List, [], ◌∷◌, ◌++◌, length, Some, None, Option, refl, ap, sym, subst, arith, length-append}
 use Rattle.te_terms.specs.declared.value.Atom.{Atom}
 use Rattle.te_terms.specs.declared.event.Outcome.{Outcome}
-use Rattle.te_path.specs.declared.frame.Frame.{Frame}
-use Rattle.te_path.specs.declared.place.Head.TheVariants as heads
+use Rattle.te_terms.specs.declared.event.Outcome.TheVariants.{Gives, Raises}
+use Rattle.te_terms.specs.Steps.{Member}
+use Rattle.te_path.specs.declared.cells.Cells.{Cells}
+use Rattle.te_path.specs.declared.values.ValueCell.{ValueCell}
+use Rattle.te_path.specs.declared.frames.FrameCell.{FrameCell}
 use Rattle.te_path.specs.declared.place.Place.{Place}
+use Rattle.te_path.specs.declared.spot.Stop.{Stop}
+use Rattle.te_path.specs.declared.spot.Spot.{Spot}
+use Rattle.te_path.specs.Chains.{IsLinked, Extends, value_parent, inner_at, frames_at}
+use Rattle.te_path.specs.Growth.{AreLinked}
 use Rattle.te_path.specs.Layers.{in_layers}
-use Rattle.te_path.specs.Unwinding.{value_in, unwound, Unwound}
-use Rattle.te_path.specs.Places.{term_of, layers_of, ended, IsPlace, nodes_left, frames_left, Alike}
-use Rattle.te_path.proofs.Unwinds.{ComesTo, Resumes, comes_to, length_bound, fit_above}
+use Rattle.te_path.specs.Origins.{Origin, member_at}
+use Rattle.te_path.specs.Paths.{HasFewFresh}
+use Rattle.te_path.specs.Unwinding.{value_in, unwound, Unwound, rest_of}
+use Rattle.te_path.specs.Places.{placed, ending_in, layers_at, node_term, node_left, ended, AreAround, IsPlace, nodes_left, frames_left, left_at, Alike}
+use Rattle.te_path.specs.Spots.{spelled, stop_of, IsSpot}
+use Rattle.te_path.proofs.Growing.{layers_grown, left_grown, fit_grown}
+use Rattle.te_path.proofs.Unwinds.{ComesTo, Resumes, comes_to}
 
--- its frames, unwound
-unwinds_so : (p : Place) (placed : IsPlace p) (o : Outcome) (rest : List Frame) (taker : Option Frame) → record { rest = rest; taker = taker } ≡ unwound o (reverse p.frames.items) →
-    ComesTo p.code.value p.regs placed.room p.inner.items (reverse p.frames.items) o rest taker
-unwinds_so p placed o rest taker e =
-    subst (λ (w : Unwound). ComesTo p.code.value p.regs placed.room p.inner.items (reverse p.frames.items) o w.rest w.taker) (sym e)
-    (comes_to p.code.value p.regs placed.room (length p.inner.items) p.inner.items (reverse p.frames.items) o (omega arith) placed.frames_fit)
+-- where an ending stands
+abbrev pub end_spot : Stop → ℕ → Spot
+end_spot stop count = record { stop = stop; node = 0; values = 0; frames = 0; count = count }
 
--- no frame took the outcome
-module _ (p : Place) (placed : IsPlace p) (o : Outcome) (frames : SmallVec Frame) (capacity : frames.capacity ≡ p.frames.capacity)
-    (e : record { rest = reverse frames.items; taker = None } ≡ unwound o (reverse p.frames.items)) where
-  abbrev end_of : Place
-  end_of = record p { head = heads.Ended o; frames = frames }
-
-  comes : ComesTo p.code.value p.regs placed.room p.inner.items (reverse p.frames.items) o (reverse frames.items) None
-  comes = unwinds_so p placed o (reverse frames.items) None e
-
-  pub end_is_place : IsPlace end_of
-  end_is_place = record {
-    room = placed.room;
-    few = placed.few;
-    inner_room = placed.inner_room;
-    frame_room = omega (arith, placed.frame_room);
-    head_fits = comes.0;
-    frames_fit = rw comes.0 tt;
+module _ (o : Origin) (cells : Cells) (count : ℕ) where
+  ended_is_spot : AreLinked cells → (r : Outcome) → HasFewFresh (member_at o count (ended r)) → IsSpot o cells (end_spot (stop_of r) count)
+  ended_is_spot are (Gives v) few = record {
+    around = record { linked = are; values_in = omega arith; frames_in = omega arith; fit = tt };
+    own_head = refl;
+    settled = refl;
+    stands = refl;
+    choice = λ e. absurd cc;
+    few = few;
+  }
+  ended_is_spot are (Raises v) few = record {
+    around = record { linked = are; values_in = omega arith; frames_in = omega arith; fit = tt };
+    own_head = refl;
+    settled = refl;
+    stands = refl;
+    choice = λ e. absurd cc;
+    few = few;
   }
 
-  pub end_is_alike : Alike (in_layers (layers_of p) (ended o)) (term_of end_of)
-  end_is_alike thread = rw comes.0 (comes.1 thread)
+  spelled_end : (r : Outcome) → member_at o count (ended r) ≡ spelled o cells (end_spot (stop_of r) count)
+  spelled_end (Gives v) = refl
+  spelled_end (Raises v) = refl
 
-  pub end_leaves : nodes_left end_of ≤ frames_left p.code.value (reverse p.frames.items)
-  end_leaves = rw comes.0 (omega arith)
+  module _ (frames : ℕ) (around : AreAround o.code cells 0 frames) (r : Outcome) (few : HasFewFresh (ending_in o cells count frames r)) where
+    abbrev ending : Member
+    ending = ending_in o cells count frames r
 
--- a frame took it
-module _ (p : Place) (placed : IsPlace p) (o : Outcome) (f : Frame) (inner : SmallVec (List Atom)) (frames : SmallVec Frame)
-    (inner_capacity : inner.capacity ≡ p.inner.capacity) (capacity : frames.capacity ≡ p.frames.capacity) (items : inner.items ≡ take f.level p.inner.items ++ value_in o ∷ [])
-    (e : record { rest = reverse frames.items; taker = Some f } ≡ unwound o (reverse p.frames.items)) where
-  abbrev resumed : Place
-  resumed = record p { head = heads.Node f.second; inner = inner; frames = frames }
+    few_after : (m : Member) → Alike ending m → HasFewFresh m
+    few_after m alike = omega (arith, few, alike.no_more)
 
-  resumes : Resumes p.code.value p.regs placed.room p.inner.items (reverse p.frames.items) o (reverse frames.items) f
-  resumes = unwinds_so p placed o (reverse frames.items) (Some f) e
+    unwinds_so : (taker : Option FrameCell) → rest_of cells.frames taker ≡ unwound r (frames_at cells.frames frames) →
+        ComesTo o.code o.regs cells.values (member_at o count (ended r)) (frames_at cells.frames frames) r (rest_of cells.frames taker).rest (rest_of cells.frames taker).taker
+    unwinds_so taker e =
+        subst (λ (w : Unwound). ComesTo o.code o.regs cells.values (member_at o count (ended r)) (frames_at cells.frames frames) r w.rest w.taker) (sym e)
+        (comes_to o.code o.regs cells.values (member_at o count (ended r)) (frames_at cells.frames frames) r around.fit)
 
-  level_then : length inner.items ≡ suc f.level
-  level_then = ap length items ∙ length_bound p.inner.items f.level (value_in o) resumes.low
+    -- no frame took the outcome
+    pub end_is : (stop : Stop) → stop ≡ stop_of r → rest_of cells.frames None ≡ unwound r (frames_at cells.frames frames) →
+        IsSpot o cells (end_spot stop count) × Alike ending (spelled o cells (end_spot stop count))
+    end_is stop at e =
+        let alike : Alike ending (member_at o count (ended r)) = unwinds_so None e in
+        subst (λ s. IsSpot o cells (end_spot s count) × Alike ending (spelled o cells (end_spot s count))) (sym at)
+        (ended_is_spot around.linked r (few_after (member_at o count (ended r)) alike), subst (Alike ending) (spelled_end r) alike)
 
-  pub resumed_is_place : IsPlace resumed
-  resumed_is_place = record {
-    room = placed.room;
-    few = placed.few;
-    inner_room = omega (arith, placed.inner_room);
-    frame_room = omega (arith, placed.frame_room);
-    head_fits = rw level_then resumes.fits;
-    frames_fit = fit_above p.code.value placed.room f.level (length inner.items) (reverse frames.items) (omega (arith, level_then)) resumes.frames_fit;
-  }
+    -- a frame took it
+    module _ (f : FrameCell) (e : rest_of cells.frames (Some f) ≡ unwound r (frames_at cells.frames frames)) (parent_in : f.parent ≤ length cells.frames) where
+      resumes : Resumes o.code o.regs cells.values (member_at o count (ended r)) (frames_at cells.frames frames) r (frames_at cells.frames f.parent) f
+      resumes = unwinds_so (Some f) e
 
-  pub resumed_is_alike : Alike (in_layers (layers_of p) (ended o)) (term_of resumed)
-  resumed_is_alike thread = rw items (resumes.alike thread)
+      pub taker_sees : f.values ≤ length cells.values
+      taker_sees = resumes.fits.within
 
-  pub resumed_leaves : nodes_left resumed ≤ frames_left p.code.value (reverse p.frames.items)
-  resumed_leaves = rw level_then (omega (arith, resumes.left))
+      module _ (new : List ValueCell) (link : ℕ) (more : Extends cells.values new) (are : IsLinked value_parent new) (last : link ≡ length new) (inner : inner_at new link ≡ inner_at cells.values f.values ++ value_in r ∷ []) where
+        abbrev then_cells : Cells
+        then_cells = record { values = new; frames = cells.frames }
+
+        abbrev then_place : Place
+        then_place = record { node = f.second; values = link; frames = f.parent; count = count }
+
+        same_layers : layers_at o.code o.regs then_cells f.parent ≡ layers_at o.code o.regs cells f.parent
+        same_layers = layers_grown o.code cells.values new around.linked.values more o.regs (frames_at cells.frames f.parent) resumes.rest_fit
+
+        same_left : left_at o.code then_cells f.parent ≡ left_at o.code cells f.parent
+        same_left = left_grown o.code cells.values new around.linked.values more (frames_at cells.frames f.parent) resumes.rest_fit
+
+        level : length (inner_at new link) ≡ suc (length (inner_at cells.values f.values))
+        level = omega (arith, ap length inner, length-append (inner_at cells.values f.values) (value_in r ∷ []))
+
+        then_alike : Alike ending (placed o then_cells then_place)
+        then_alike = rw (same_layers, inner) resumes.alike
+
+        pub resumed : IsPlace o then_cells then_place × Alike ending (placed o then_cells then_place) × (nodes_left o.code then_cells then_place < 1 + left_at o.code cells frames)
+        resumed = (
+          record {
+            node_in = resumes.fits.second;
+            around = record {
+              linked = record { values = are; frames = around.linked.frames };
+              values_in = omega (arith, last);
+              frames_in = parent_in;
+              fit = fit_grown o.code cells.values new around.linked.values more (frames_at cells.frames f.parent) resumes.rest_fit;
+            };
+            few = few_after (placed o then_cells then_place) then_alike;
+          },
+          then_alike,
+          omega (arith, resumes.left, same_left, ap (λ l. node_left o.code l f.second) level),
+        )

@@ -4,11 +4,11 @@ use Rattle.std.specs.Option.{option_map}
 use Rattle.te_terms.specs.declared.event.Outcome.{Outcome}
 use Rattle.te_terms.specs.declared.event.Outcome.TheVariants.{Gives, Raises}
 use Rattle.te_terms.specs.Terms.{Term, choose}
-use Rattle.te_terms.specs.Steps.{outcome_of, head, with_head}
+use Rattle.te_terms.specs.Steps.{come_to, outcome_of, head, with_head}
 use Rattle.te_terms.specs.Joint.{Message, chosen_from, after_choice, sending, receiving}
 use Rattle.te_terms.proofs.OneThing.{choice_rests, send_is_alone, receive_is_alone, never_is_alone}
-use Rattle.te_path.specs.declared.path.Stop.{Stop}
-use Rattle.te_path.specs.declared.path.Stop.TheVariants as stops
+use Rattle.te_path.specs.declared.spot.Stop.{Stop}
+use Rattle.te_path.specs.declared.spot.Stop.TheVariants as stops
 use Rattle.te_path.specs.Paths.{StandsAt}
 
 -- the stop of a term, by the one thing that it does
@@ -30,17 +30,17 @@ it_is : (t : Term) (stop : Stop) → StandsAt t stop → stop_of t ≡ stop
 it_is t (stops.Done v) at = ap (λ o. by_deeds o (sending t) (receiving t) (after_choice true t)) at
 it_is t (stops.Raised v) at = ap (λ o. by_deeds o (sending t) (receiving t) (after_choice true t)) at
 it_is t (stops.Send c v) at =
-    let alone = send_is_alone 0 t (record { channel = c; value = v }) at in
+    let alone = send_is_alone (come_to 0 0 0 t) t (record { channel = c; value = v }) at in
     rw (alone.0.1, at) refl
 it_is t (stops.Recv c) at =
-    let alone = receive_is_alone 0 t c at in
+    let alone = receive_is_alone (come_to 0 0 0 t) t c at in
     rw (alone.0.1, alone.2, at) refl
 it_is t stops.Choice at =
     let chosen = by_choice t at.0 at.1.0 at.1.1 in
-    let alone = choice_rests 0 true t (with_head at.0 t) chosen in
+    let alone = choice_rests (come_to 0 0 0 t) true t (with_head at.0 t) chosen in
     rw (alone.0.1, alone.1, alone.2, chosen) refl
 it_is t stops.Dead at =
-    let alone = never_is_alone 0 t at in
+    let alone = never_is_alone (come_to 0 0 0 t) t at in
     rw (alone.0.1, alone.2, alone.3, alone.1 true) refl
 
 -- two stops of one term are one

@@ -1,58 +1,145 @@
 -- What comes of the node at the head, of the place.
-use Rattle.std.proofs.Common.{◌≡◌, ◌≢◌, ◌⊎◌, inl, inr, ℕ, List, [], ◌∷◌, reverse, map, None, refl, ap, ◌∙◌, sym}
-use Rattle.std.specs.Option.{option_map}
+use Rattle.std.proofs.Common.{◌≡◌, ◌≢◌, ◌⊎◌, inl, inr, ℕ, zero, suc, ◌+◌, ◌<◌, List, [], ◌∷◌, length, map, Option, Some, None, Result, Ok, Err, refl, ap, ◌∙◌, sym, subst, arith}
+use Rattle.std.specs.Prelude.{slice_get, IfOk}
 use Rattle.te_terms.specs.declared.value.Atom.{Atom}
-use Rattle.te_terms.specs.declared.code.Node.{Node}
+use Rattle.te_terms.specs.declared.value.Atom.TheVariants.{Chan}
 use Rattle.te_terms.specs.declared.event.Outcome.{Outcome}
-use Rattle.te_terms.specs.Terms.{Term, closed}
-use Rattle.te_terms.specs.Steps.{outcome_of}
-use Rattle.te_terms.specs.Settling.{settled}
-use Rattle.te_terms.specs.Codes.{term_under}
-use Rattle.te_terms.proofs.Settles.{settled_already}
-use Rattle.te_terms.proofs.BindingLaws.{closed_scoped}
-use Rattle.te_path.specs.declared.place.Head.TheVariants as heads
+use Rattle.te_terms.specs.declared.event.Outcome.TheVariants.{Gives, Raises}
+use Rattle.te_terms.specs.Terms.{Term, fresh}
+use Rattle.te_terms.specs.Values.{fresh_channel}
+use Rattle.te_terms.specs.Limits.{most_fresh}
+use Rattle.te_terms.specs.Measures.{fresh_count}
+use Rattle.te_terms.specs.Steps.{Member, quiet_step, giving, outcome_of, at_term}
+use Rattle.te_terms.specs.Joint.{sent_from, received_on}
+use Rattle.te_terms.specs.Codes.{term_at}
+use Rattle.te_terms.proofs.Measured.{some_nodes}
+use Rattle.te_path.specs.declared.cells.Cells.{Cells}
 use Rattle.te_path.specs.declared.place.Place.{Place}
-use Rattle.te_path.specs.Layers.{in_layers}
+use Rattle.te_path.specs.declared.place.Went.{Went}
+use Rattle.te_path.specs.declared.place.Went.TheVariants as wents
+use Rattle.te_path.specs.declared.spot.Stop.{Stop}
+use Rattle.te_path.specs.declared.spot.Stop.TheVariants as stops
+use Rattle.te_path.specs.declared.spot.Spot.{Spot}
+use Rattle.te_path.specs.Chains.{chain, linked, chain_within, inner_at, frames_at, frame_parent}
+use Rattle.te_path.specs.Layers.{Layer, in_layers}
 use Rattle.te_path.specs.Leading.{RestsIn, GoesTo, EndsAs}
-use Rattle.te_path.specs.Paths.{member, HasSettled, SettlesAs}
-use Rattle.te_path.specs.Places.{term_of, layers_of, layer_of, head_term, ended, IsPlace, IsPath, Alike}
-use Rattle.te_path.proofs.InLayers.{alike_by_step, alike_in_layers, final_is_ended, still_in_layers}
-use Rattle.te_path.proofs.Standing.{at_node}
+use Rattle.te_path.specs.Origins.{Origin, member_at}
+use Rattle.te_path.specs.Paths.{StandsAt, HasFewFresh}
+use Rattle.te_path.specs.Places.{placed, headed, ending_in, layers_at, layer_of, node_term, head_term, ended, IsPlace, nodes_left, left_at, Alike}
+use Rattle.te_path.specs.Spots.{spelled, IsSpot}
+use Rattle.te_path.specs.Wents.{GoesOn}
+use Rattle.te_path.proofs.MemberLaws.{alike_by_step}
+use Rattle.te_path.proofs.InLayers.{alike_itself, alike_on, alike_in_layers, fresh_inside, final_is_ended, still_in_layers, head_in_layers}
+
+-- a term that rests stands in layers where it stands alone
+stands_in_layers : (ls : List Layer) (t : Term) (stop : Stop) → (outcome_of t ≡ None) ⊎ (ls ≡ []) → StandsAt t stop → StandsAt (in_layers ls t) stop
+stands_in_layers ls t (stops.Done v) (inl open_end) at = absurd cc
+stands_in_layers ls t (stops.Done v) (inr none) at = subst (λ l. outcome_of (in_layers l t) ≡ Some (Gives v)) (sym none) at
+stands_in_layers ls t (stops.Raised v) (inl open_end) at = absurd cc
+stands_in_layers ls t (stops.Raised v) (inr none) at = subst (λ l. outcome_of (in_layers l t) ≡ Some (Raises v)) (sym none) at
+stands_in_layers ls t (stops.Send c v) lone at = ap sent_from (head_in_layers ls t) ∙ at
+stands_in_layers ls t (stops.Recv c) lone at = ap received_on (head_in_layers ls t) ∙ at
+stands_in_layers ls t stops.Choice lone at = (at.0, (at.1.0, head_in_layers ls t ∙ at.1.1))
+stands_in_layers ls t stops.Dead lone at = head_in_layers ls t ∙ at
+
+slice_get_some : {A : Type 0} (xs : List A) (i : ℕ) → i < length xs → (x : A) × (slice_get xs i ≡ Some x)
+slice_get_some [] i h = absurd (omega arith)
+slice_get_some (x ∷ xs) zero h = (x, refl)
+slice_get_some (x ∷ xs) (suc i) h = slice_get_some xs i (omega arith)
+
+some_chain : {A : Type 0} (parent : A → ℕ) (cells : List A) (k : ℕ) → k ≢ 0 → ◌<◌ k (suc (length cells)) → chain parent cells k ≢ []
+some_chain parent cells zero some h e = some refl
+some_chain parent cells (suc i) some h e =
+    let at = slice_get_some cells i (omega (arith, h)) in
+    let both : at.0 ∷ chain_within i parent cells (parent at.0) ≡ [] = sym (ap (linked (chain_within i parent cells) parent) at.1) ∙ e in
+    cc
 
 some_mapped : {A B : Type 0} (f : A → B) (xs : List A) → xs ≢ [] → map f xs ≢ []
 some_mapped f [] some e = some refl
 some_mapped f (x ∷ xs) some e = cc
 
-module _ (p : Place) (i : ℕ) (at : p.head ≡ heads.Node i) where
-  is_at : term_of p ≡ in_layers (layers_of p) (at_node p i)
-  is_at = ap (λ h. in_layers (layers_of p) (head_term p.code.value p.regs p.inner.items h)) at
+module _ (o : Origin) (cells : Cells) (p : Place) (is : IsPlace o cells p) where
+  abbrev around_it : List Layer
+  around_it = layers_at o.code o.regs cells p.frames
 
-  no_layers : (outcome_of (at_node p i) ≡ None) ⊎ (reverse p.frames.items ≡ []) → (outcome_of (at_node p i) ≡ None) ⊎ (layers_of p ≡ [])
+  abbrev head_is : Term
+  head_is = head_term o.code o.regs cells p
+
+  no_layers : (outcome_of head_is ≡ None) ⊎ (p.frames ≡ 0) → (outcome_of head_is ≡ None) ⊎ (around_it ≡ [])
   no_layers (inl open_end) = inl open_end
-  no_layers (inr none) = inr (ap (map (layer_of p.code.value p.regs p.inner.items)) none)
+  no_layers (inr none) = inr (ap (layers_at o.code o.regs cells) none)
 
-  pub stays : IsPlace p → RestsIn (at_node p i) (reverse p.frames.items) → IsPath p
-  stays placed rests = record {
-    place = placed;
-    settled = λ thread. rw is_at (ap (option_map (λ t. member thread t)) (still_in_layers thread (layers_of p) (at_node p i) rests.own_head (rests.quiet thread) (no_layers rests.alone)));
-    own_head = rw at rests.own_head;
+  abbrev spot_of : Stop → ℕ → Spot
+  spot_of stop k = record { stop = stop; node = k; values = p.values; frames = p.frames; count = p.count }
+
+  rests : (stop : Stop) → RestsIn o.code p.node p.frames (headed o cells p) stop → IsSpot o cells (spot_of stop (suc p.node))
+  rests stop at = record {
+    around = is.around;
+    own_head = at.own_head;
+    settled = still_in_layers around_it (headed o cells p) at.own_head at.quiet (no_layers at.lone);
+    stands = stands_in_layers around_it head_is stop (no_layers at.lone) at.stands;
+    choice = λ e. let two = at.choice e in record { number = p.node; left = two.0; right = two.1.0; at = refl; is = two.1.1 };
+    few = is.few;
   }
 
-  pub goes : (j : ℕ) → GoesTo p.code.value p.regs p.inner.items i j → Alike (term_of p) (term_of (record p { head = heads.Node j }))
-  goes j to thread = rw is_at (alike_in_layers (layers_of p) (at_node p i) (at_node p j) (alike_by_step (at_node p i) (at_node p j) to.steps) thread)
+  pub stays : (stop : Stop) (k : ℕ) → k ≡ suc p.node → RestsIn o.code p.node p.frames (headed o cells p) stop →
+      IsSpot o cells (spot_of stop k) × Alike (placed o cells p) (spelled o cells (spot_of stop k))
+  stays stop k at here =
+      subst (λ n. IsSpot o cells (spot_of stop n) × Alike (placed o cells p) (spelled o cells (spot_of stop n))) (sym at)
+      (rests stop here, alike_itself (placed o cells p))
 
-  ends_so : (o : Outcome) → EndsAs (at_node p i) (reverse p.frames.items) o → Alike (in_layers (layers_of p) (at_node p i)) (in_layers (layers_of p) (ended o))
-  ends_so o (inl final) = final_is_ended (layers_of p) (at_node p i) o (some_mapped (layer_of p.code.value p.regs p.inner.items) (reverse p.frames.items) final.1) final.0
-  ends_so o (inr steps) = alike_in_layers (layers_of p) (at_node p i) (ended o) (alike_by_step (at_node p i) (ended o) steps)
+  abbrev place_of : ℕ → Place
+  place_of j = record p { node = j }
 
-  pub ends : (o : Outcome) → EndsAs (at_node p i) (reverse p.frames.items) o → Alike (term_of p) (in_layers (layers_of p) (ended o))
-  ends o as' thread = ap (λ t. settled (member thread t)) is_at ∙ ends_so o as' thread
+  few_after : (m : Member) → Alike (placed o cells p) m → HasFewFresh m
+  few_after m alike = omega (arith, is.few, alike.no_more)
 
--- what settles as a term without a quiet step, settles as that one
-pub settles_as : (t u end : Term) → t ≡ u → Alike u end → HasSettled end → SettlesAs t end
-settles_as t u end same alike still thread = ap (λ x. settled (member thread x)) same ∙ alike thread ∙ settled_already (member thread end) (still thread)
+  pub goes : (j : ℕ) → GoesTo o.code o.regs (inner_at cells.values p.values) (headed o cells p) p.node j →
+      IsPlace o cells (place_of j) × Alike (placed o cells p) (placed o cells (place_of j)) × (nodes_left o.code cells (place_of j) < nodes_left o.code cells p)
+  goes j to =
+      let alike : Alike (placed o cells p) (placed o cells (place_of j)) =
+      alike_in_layers around_it (headed o cells p) (headed o cells (place_of j)) (alike_by_step (headed o cells p) (headed o cells (place_of j)) to.steps) in (
+        record { node_in = to.within; around = is.around; few = few_after (placed o cells (place_of j)) alike },
+        alike,
+        omega (arith, to.fewer),
+      )
 
--- a root without frames and inner values stands for the event's term
-pub root_is : (p : Place) (code : List Node) (regs : List (List Atom)) (root : ℕ) → p.code.value ≡ code → p.regs ≡ regs → p.head ≡ heads.Node root → p.inner.items ≡ [] → p.frames.items ≡ [] →
-    term_of p ≡ closed regs (term_under code root)
-root_is p code regs root same_code same_regs at no_inner no_frames = rw (same_code, same_regs, at, no_inner, no_frames) (sym (closed_scoped regs (term_under code root)))
+  some_layers : p.frames ≢ 0 → around_it ≢ []
+  some_layers some = some_mapped (layer_of o.code o.regs cells.values) (frames_at cells.frames p.frames) (some_chain frame_parent cells.frames p.frames some (omega (arith, is.around.frames_in)))
+
+  -- the outcome with which the node's part is over, after so many fresh channels
+  abbrev ending : ℕ → Outcome → Member
+  ending count outcome = ending_in o cells count p.frames outcome
+
+  pub ends_so : (outcome : Outcome) → EndsAs (headed o cells p) p.frames outcome → Alike (placed o cells p) (ending p.count outcome)
+  ends_so outcome (inl final) = final_is_ended around_it (headed o cells p) outcome (some_layers final.1) final.0
+  ends_so outcome (inr steps) =
+      alike_in_layers around_it (headed o cells p) (member_at o p.count (ended outcome)) (alike_by_step (headed o cells p) (member_at o p.count (ended outcome)) steps)
+
+  pub few_ending : (count : ℕ) (outcome : Outcome) → Alike (placed o cells p) (ending count outcome) → HasFewFresh (ending count outcome)
+  few_ending count outcome alike = few_after (ending count outcome) alike
+
+  -- ---- fresh channels
+
+  pub room_for_one : head_is ≡ fresh → p.count < most_fresh
+  room_for_one at = omega (arith, is.few, fresh_inside around_it head_is, ap fresh_count at)
+
+  pub makes : head_is ≡ fresh → (v : List Atom) (n : ℕ) → v ≡ Chan (fresh_channel o.thread o.ticket p.count) ∷ [] → n ≡ suc p.count → Alike (placed o cells p) (ending n (Gives v))
+  makes at v n is_channel one_more =
+      let channel : List Atom = Chan (fresh_channel o.thread o.ticket p.count) ∷ [] in
+      let step : quiet_step (headed o cells p) ≡ Some (member_at o (suc p.count) (giving channel)) = ap (λ t. quiet_step (at_term (headed o cells p) t)) at in
+      rw (is_channel, one_more) (alike_in_layers around_it (headed o cells p) (member_at o (suc p.count) (giving channel)) (alike_by_step (headed o cells p) (member_at o (suc p.count) (giving channel)) step))
+
+  from_end : (m : Member) (new : Cells) (s : Spot) (went : Went) → Alike (placed o cells p) m →
+      GoesOn o m (1 + left_at o.code cells p.frames) new s went → GoesOn o (placed o cells p) (nodes_left o.code cells p) new s went
+  from_end m new s (wents.To q) alike on = (
+    on.0,
+    alike_on (placed o cells p) m (placed o new q) alike on.1,
+    omega (arith, on.2, some_nodes (term_at o.code (length (inner_at cells.values p.values)) p.node)),
+  )
+  from_end m new s wents.At alike on = (on.0, alike_on (placed o cells p) m (spelled o new s) alike on.1)
+
+  pub ends : {E : Type 0} (m : Member) (new : Cells) (s : Spot) (r : Result Went E) → Alike (placed o cells p) m →
+      IfOk r (λ went. GoesOn o m (1 + left_at o.code cells p.frames) new s went) → IfOk r (λ went. GoesOn o (placed o cells p) (nodes_left o.code cells p) new s went)
+  ends m new s (Ok went) alike on = from_end m new s went alike on
+  ends m new s (Err e) alike on = on

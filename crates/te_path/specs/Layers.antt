@@ -1,7 +1,7 @@
 -- A head and what stands round it: `then` and `catch` of which it is the first part. No public clause cites this module.
 use Rattle.std.specs.Prelude.{ℕ, List, [], ◌∷◌}
-use Rattle.te_path.specs.declared.frame.Awaits.{Awaits}
-use Rattle.te_path.specs.declared.frame.Awaits.TheVariants.{Given, Raised}
+use Rattle.te_path.specs.declared.frames.Awaits.{Awaits}
+use Rattle.te_path.specs.declared.frames.Awaits.TheVariants.{Given, Raised}
 use Rattle.te_terms.specs.Terms.{Term, and_then, catch}
 
 -- a second part that awaits what the first gives or raises, and the level of the name that it binds

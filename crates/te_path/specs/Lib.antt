@@ -1,6 +1,12 @@
+pub mod Chains
+pub mod Growth
 pub mod Layers
+pub mod Unwinding
+pub mod Stored
 pub mod Paths
 pub mod Scopes
-pub mod Unwinding
+pub mod Origins
 pub mod Places
+pub mod Spots
 pub mod Leading
+pub mod Wents

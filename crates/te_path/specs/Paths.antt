@@ -1,25 +1,16 @@
--- What a path state shows: what a term settles as, where it stands, and a step with all quiet steps after it.
-use Rattle.std.specs.Prelude.{◌≡◌, ℕ, List, [], Option, Some}
+-- What a path state shows: where its term stands, and a step with all quiet steps after it.
+use Rattle.std.specs.Prelude.{◌≡◌, ◌+◌, ◌≤◌, ℕ, List, [], Option, Some}
 use Rattle.std.specs.Option.{option_map}
 use Rattle.te_terms.specs.declared.value.Atom.{Atom}
 use Rattle.te_terms.specs.declared.event.Outcome.TheVariants.{Gives, Raises}
 use Rattle.te_terms.specs.Terms.{Term, never, choose}
-use Rattle.te_terms.specs.Steps.{Member, giving, outcome_of, head, with_head, IsSettled}
+use Rattle.te_terms.specs.Steps.{Member, giving, outcome_of, head, with_head, at_term}
 use Rattle.te_terms.specs.Joint.{sending, receiving}
 use Rattle.te_terms.specs.Settling.{settled}
-use Rattle.te_path.specs.declared.path.Stop.{Stop}
-use Rattle.te_path.specs.declared.path.Stop.TheVariants as stops
-
-abbrev pub member : ℕ → Term → Member
-member thread t = record { thread = thread; term = t }
-
--- this is the term once its quiet steps are done, whatever the thread
-abbrev pub SettlesAs : Term → Term → Type 0
-SettlesAs t end = (thread : ℕ) → settled (member thread t) ≡ member thread end
-
--- no quiet step is left, whatever the thread
-abbrev pub HasSettled : Term → Type 0
-HasSettled t = (thread : ℕ) → IsSettled (member thread t)
+use Rattle.te_terms.specs.Measures.{fresh_count}
+use Rattle.te_terms.specs.Limits.{most_fresh}
+use Rattle.te_path.specs.declared.spot.Stop.{Stop}
+use Rattle.te_path.specs.declared.spot.Stop.TheVariants as stops
 
 -- the head is a choice
 abbrev pub IsChoice : Term → Type 0
@@ -42,8 +33,15 @@ after_sending t = option_map (λ m. with_head (giving []) t) (sending t)
 abbrev pub after_receiving : List Atom → Term → Option Term
 after_receiving v t = option_map (λ c. with_head (giving v) t) (receiving t)
 
--- a step leads to a term that settles as this one
-pub record StepsTo (step : Option Term) (end : Term) : Type 0 where
+-- a step of a member's term leads to one with which the member settles as this one
+pub record StepsTo (m : Member) (step : Option Term) (end : Member) : Type 0 where
   pub next : Term
   pub steps : step ≡ Some next
-  pub settles : SettlesAs next end
+  pub settles : settled (at_term m next) ≡ end
+
+-- the fresh channels that a member has made, and those that its term may still make
+abbrev pub all_fresh : Member → ℕ
+all_fresh m = m.count + fresh_count m.term
+
+abbrev pub HasFewFresh : Member → Type 0
+HasFewFresh m = all_fresh m ≤ most_fresh

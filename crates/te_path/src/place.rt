@@ -1,149 +1,178 @@
-// A place in an event: the node that comes next, the values of the inner names, and the frames round it.
+// A place in an event, and the walk over its quiet steps.
 
-ghost use Rattle.std.specs.Prelude.{◌≡◌, ◌<◌, ◌≤◌, length, reverse, false, IsTrue, IfOk, Some};
-ghost use Rattle.te_terms.specs.Terms.{closed};
-ghost use Rattle.te_terms.specs.Joint.{after_choice};
-ghost use Rattle.te_terms.specs.Codes.{term_under};
-ghost use Rattle.te_path.specs.Paths.{IsChoice};
-ghost use Rattle.te_path.specs.Layers.{in_layers};
-ghost use Rattle.te_path.specs.Places.{term_of, ended, layers_of, IsPlace, IsPath, nodes_left, frames_left, Alike};
+ghost use Rattle.std.specs.Prelude.{◌≡◌, ◌+◌, ◌<◌, ◌≤◌, length, IfOk, OnOk, OnErr};
+ghost use Rattle.te_path.specs.Growth.{Grows};
+ghost use Rattle.te_path.specs.Origins.{origin_of};
+ghost use Rattle.te_path.specs.Paths.{HasFewFresh};
+ghost use Rattle.te_path.specs.Places.{placed, ending_in, AreAround, IsPlace, nodes_left, left_at, Alike};
+ghost use Rattle.te_path.specs.Spots.{spelled, stop_of, IsSpot};
+ghost use Rattle.te_path.specs.Wents.{GoesOn, Keeps, ComesOn};
 
-use crate::frame::{Frame, unwind, value_in};
-use crate::looking::Next;
-use smallvec::SmallVec;
-use std::alloc::Global;
-use std::sync::Arc;
-use te_terms::{EventCode, NoMemory, Node, Outcome, Value};
+use crate::cells::Cells;
+use crate::frames::{FrameCell, value_in};
+use crate::fresh::fresh_value;
+use crate::looking::{Next, Turn, look, turn_of};
+use crate::posted::Posted;
+use crate::spot::{Spot, Stop};
+use te_terms::{NoMemory, Outcome};
 
-/// What stands at the head: a node, or an ending, which stands in no frame.
+/// A node as head, with the links of its inner values and its frames, and how many fresh channels have been
+/// made.
 #[derive(Clone, Copy)]
-pub(crate) enum Head {
-    Node(u32),
-    Ended(Outcome),
-}
-
-/// A node of an event's code as head, in its frames, the innermost last. Each name is bound to an inner
-/// value, from level 0 on. It is seen as the term that these spell.
-#[derive(Drop)]
 pub(crate) struct Place {
-    pub(crate) code: Arc<EventCode>,
-    pub(crate) regs: [Value; 8],
-    pub(crate) head: Head,
-    pub(crate) inner: SmallVec<Value, 4>,
-    pub(crate) frames: SmallVec<Frame, 4>,
+    pub(crate) node: u32,
+    pub(crate) values: u32,
+    pub(crate) frames: u32,
+    pub(crate) count: u32,
 }
 
-impl Place {
-    /// The place at a root, with room for every move from there on: frames and inner values together are always
-    /// fewer than the height.
-    pub(crate) fn at_root(
-        alloc: Global,
-        code: &Arc<EventCode>,
-        root: u32,
-        regs: &[Value; 8],
-    ) -> Result<Place, NoMemory>
-        requires { root < length code.now.value }
-        ensures place { IfOk result IsPlace }
-        ensures term { IfOk result (λ place. term_of place ≡ closed regs.now (term_under code.now.value root)) }
-    {
-        let room = code.height(root) as usize - 1;
-        let Ok(code) = Arc::try_clone(code) else {
-            return Err(NoMemory);
-        };
-        Ok(Place {
-            code,
-            regs: *regs,
-            head: Head::Node(root),
-            inner: SmallVec::with_capacity(alloc, room)?,
-            frames: SmallVec::with_capacity(alloc, room)?,
-        })
-    }
+/// What one step leaves: another place, or nothing to do, with the spot written.
+#[derive(Clone, Copy)]
+pub(crate) enum Went {
+    To(Place),
+    At,
+}
 
-    /// Makes all quiet steps.
-    pub(crate) fn settle(&mut self)
-        requires { IsPlace self.old }
-        ensures path { IsPath self.new }
-        ensures alike { Alike (term_of self.old) (term_of self.new) }
-    {
-        while self.step() {}
-    }
-
-    // Goes into the node at the head or makes its quiet step, and answers whether it could.
-    fn step(&mut self) -> bool
-        requires { IsPlace self.old }
-        ensures place { IsPlace self.new }
-        ensures alike { Alike (term_of self.old) (term_of self.new) }
-        ensures falls { IsTrue result → nodes_left self.new < nodes_left self.old }
-        ensures done { result ≡ false → IsPath self.new }
-    {
-        let Head::Node(i) = self.head else {
-            return false;
-        };
-        match self.next(i) {
-            Next::Stays => return false,
-            Next::Goes(j) => self.head = Head::Node(j),
-            Next::Enters(frame, j) => {
-                self.frames.push_reserved(frame);
-                self.head = Head::Node(j);
-            }
-            Next::Ends(outcome) => self.end(outcome),
+/// Makes all quiet steps.
+pub(crate) fn settle(
+    cells: &mut Cells,
+    posted: &Posted,
+    from: Place,
+    spot: &mut Spot,
+) -> Result<(), NoMemory>
+    requires { IsPlace (origin_of posted.now) cells.old from }
+    ensures grows { Grows cells.old cells.new }
+    ensures spot { OnOk result (IsSpot (origin_of posted.now) cells.new spot.new) }
+    ensures alike { OnOk result (Alike (placed (origin_of posted.now) cells.old from) (spelled (origin_of posted.now) cells.new spot.new)) }
+    ensures err { OnErr result (spot.new ≡ spot.old) }
+{
+    let mut place = from;
+    'all: loop {
+        place = descend(cells, posted, place)?;
+        match step(cells, posted, place, spot)? {
+            Went::To(next) => place = next,
+            Went::At => return Ok(()),
         }
-        true
     }
+}
 
-    // Hands the outcome to the innermost frame that takes it; where none does, it is the end.
-    pub(crate) fn end(&mut self, outcome: Outcome)
-        requires { IsPlace self.old }
-        ensures place { IsPlace self.new }
-        ensures alike { Alike (in_layers (layers_of self.old) (ended outcome)) (term_of self.new) }
-        ensures left { nodes_left self.new ≤ frames_left self.old.code.value (reverse self.old.frames.items) }
-    {
-        match unwind(&mut self.frames, &outcome) {
-            None => self.head = Head::Ended(outcome),
-            Some(frame) => {
-                self.inner.truncate(frame.level as usize);
-                self.inner.push_reserved(value_in(&outcome));
-                self.head = Head::Node(frame.second);
+// Goes on while the node at the head has parts. It holds no large value, so a turn of its loop is cheap.
+#[inline(never)]
+fn descend(cells: &mut Cells, posted: &Posted, from: Place) -> Result<Place, NoMemory>
+    requires { IsPlace (origin_of posted.now) cells.old from }
+    ensures grows { Grows cells.old cells.new }
+    ensures ok { IfOk result (λ place. ComesOn (origin_of posted.now) (placed (origin_of posted.now) cells.old from) (nodes_left posted.now.code.now cells.old from) cells.new place) }
+{
+    let mut place = from;
+    'down: loop {
+        match turn_of(posted, cells, place) {
+            Turn::Other => return Ok(place),
+            Turn::Goes(node) => place.node = node,
+            Turn::Enters(awaits, node, second) => {
+                place.frames = cells.frames.push(FrameCell {
+                    second,
+                    values: place.values,
+                    parent: place.frames,
+                    awaits,
+                })?;
+                place.node = node;
             }
         }
     }
+}
 
-    /// Goes to the left or the right part of the choice at the head.
-    pub(crate) fn choose(&mut self, left: bool)
-        requires path { IsPath self.old }
-        requires choice { IsChoice (term_of self.old) }
-        ensures place { IsPlace self.new }
-        ensures step { after_choice left (term_of self.old) ≡ Some (term_of self.new) }
-    {
-        let Head::Node(i) = self.head else {
-            unreachable!()
-        };
-        let Node::Choose(a, b) = self.node(i) else {
-            unreachable!()
-        };
-        self.head = Head::Node(if left { *a } else { *b });
+// Goes into the node at the head or makes its quiet step.
+fn step(cells: &mut Cells, posted: &Posted, place: Place, spot: &mut Spot) -> Result<Went, NoMemory>
+    requires { IsPlace (origin_of posted.now) cells.old place }
+    ensures grows { Grows cells.old cells.new }
+    ensures ok { IfOk result (λ went. GoesOn (origin_of posted.now) (placed (origin_of posted.now) cells.old place) (nodes_left posted.now.code.now cells.old place) cells.new spot.new went) }
+    ensures kept { IfOk result (Keeps spot.old spot.new) }
+    ensures err { OnErr result (spot.new ≡ spot.old) }
+{
+    match look(posted, cells, place) {
+        Next::Stays(stop) => {
+            *spot = Spot {
+                stop,
+                node: place.node + 1,
+                values: place.values,
+                frames: place.frames,
+                count: place.count,
+            };
+            Ok(Went::At)
+        }
+        Next::Goes(node) => Ok(Went::To(Place {
+            node,
+            values: place.values,
+            frames: place.frames,
+            count: place.count,
+        })),
+        Next::Enters(awaits, node, second) => {
+            let frames = cells.frames.push(FrameCell {
+                second,
+                values: place.values,
+                parent: place.frames,
+                awaits,
+            })?;
+            Ok(Went::To(Place {
+                node,
+                values: place.values,
+                frames,
+                count: place.count,
+            }))
+        }
+        Next::Ends(outcome) => end(cells, posted, place.count, place.frames, &outcome, spot),
+        Next::Fresh => {
+            let made = Outcome::Gives(fresh_value(posted, place.count));
+            end(cells, posted, place.count + 1, place.frames, &made, spot)
+        }
     }
+}
 
-    /// The same place once more, with as much room.
-    pub(crate) fn copy(&self) -> Result<Place, NoMemory>
-        requires { IsPath self.now }
-        ensures path { IfOk result IsPath }
-        ensures same { IfOk result (λ place. term_of place ≡ term_of self.now) }
-    {
-        let alloc = *self.inner.allocator();
-        let Ok(code) = Arc::try_clone(&self.code) else {
-            return Err(NoMemory);
-        };
-        let mut inner = SmallVec::with_capacity(alloc, self.inner.capacity())?;
-        inner.extend_from_slice(&self.inner)?;
-        let mut frames = SmallVec::with_capacity(alloc, self.frames.capacity())?;
-        frames.extend_from_slice(&self.frames)?;
-        Ok(Place {
-            code,
-            regs: self.regs,
-            head: self.head,
-            inner,
-            frames,
-        })
+/// Hands the outcome to the innermost frame that takes it; where none does, it is the end.
+pub(crate) fn end(
+    cells: &mut Cells,
+    posted: &Posted,
+    count: u32,
+    frames: u32,
+    outcome: &Outcome,
+    spot: &mut Spot,
+) -> Result<Went, NoMemory>
+    requires around { AreAround posted.now.code.now cells.old 0 frames }
+    requires few { HasFewFresh (ending_in (origin_of posted.now) cells.old count frames outcome.now) }
+    ensures grows { Grows cells.old cells.new }
+    ensures ok { IfOk result (λ went. GoesOn (origin_of posted.now) (ending_in (origin_of posted.now) cells.old count frames outcome.now) (1 + left_at posted.now.code.now cells.old frames) cells.new spot.new went) }
+    ensures kept { IfOk result (Keeps spot.old spot.new) }
+    ensures err { OnErr result (spot.new ≡ spot.old) }
+{
+    match cells.frames.unwind(frames, outcome) {
+        None => {
+            *spot = Spot {
+                stop: stop_of(outcome),
+                node: 0,
+                values: 0,
+                frames: 0,
+                count,
+            };
+            Ok(Went::At)
+        }
+        Some(frame) => {
+            let values = cells.values.push(value_in(outcome), frame.values)?;
+            Ok(Went::To(Place {
+                node: frame.second,
+                values,
+                frames: frame.parent,
+                count,
+            }))
+        }
+    }
+}
+
+// Where an ending stands.
+fn stop_of(outcome: &Outcome) -> Stop
+    ensures { result ≡ stop_of outcome.now }
+{
+    match outcome {
+        Outcome::Gives(value) => Stop::Done(*value),
+        Outcome::Raises(value) => Stop::Raised(*value),
     }
 }

@@ -36,8 +36,8 @@ fn make(path: &mut PathState, step: Step) -> Result<(), Fail> {
     Ok(())
 }
 
-// The state at the start of the event under the last of these nodes; register 0 is (2).
-fn start(alloc: Global, nodes: &[Node]) -> Result<PathState, Fail> {
+// The event under the last of these nodes; register 0 is (2).
+fn event_of(alloc: Global, nodes: &[Node]) -> Result<Event, Fail> {
     let mut code = EventCode::new(alloc);
     let mut root = 0;
     for node in nodes {
@@ -45,8 +45,12 @@ fn start(alloc: Global, nodes: &[Node]) -> Result<PathState, Fail> {
     }
     let mut regs = [Value::unit(); 8];
     regs[0] = ints(&[2]);
-    let event = Event::new(Arc::new(alloc, code)?, root, regs).ok_or("a root")?;
-    Ok(PathState::start(alloc, &event)?)
+    Ok(Event::new(Arc::new(alloc, code)?, root, regs).ok_or("a root")?)
+}
+
+// The state at its start, for thread 3 under ticket 1.
+fn start(alloc: Global, nodes: &[Node]) -> Result<PathState, Fail> {
+    Ok(PathState::start(alloc, &event_of(alloc, nodes)?, 3, 1)?)
 }
 
 // Where the path stands after these moves.
@@ -413,5 +417,85 @@ fn the_tallest_events_are_walked(rt: HostRuntime) -> Result<(), Fail> {
     make(&mut copy, Step::Received(ints(&[8])))?;
     assert_eq!(rt; path.stop(), Stop::Done(ints(&[7])));
     assert_eq!(rt; copy.stop(), Stop::Done(ints(&[8])));
+    Ok(())
+}
+
+// do { _0 <- fresh; _1 <- fresh; always (_0.0, _1.0) }
+fn makes_two() -> [Node; 5] {
+    [
+        Node::Fresh,
+        Node::Fresh,
+        Node::Always(tuple(&[Calc::One(first(0)), Calc::One(first(1))])),
+        Node::Then(1, 2),
+        Node::Then(0, 3),
+    ]
+}
+
+#[test]
+fn fresh_channels_are_numbered_by_thread_ticket_and_count(rt: HostRuntime) -> Result<(), Fail> {
+    let alloc = rt.alloc();
+    let event = event_of(alloc, &makes_two())?;
+    // 2^30 + (thread modulo 64, ticket modulo 2^18, the count in the lowest 4 bits)
+    for (thread, ticket, channel) in [
+        (0, 0, 1_073_741_824),
+        (0, 1, 1_073_741_840),
+        (1, 0, 1_077_936_128),
+        (63, 262_143, 1_342_177_264),
+        (65, 262_145, 1_077_936_144),
+    ] {
+        let path = PathState::start(alloc, &event, thread, ticket)?;
+        let two = value(&[Atom::Chan(channel), Atom::Chan(channel + 1)]);
+        assert_eq!(rt; path.stop(), Stop::Done(two));
+    }
+    Ok(())
+}
+
+#[test]
+fn a_fresh_channel_is_sent_and_received_on(rt: HostRuntime) -> Result<(), Fail> {
+    // do { _0 <- fresh; _1 <- send 0 _0; recv _0.0 }
+    let asks = [
+        Node::Fresh,
+        Node::Send(Prim::Chan(0), whole(0)),
+        Node::Recv(first(0)),
+        Node::Then(1, 2),
+        Node::Then(0, 3),
+    ];
+    let channel = 1_073_741_824 + (3 * 262_144 + 1) * 16;
+    let made = value(&[Atom::Chan(channel)]);
+    let five = Step::Received(ints(&[5]));
+    for (steps, want) in [
+        (&[][..], Stop::Send(0, made)),
+        (&[Step::Sent][..], Stop::Recv(channel)),
+        (&[Step::Sent, five][..], Stop::Done(ints(&[5]))),
+    ] {
+        assert_eq!(rt; stop_after(rt.alloc(), &asks, steps)?, want);
+    }
+    assert_eq!(rt;
+        stop_after(rt.alloc(), &[Node::Fresh], &[])?,
+        Stop::Done(made)
+    );
+    Ok(())
+}
+
+#[test]
+fn a_part_not_taken_makes_no_channel(rt: HostRuntime) -> Result<(), Fail> {
+    // choose { do { _0 <- fresh; never } | do { _0 <- fresh; always _0 } }
+    let parts = [
+        Node::Fresh,
+        Node::Never,
+        Node::Then(0, 1),
+        Node::Fresh,
+        Node::Always(whole(0)),
+        Node::Then(3, 4),
+        Node::Choose(2, 5),
+    ];
+    let made = value(&[Atom::Chan(1_073_741_824 + (3 * 262_144 + 1) * 16)]);
+    for (steps, want) in [
+        (&[][..], Stop::Choice),
+        (&[Step::Left][..], Stop::Dead),
+        (&[Step::Right][..], Stop::Done(made)),
+    ] {
+        assert_eq!(rt; stop_after(rt.alloc(), &parts, steps)?, want);
+    }
     Ok(())
 }

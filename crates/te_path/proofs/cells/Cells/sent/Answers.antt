@@ -1,0 +1,11 @@
+use Rattle.std.proofs.Common.{[], sym}
+use Rattle.te_terms.specs.Joint.{sending}
+use Rattle.te_path.specs.Origins.{origin_of}
+use Rattle.te_path.specs.Spots.{spelled}
+use Rattle.te_path.proofs.Handing.{hands}
+use Rattle.te_path.proofs.cells.Cells.sent.Goals as goal
+
+pub returns-clause-step : goal.returns-clause-step
+returns-clause-step c =
+    let m = spelled (origin_of c.args.posted.now) c.args.self.now c.args.spot.now in
+    hands (origin_of c.args.posted.now) c.hand.new.cells c.hand.new.spot m (sending m.term) [] c.hand.result c.requires.send c.hand.ensures.spot (rw (← c.unit.ensures) c.hand.ensures.alike)
