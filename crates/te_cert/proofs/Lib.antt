@@ -18,6 +18,7 @@ pub mod GoingAhead
 pub mod StepsTaken
 pub mod StepsBack
 pub mod ReductionsPlay
+pub mod EventsLent
 pub mod Checked
 pub mod MeetingsBetween
 pub mod Accepted

@@ -1,9 +1,10 @@
 -- Seats: what an advance to one says of the play.
-use Rattle.std.proofs.Common.{◌≡◌, inr, ℕ, ◌<◌, ◌≤◌, Bool, true, false, List, [], ◌∷◌, ◌++◌, length, drop, Option, Some, None, Err, refl, sym, ap, ◌∙◌, subst, arith}
-use Rattle.std.specs.Prelude.{IsSome}
+use Rattle.std.proofs.Common.{◌≡◌, inr, ℕ, ◌<◌, ◌≤◌, Bool, true, false, List, [], ◌∷◌, ◌++◌, length, drop, Option, Some, None, Result, Ok, Err, refl, sym, ap, ◌∙◌, subst, arith}
+use Rattle.std.specs.Prelude.{IsSome, IfOk}
 use Rattle.std.specs.Option.{option_map}
 use Rattle.te_terms.specs.declared.value.Atom.{Atom}
 use Rattle.te_terms.specs.declared.event.Outcome.{Outcome}
+use Rattle.te_terms.specs.declared.memory.NoMemory.{NoMemory}
 use Rattle.te_terms.specs.Terms.{Term}
 use Rattle.te_terms.specs.Steps.{Member, at_term, giving, with_head}
 use Rattle.te_terms.specs.Settling.{settled}
@@ -34,9 +35,13 @@ passes_on v p q (Some x) some to letters =
     let same : to.next ≡ with_head (giving v) p.member.term = let both : Some (with_head (giving v) p.member.term) ≡ Some to.next = to.steps in cc in
     record { settles = ap (λ t. settled (at_term p.member t)) (sym same) ∙ to.settles; letters = letters }
 
-pub handed_comes : (v : List Atom) (p q r : Player) (done : Bool) → PassesOn v p q → Comes q done r → Comes (handed v p) done r
+handed_comes : (v : List Atom) (p q r : Player) (done : Bool) → PassesOn v p q → Comes q done r → Comes (handed v p) done r
 handed_comes v p q r done on comes =
     comes_from (handed v p) q r done (sym (settles_twice (handed v p).member) ∙ ap settled on.settles) on.letters comes
+
+pub handed_comes_so : (v : List Atom) (p q r : Player) (done : Result Bool NoMemory) → PassesOn v p q → IfOk done (λ d. Comes q d r) → IfOk done (λ d. Comes (handed v p) d r)
+handed_comes_so v p q r (Ok d) on comes = handed_comes v p q r d on comes
+handed_comes_so v p q r (Err e) on comes = tt
 
 -- ---- from the event on
 

@@ -1,9 +1,13 @@
 -- Seats by place: who sits there, another seat put there, and cells put behind the others.
-use Rattle.std.proofs.Common.{◌≡◌, ℕ, zero, suc, ◌≤◌, true, false, List, [], ◌∷◌, ◌++◌, length, drop, Some, refl, ap, ◌∙◌, arith}
+use Rattle.std.proofs.Common.{◌≡◌, ℕ, zero, suc, ◌<◌, true, false, List, [], ◌∷◌, ◌++◌, length, take, drop, get_or, Some, refl, sym, ap, ◌∙◌, arith}
 use Rattle.std.specs.Prelude.{slice_get, slice_set}
+use Rattle.std.proofs.Math.Seq.{take-append_seam}
+use Rattle.std.proofs.lemmas.Option.{slice_get-get_or}
 use Rattle.te_terms.specs.declared.value.Atom.{Atom}
 use Rattle.te_path.specs.declared.cells.Cells.{Cells}
+use Rattle.te_path.specs.declared.spot.Stop.{Stop}
 use Rattle.te_path.specs.Growth.{Grows}
+use Rattle.te_path.specs.Paths.{StandsAt}
 use Rattle.te_path.specs.Spots.{spelled}
 use Rattle.te_path.proofs.Growing.{spelled_grown, spot_grown}
 use Rattle.te_cert.specs.declared.cert.Member.{Member}
@@ -30,6 +34,16 @@ enters_there (n ∷ ms) (k ∷ ls) zero m l p q =
 enters_there (n ∷ ms) (k ∷ ls) (suc i) m l p q = enters_there ms ls i m l p q
 
 -- ---- by place
+
+-- something is there
+some_there : {A : Type 0} (xs : List A) (i : ℕ) → i < length xs → (x : A) × (slice_get xs i ≡ Some x)
+some_there [] i within = absurd (omega arith)
+some_there (x ∷ xs) zero within = (x, refl)
+some_there (x ∷ xs) (suc i) within = some_there xs i (omega arith)
+
+-- what is found at a place within a list
+pub found_here : {A : Type 0} (xs : List A) (i : ℕ) (x : A) → i < length xs → x ≡ get_or xs i x → slice_get xs i ≡ Some x
+found_here xs i x within is = slice_get-get_or xs i x within ∙ ap Some (sym is)
 
 pub as_many_seats : (cells : Cells) (es : List Entering) (ks : List Seat) → AreSeated cells es ks → length es ≡ length ks
 as_many_seats cells [] [] seated = refl
@@ -67,6 +81,17 @@ seat_set cells (d ∷ es) [] i e k p = refl
 seat_set cells (d ∷ es) (l ∷ ks) zero e k p = let a : d ≡ e = cc in rw a refl
 seat_set cells (d ∷ es) (l ∷ ks) (suc i) e k p = ap (λ xs. seat_of cells d l ∷ xs) (seat_set cells es ks i e k p)
 
+-- what was written through a slice of all seats is what is then read of them
+pub read_again : (old new read : List Seat) (len : ℕ) → length old ≡ len → length old ≡ length new → read ≡ take len (new ++ drop (length new) old) → read ≡ new
+read_again old new read len many same is = is ∙ ap (λ n. take n (new ++ drop (length new) old)) (sym many ∙ same) ∙ take-append_seam new (drop (length new) old)
+
+-- a member of the certificate has a seat
+pub has_seat : (cells : Cells) (ms : List Member) (ls : List Lent) (ks : List Seat) (i : ℕ) → length ms ≡ length ls → AreSeated cells (all_entering ms ls) ks → i < length ms → i < length ks
+has_seat cells ms ls ks i many seated within = omega (arith, within, as_many_enter ms ls many, as_many_seats cells (all_entering ms ls) ks seated)
+
+pub seat_read : (cells : Cells) (ms : List Member) (ls : List Lent) (ks : List Seat) (i : ℕ) (k : Seat) → length ms ≡ length ls → AreSeated cells (all_entering ms ls) ks → i < length ms → k ≡ get_or ks i k → slice_get ks i ≡ Some k
+seat_read cells ms ls ks i k many seated within is = found_here ks i k (has_seat cells ms ls ks i many seated within) is
+
 -- ---- cells put behind the others
 
 pub seat_stays : (old new : Cells) (e : Entering) (k : Seat) → Grows old new → IsSeat old e k → IsSeat new e k
@@ -86,6 +111,23 @@ seats_stay old new [] [] grows seated = refl
 seats_stay old new (e ∷ es) (k ∷ ks) grows seated = rw (seats_stay_by old new e k grows seated.0, seats_stay old new es ks grows seated.1) refl
 seats_stay old new [] (k ∷ ks) grows seated = absurd seated
 seats_stay old new (e ∷ es) [] grows seated = absurd seated
+
+-- the player at a place, who stands so
+pub record Standing (ps : List Player) (i : ℕ) (stop : Stop) : Type 0 where
+  pub player : Player
+  pub is_there : slice_get ps i ≡ Some player
+  pub stands : StandsAt player.member.term stop
+
+pub standing : (cells : Cells) (ms : List Member) (ls : List Lent) (ks : List Seat) (i : ℕ) (k : Seat) → length ms ≡ length ls → AreSeated cells (all_entering ms ls) ks → i < length ms → k ≡ get_or ks i k →
+    Standing (seats_of cells (all_entering ms ls) ks) i k.spot.stop
+standing cells ms ls ks i k many seated within is =
+    let here = seat_read cells ms ls ks i k many seated within is in
+    let enters = some_there (all_entering ms ls) i (omega (arith, within, as_many_enter ms ls many)) in
+    record {
+      player = seat_of cells enters.0 k;
+      is_there = seat_there cells (all_entering ms ls) ks i enters.0 k enters.1 here;
+      stands = (is_seat cells (all_entering ms ls) ks i enters.0 k seated enters.1 here).spot.stands;
+    }
 
 -- ---- one member goes on from an end of a meeting
 

@@ -1,7 +1,8 @@
 -- What the three loops of a play have done so far, and what one more turn of each does.
-use Rattle.std.proofs.Common.{◌≡◌, inl, inr, ℕ, zero, suc, ◌+◌, ◌<◌, ◌≤◌, List, [], ◌∷◌, ◌++◌, length, get_or, take, drop, map, Some, Result, Ok, Err, refl, sym, ap, subst, ◌∙◌, append_assoc, add-one}
+use Rattle.std.proofs.Common.{◌≡◌, inl, inr, ℕ, zero, suc, ◌+◌, ◌<◌, ◌≤◌, List, [], ◌∷◌, ◌++◌, length, get_or, take, drop, map, Some, Result, Ok, Err, refl, sym, ap, subst, ◌∙◌, append_assoc, append-nil, take_all, add-one}
 use Rattle.std.specs.Prelude.{slice_get}
 use Rattle.std.proofs.Math.Seq.{drop-cons}
+use Rattle.std.proofs.Math.ListN.{drop_of_length-le}
 use Rattle.te_terms.specs.declared.event.Outcome.{Outcome}
 use Rattle.te_terms.specs.Steps.{outcome_of}
 use Rattle.te_terms.specs.Joint.{Label}
@@ -12,7 +13,7 @@ use Rattle.te_cert.specs.declared.cert.Meeting.{Meeting}
 use Rattle.te_cert.specs.declared.cert.CertFault.{CertFault}
 use Rattle.te_cert.specs.declared.seat.Seat.{Seat}
 use Rattle.te_cert.specs.Play.{PlayFault, Player, Table, ◌>>=◌, advanced, all_advanced, meets, all_meet, ending, endings}
-use Rattle.te_cert.specs.Players.{Entering, IsSeat, AreSeated, IsSeatedAt, start_of, starts_of, seat_of, seats_of, players_before, outcomes_before, TellsFault, Tells}
+use Rattle.te_cert.specs.Players.{Entering, IsSeat, AreSeated, IsSeatedAt, start_of, starts_of, seat_of, seats_of, BecomesTable, players_before, outcomes_before, TellsFault, Tells}
 use Rattle.te_cert.proofs.SeatsByPlace.{seated_stay, seats_stay}
 
 -- ---- a list by its place
@@ -32,6 +33,9 @@ up_to_here (y ∷ xs) (suc i) x e = ap (λ zs. y ∷ zs) (up_to_here xs i x e)
 pub none_before : (r : Result Table PlayFault) → players_before [] [] r ≡ r
 none_before (Ok t) = refl
 none_before (Err f) = refl
+
+none_behind : (ps : List Player) (word : List Label) → players_before ps word (Ok (record { players = []; word = [] })) ≡ Ok (record { players = ps; word = word })
+none_behind ps word = rw (append-nil ps, append-nil word) refl
 
 one_more : (ps : List Player) (word more : List Label) (p : Player) (r : Result Table PlayFault) →
     players_before ps word (r >>= λ t. Ok (record { players = p ∷ t.players; word = more ++ t.word })) ≡ players_before (ps ++ p ∷ []) (word ++ more) r
@@ -89,6 +93,14 @@ pub advances_fail : (cells : Cells) (es : List Entering) (ks : List Seat) (i : �
     TellsFault (all_advanced 0 (starts_of es)) fault
 advances_fail cells es ks i e fault e_is have fails =
     rw (have.so_far, from_here es i e e_is) (advance_fails i (seats_of cells (take i es) ks) have.word e (drop (suc i) es) fault fails)
+
+-- with none left
+pub all_seated : (cells : Cells) (es : List Entering) (ks : List Seat) (i : ℕ) → length es ≤ i → HaveAdvanced cells es ks i → AreSeated cells es ks
+all_seated cells es ks i past have = subst (λ x. AreSeated cells x ks) (take_all i es past) have.seated
+
+pub all_have_advanced : (cells : Cells) (es : List Entering) (ks : List Seat) (i : ℕ) → length es ≤ i → HaveAdvanced cells es ks i → BecomesTable (all_advanced 0 (starts_of es)) (seats_of cells es ks)
+all_have_advanced cells es ks i past have =
+    (have.word, have.so_far ∙ rw (drop_of_length-le es past, take_all i es past) (none_behind (seats_of cells es ks) have.word))
 
 -- ---- all meet
 
@@ -156,3 +168,9 @@ module _ (cells : Cells) (es : List Entering) (ks : List Seat) (os : List Outcom
   ended_fails fault told =
       rw here_so
       (ends_badly i os (seat_of cells e k) (seats_of cells (drop (suc i) es) (drop (suc i) ks)) fault (tells_err (ending i (outcome_of (seat_of cells e k).member.term) (seat_of cells e k).letters) fault told))
+
+-- with none left
+pub all_ended : (cells : Cells) (es : List Entering) (ks : List Seat) (os : List Outcome) (i : ℕ) → length es ≤ i →
+    endings 0 (seats_of cells es ks) ≡ outcomes_before os (endings i (seats_of cells (drop i es) (drop i ks))) → endings 0 (seats_of cells es ks) ≡ Ok os
+all_ended cells es ks os i past so_far =
+    so_far ∙ rw (drop_of_length-le es past) (ap Ok (append-nil os))

@@ -11,7 +11,6 @@ use Rattle.te_path.specs.declared.cells.Cells.{Cells}
 use Rattle.te_path.specs.declared.spot.Stop.{Stop}
 use Rattle.te_path.specs.declared.spot.Stop.TheVariants as stops
 use Rattle.te_path.specs.Origins.{Origin, origin_of, member_at}
-use Rattle.te_path.specs.Paths.{HasFewFresh}
 use Rattle.te_path.specs.Spots.{spelled, IsSpot}
 use Rattle.te_cert.specs.declared.cert.Member.{Member}
 use Rattle.te_cert.specs.declared.cert.Meeting.{Meeting}
@@ -59,9 +58,8 @@ start_of e = record { member = member_at e.origin 0 (closed e.origin.regs (term_
 abbrev pub starts_of : List Entering → List Player
 starts_of es = map start_of es
 
-pub record IsEntering (e : Entering) : Type 0 where
-  pub within : e.root < length e.origin.code
-  pub few : HasFewFresh (start_of e).member
+abbrev pub IsEntering : Entering → Type 0
+IsEntering e = e.root < length e.origin.code
 
 -- ---- seats
 
