@@ -1,5 +1,5 @@
 -- A member's turns come to an end, where it advances by its letters.
-use Rattle.std.proofs.Common.{◌≡◌, ℕ, zero, suc, ◌+◌, ◌≤◌, Bool, true, false, List, [], ◌∷◌, Option, Some, None, Result, refl, sym, ap, ◌∙◌, ◌*◌, arith}
+use Rattle.std.proofs.Common.{◌≡◌, ℕ, zero, suc, ◌≤◌, Bool, true, false, List, [], ◌∷◌, Option, Some, None, Result, refl, sym, ap, ◌∙◌, ◌*◌, arith}
 use Rattle.te_terms.specs.Terms.{Term}
 use Rattle.te_terms.specs.Steps.{Member, quiet_step, at_term}
 use Rattle.te_terms.specs.Joint.{choice, after_choice}

@@ -48,7 +48,10 @@ three_agree side e f (suc (suc zero)) h = e ∙ f
 three_agree side e f (suc (suc (suc i))) h = absurd (omega (arith, h))
 
 pub ring_is_tight : IsTight ring.cert
-ring_is_tight side m i j h k = sym (three_agree side m.0 m.1.0 i h) ∙ three_agree side m.0 m.1.0 j k
+ring_is_tight side m i j h k =
+    let first : side 0 ≡ side 1 = m.0 (lit< tt) (lit< tt) in
+    let second : side 1 ≡ side 2 = m.1.0 (lit< tt) (lit< tt) in
+    sym (three_agree side first second i h) ∙ three_agree side first second j k
 
 -- two pairs that meet each on a channel of their own
 abbrev pairs : Cert
@@ -67,7 +70,7 @@ true_false e = cc
 
 -- the first pair on one side, the second on the other
 pub pairs_are_not_tight : ¬ IsTight pairs
-pairs_are_not_tight tight = true_false (tight (λ i. nat_lt i 2) (refl, (refl, tt)) 0 2 (lit< tt) (lit< tt))
+pairs_are_not_tight tight = true_false (tight (λ i. nat_lt i 2) (λ a b. refl, (λ a b. refl, tt)) 0 2 (lit< tt) (lit< tt))
 
 -- ---- a tight certificate isn't always of a smallest group: here the first member could commit alone
 
@@ -89,7 +92,9 @@ two_agree side e (suc zero) h = e
 two_agree side e (suc (suc i)) h = absurd (omega (arith, h))
 
 pub whole_is_tight : IsTight whole_cert
-whole_is_tight side m i j h k = sym (two_agree side m.0 i h) ∙ two_agree side m.0 j k
+whole_is_tight side m i j h k =
+    let first : side 0 ≡ side 1 = m.0 (lit< tt) (lit< tt) in
+    sym (two_agree side first i h) ∙ two_agree side first j k
 
 pub whole_plays : play whole_group ((false ∷ []) ∷ [] ∷ []) whole_cert.meets
     ≡ Ok (record { outcomes = Gives [] ∷ Gives (single_value 1) ∷ []; word = choice 0 false ∷ meeting 0 1 ∷ [] })

@@ -4,12 +4,10 @@ use Rattle.std.specs.Prelude.{IfOk, IfErr}
 use Rattle.te_terms.specs.declared.event.Outcome.{Outcome}
 use Rattle.te_terms.specs.Terms.{Term}
 use Rattle.te_terms.specs.Joint.{Label, IsGroup, RiseFrom}
-use Rattle.te_path.specs.declared.cells.Cells.{Cells}
 use Rattle.te_cert.specs.declared.cert.Member.{Member}
 use Rattle.te_cert.specs.declared.cert.Meeting.{Meeting}
 use Rattle.te_cert.specs.declared.cert.CertFault.{CertFault}
 use Rattle.te_cert.specs.declared.lent.Lent.{Lent}
-use Rattle.te_cert.specs.declared.seat.Seat.{Seat}
 use Rattle.te_cert.specs.Certificates.{Certificate}
 use Rattle.te_cert.specs.Play.{PlayFault, no_letter, no_meeting, unfinished, letters_left, Player, Table, Played, ◌>>=◌, all_advanced, all_meet, endings, seated}
 use Rattle.te_cert.specs.Checks.{IsChecked, group_of, played, IsFormed, Gives, Reduced, ThreadsRise, RiseAfter}

@@ -1,6 +1,5 @@
 -- The parts of events, lent one after another.
-use Rattle.std.proofs.Common.{◌≡◌, ℕ, zero, suc, ◌+◌, ◌<◌, List, [], ◌∷◌, ◌++◌, length, get_or, take, map, Some, refl, sym, ap, ◌∙◌, add-one}
-use Rattle.std.specs.Prelude.{slice_get}
+use Rattle.std.proofs.Common.{◌≡◌, ℕ, zero, suc, ◌+◌, ◌<◌, List, [], ◌∷◌, ◌++◌, length, get_or, take, refl, sym, ap, ◌∙◌, add-one}
 use Rattle.std.proofs.Math.Seq.{take-suc}
 use Rattle.te_terms.specs.Terms.{Term}
 use Rattle.te_cert.specs.declared.lent.Lent.{Lent}

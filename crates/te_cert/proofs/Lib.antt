@@ -22,6 +22,8 @@ pub mod EventsLent
 pub mod Checked
 pub mod MeetingsBetween
 pub mod Accepted
+pub mod OneAnswer
+pub mod AdvancesEnd
 pub mod RowsTerms
 pub mod RowsRing
 pub mod RowsRaises

@@ -3,7 +3,6 @@ use Rattle.std.proofs.Common.{◌≡◌, ◌≢◌, ◌⊎◌, inl, inr, subst, 
 use Rattle.std.specs.Prelude.{slice_get, slice_set, IsSome, OnOk, IfErr}
 use Rattle.std.specs.Option.{option_map}
 use Rattle.te_terms.specs.declared.value.Atom.{Atom}
-use Rattle.te_terms.specs.Terms.{Term}
 use Rattle.te_terms.specs.Steps.{Member}
 use Rattle.te_terms.specs.Joint.{Label, meeting, Message, sent_from, received_on, sending, receiving}
 use Rattle.te_terms.proofs.OneThing.{end_is_alone, send_is_alone, receive_is_alone, never_is_alone}
@@ -11,7 +10,7 @@ use Rattle.te_path.specs.declared.spot.Stop.{Stop}
 use Rattle.te_path.specs.declared.spot.Stop.TheVariants as stops
 use Rattle.te_path.specs.Paths.{IsChoice, StandsAt}
 use Rattle.te_cert.specs.declared.cert.Meeting.{Meeting}
-use Rattle.te_cert.specs.Play.{PlayFault, Player, Table, Ends, met, met_by, meets, ends_advance, advanced, no_letter, no_meeting}
+use Rattle.te_cert.specs.Play.{Player, Table, Ends, met, met_by, meets, ends_advance, advanced, no_letter, no_meeting}
 use Rattle.te_cert.specs.declared.cert.CertFault.{CertFault}
 use Rattle.te_cert.specs.declared.cert.CertFault.TheVariants as faults
 use Rattle.te_cert.specs.Players.{handed, passing, GoesOn, Lacks, TellsFault, BecomesTable}

@@ -1,17 +1,14 @@
 -- Seats: what an advance to one says of the play.
-use Rattle.std.proofs.Common.{◌≡◌, inr, ℕ, ◌<◌, ◌≤◌, Bool, true, false, List, [], ◌∷◌, ◌++◌, length, drop, Option, Some, None, Result, Ok, Err, refl, sym, ap, ◌∙◌, subst, arith}
+use Rattle.std.proofs.Common.{◌≡◌, inr, ℕ, ◌<◌, Bool, true, false, List, [], ◌∷◌, ◌++◌, length, Option, Some, None, Result, Ok, Err, refl, sym, ap, ◌∙◌, arith}
 use Rattle.std.specs.Prelude.{IsSome, IfOk}
 use Rattle.std.specs.Option.{option_map}
 use Rattle.te_terms.specs.declared.value.Atom.{Atom}
 use Rattle.te_terms.specs.declared.event.Outcome.{Outcome}
 use Rattle.te_terms.specs.declared.memory.NoMemory.{NoMemory}
-use Rattle.te_terms.specs.Terms.{Term}
-use Rattle.te_terms.specs.Steps.{Member, at_term, giving, with_head}
+use Rattle.te_terms.specs.Steps.{at_term, giving, with_head}
 use Rattle.te_terms.specs.Settling.{settled}
 use Rattle.te_path.specs.declared.cells.Cells.{Cells}
-use Rattle.te_path.specs.declared.spot.Spot.{Spot}
 use Rattle.te_path.specs.Paths.{StepsTo}
-use Rattle.te_path.specs.Spots.{spelled}
 use Rattle.te_cert.specs.declared.cert.CertFault.TheVariants as faults
 use Rattle.te_cert.specs.declared.seat.Seat.{Seat}
 use Rattle.te_cert.specs.Play.{Player, advanced, ending, no_letter, letters_left}

@@ -8,12 +8,11 @@ use Rattle.te_path.specs.declared.cells.Cells.{Cells}
 use Rattle.te_path.specs.declared.spot.Stop.{Stop}
 use Rattle.te_path.specs.Growth.{Grows}
 use Rattle.te_path.specs.Paths.{StandsAt}
-use Rattle.te_path.specs.Spots.{spelled}
 use Rattle.te_path.proofs.Growing.{spelled_grown, spot_grown}
 use Rattle.te_cert.specs.declared.cert.Member.{Member}
 use Rattle.te_cert.specs.declared.lent.Lent.{Lent}
 use Rattle.te_cert.specs.declared.seat.Seat.{Seat}
-use Rattle.te_cert.specs.Play.{Player, advanced}
+use Rattle.te_cert.specs.Play.{Player}
 use Rattle.te_cert.specs.Players.{Entering, entering, all_entering, IsSeat, AreSeated, seats_of, seat_of, Comes, handed, GoesOn, Lacks}
 use Rattle.te_cert.proofs.Advancing.{advanced_is}
 

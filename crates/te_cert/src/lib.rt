@@ -12,8 +12,8 @@ mod seat;
 
 pub use cert::{Cert, CertFault, Meeting, Member};
 pub use checking::{check, check_in};
+pub use laws::{advances_end, checks_accept, checks_are_one, plays_reduce, reductions_play};
 pub use lent::Lent;
-pub use laws::{checks_accept, plays_reduce, reductions_play};
 pub use room::Room;
 
 #[cfg(test)]

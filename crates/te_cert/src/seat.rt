@@ -76,12 +76,7 @@ pub(crate) fn hand(
 }
 
 // Goes on from the end of a meeting at which the member stands, with its quiet steps alone.
-fn pass_on(
-    cells: &mut Cells,
-    entrant: &Entrant,
-    seat: &mut Seat,
-    end: End,
-) -> Result<(), NoMemory>
+fn pass_on(cells: &mut Cells, entrant: &Entrant, seat: &mut Seat, end: End) -> Result<(), NoMemory>
     requires seat { IsSeat cells.old (entered entrant.now) seat.old }
     requires stands { StandsAtEnd end (spelled (entered entrant.now).origin cells.old seat.old.spot).term }
     ensures grows { Grows cells.old cells.new }

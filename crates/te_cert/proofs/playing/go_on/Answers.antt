@@ -41,5 +41,5 @@ returns-in-Ok-false-clause-err c =
     inr (
       refl,
       lacked c.args.cells.now c.hand.new.cells (of_group c.args.group.now) c.args.seats.now c.args.i (entered c.entrant.result) c.index-seats-i.result (value_at c.args.end) c.requires.seated c.entrant.ensures.is here
-      end (subst (λ (done : Bool). Comes (handed (value_at c.args.end) start) done end) c.in-Ok-false.field-0-test c.in-Ok-false.ensures.comes),
+          end (subst (λ (done : Bool). Comes (handed (value_at c.args.end) start) done end) c.in-Ok-false.field-0-test c.in-Ok-false.ensures.comes),
     )

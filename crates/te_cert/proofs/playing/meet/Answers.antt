@@ -1,4 +1,4 @@
-use Rattle.std.proofs.Common.{Some, None, sym, ◌∙◌}
+use Rattle.std.proofs.Common.{sym, ◌∙◌}
 use Rattle.std.proofs.lemmas.Result.{err_from_is_err_and}
 use Rattle.te_cert.specs.Players.{of_group, seats_of}
 use Rattle.te_cert.proofs.SeatsByPlace.{has_seat, standing}

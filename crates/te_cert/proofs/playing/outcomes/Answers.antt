@@ -1,9 +1,8 @@
-use Rattle.std.proofs.Common.{refl, ◌∙◌, sym, arith, length}
-use Rattle.std.proofs.Math.ListN.{drop_of_length-le}
+use Rattle.std.proofs.Common.{arith}
 use Rattle.std.proofs.lemmas.Result.{err_from_is_err_and}
 use Rattle.te_cert.specs.Players.{of_group, entered}
-use Rattle.te_cert.proofs.SeatsByPlace.{as_many_enter, as_many_seats, has_seat, seat_read, is_seat}
-use Rattle.te_cert.proofs.SoFar.{ended_on, ended_fails, no_outcomes, all_ended}
+use Rattle.te_cert.proofs.SeatsByPlace.{as_many_enter, has_seat, seat_read, is_seat}
+use Rattle.te_cert.proofs.SoFar.{ended_on, ended_fails, all_ended}
 use Rattle.te_cert.proofs.playing.outcomes.Goals as goal
 
 pub bounds-seats-i : goal.bounds-seats-i

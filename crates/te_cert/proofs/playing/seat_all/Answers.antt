@@ -1,4 +1,4 @@
-use Rattle.std.proofs.Common.{◌≤◌, [], length, take, arith, sym, ap, subst, ◌∙◌}
+use Rattle.std.proofs.Common.{arith}
 use Rattle.std.proofs.lemmas.Result.{err_from_is_err_and}
 use Rattle.te_path.proofs.Growing.{grows_on, grows_none}
 use Rattle.te_cert.specs.Players.{of_group, entered}

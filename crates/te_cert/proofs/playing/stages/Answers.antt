@@ -1,8 +1,7 @@
-use Rattle.std.proofs.Common.{◌≡◌, List, Result, Ok, length, sym, ap, subst, ◌∙◌}
+use Rattle.std.proofs.Common.{◌≡◌, List, Ok, length, sym, ap, subst, ◌∙◌}
 use Rattle.std.specs.Prelude.{IfOk, IfErr}
 use Rattle.std.proofs.lemmas.Result.{err_from_is_err_and}
 use Rattle.te_terms.specs.Joint.{Label}
-use Rattle.te_path.proofs.Growing.{grows_on}
 use Rattle.te_cert.specs.declared.seat.Seat.{Seat}
 use Rattle.te_cert.specs.Play.{all_meet, endings}
 use Rattle.te_cert.specs.Players.{of_group, seats_of, table_of, BecomesTable, TellsFault}
