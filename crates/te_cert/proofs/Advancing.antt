@@ -1,18 +1,19 @@
 -- A member's turns come to an end, where it advances by its letters.
-use Rattle.std.proofs.Common.{◌≡◌, ℕ, zero, suc, ◌+◌, ◌≤◌, Bool, true, false, List, [], ◌∷◌, Option, Some, None, Result, refl, sym, ap, ◌∙◌, ◌*◌, arith}
+use Rattle.std.proofs.Common.{◌≡◌, ℕ, zero, suc, ◌≤◌, Bool, true, false, List, [], ◌∷◌, Option, Some, None, Result, refl, sym, ap, ◌∙◌, ◌*◌, arith}
 use Rattle.te_terms.specs.Terms.{Term}
-use Rattle.te_terms.specs.Steps.{Member, quiet_step}
+use Rattle.te_terms.specs.Steps.{Member, quiet_step, at_term}
 use Rattle.te_terms.specs.Joint.{choice, after_choice}
-use Rattle.te_terms.specs.Settling.{node_count, final_count, settled}
-use Rattle.te_terms.proofs.Settles.{quiet_term, settled_already, settled_after}
-use Rattle.te_terms.proofs.QuietStepsEnd.{some_nodes, finals_are_nodes}
+use Rattle.te_terms.specs.Measures.{node_count}
+use Rattle.te_terms.specs.Settling.{steps_most, settled}
+use Rattle.te_terms.proofs.Settles.{settled_already, settled_after}
+use Rattle.te_terms.proofs.Measured.{some_nodes}
+use Rattle.te_terms.proofs.StepsLower.{quiet_lowers, choice_lowers}
 use Rattle.te_cert.specs.Play.{Player, choice_of, own_turn, takes_turn, advance_within, advanced, Advance, PlayFault, with_label}
 use Rattle.te_cert.specs.Advances.{by_letters, with_letter, without_letter}
-use Rattle.te_cert.proofs.TurnsEnd.{quiet_drops, choice_drops}
 
 -- so many turns are enough for a member
 abbrev IsEnough : ℕ → Member → Type 0
-IsEnough turns m = node_count m.term + node_count m.term ≤ turns + final_count m.term
+IsEnough turns m = steps_most m.term ≤ turns
 
 abbrev seat : Member → List Bool → Player
 seat m letters = record { member = m; letters = letters }
@@ -27,8 +28,8 @@ by_settled i m [] e f = without_letter i m (choice_of m e f)
 by_settled i m (left ∷ letters) e f = with_letter (λ n. by_letters i n letters) left letters m (choice_of m e f)
 
 at_choice : (turns i : ℕ) (m : Member) (letters : List Bool) (e f : Option Term) →
-    ((u : Term) (more : List Bool) → e ≡ Some u → Within turns i (record m { term = u }) more) →
-    ((u : Term) (more : List Bool) → f ≡ Some u → Within turns i (record m { term = u }) more) →
+    ((u : Term) (more : List Bool) → e ≡ Some u → Within turns i (at_term m u) more) →
+    ((u : Term) (more : List Bool) → f ≡ Some u → Within turns i (at_term m u) more) →
     takes_turn (advance_within turns i) i (seat m letters) (choice_of m e f) letters ≡ by_settled i m letters e f
 at_choice turns i m [] (Some e) (Some f) on_left on_right = refl
 at_choice turns i m (true ∷ letters) (Some e) (Some f) on_left on_right = ap (with_label (choice m.thread true)) (on_left e letters refl)
@@ -45,17 +46,17 @@ at_turn : (turns i : ℕ) (m : Member) (letters : List Bool) (o : Option Member)
     ((n : Member) (more : List Bool) → IsEnough turns n → Within turns i n more) →
     takes_turn (advance_within turns i) i (seat m letters) (own_turn m o) letters ≡ by_letters i m letters
 at_turn turns i m letters (Some n) enough step ih =
-    ih n letters (omega (arith, quiet_drops m.thread m.term n.term (quiet_term m n step)))
+    ih n letters (omega (arith, quiet_lowers m n step))
     ∙ by_letters_at i n (settled m) letters (settled_after m n step)
     ∙ sym (by_letters_at i m (settled m) letters refl)
 at_turn turns i m letters None enough rests ih =
     at_choice turns i m letters (after_choice true m.term) (after_choice false m.term)
-    (λ u more e. ih (record m { term = u }) more (omega (arith, choice_drops true m.term u e)))
-    (λ u more e. ih (record m { term = u }) more (omega (arith, choice_drops false m.term u e)))
+    (λ u more e. ih (at_term m u) more (omega (arith, choice_lowers true m.term u e)))
+    (λ u more e. ih (at_term m u) more (omega (arith, choice_lowers false m.term u e)))
     ∙ sym (by_letters_at i m m letters (settled_already m rests))
 
 within : (turns i : ℕ) (m : Member) (letters : List Bool) → IsEnough turns m → Within turns i m letters
-within zero i m letters enough = absurd (omega (arith, some_nodes m.term, finals_are_nodes m.term))
+within zero i m letters enough = absurd (omega (arith, some_nodes m.term))
 within (suc turns) i m letters enough = at_turn turns i m letters (quiet_step m) enough refl (within turns i)
 
 pub advanced_is : (i : ℕ) (p : Player) → advanced i p ≡ by_letters i p.member p.letters

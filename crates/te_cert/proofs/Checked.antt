@@ -1,5 +1,5 @@
 -- What the stages of a check say of the play, and of the answer.
-use Rattle.std.proofs.Common.{◌≡◌, inl, inr, ℕ, List, [], ◌∷◌, ◌++◌, length, take, drop, map, Result, Ok, Err, refl, sym, ap, ◌∙◌, subst}
+use Rattle.std.proofs.Common.{◌≡◌, inl, inr, ℕ, List, [], ◌∷◌, map, Result, Ok, Err, refl, sym, ap, ◌∙◌, subst}
 use Rattle.std.specs.Prelude.{IfOk, IfErr}
 use Rattle.te_terms.specs.declared.event.Outcome.{Outcome}
 use Rattle.te_terms.specs.Terms.{Term}
@@ -7,22 +7,13 @@ use Rattle.te_terms.specs.Joint.{Label, IsGroup, RiseFrom}
 use Rattle.te_cert.specs.declared.cert.Member.{Member}
 use Rattle.te_cert.specs.declared.cert.Meeting.{Meeting}
 use Rattle.te_cert.specs.declared.cert.CertFault.{CertFault}
-use Rattle.te_cert.specs.declared.player.Player.{Player as Kept}
+use Rattle.te_cert.specs.declared.lent.Lent.{Lent}
 use Rattle.te_cert.specs.Certificates.{Certificate}
-use Rattle.te_cert.specs.Play.{PlayFault, no_letter, no_meeting, unfinished, letters_left, Table, Played, ◌>>=◌, all_advanced, all_meet, endings}
+use Rattle.te_cert.specs.Play.{PlayFault, no_letter, no_meeting, unfinished, letters_left, Player, Table, Played, ◌>>=◌, all_advanced, all_meet, endings, seated}
 use Rattle.te_cert.specs.Checks.{IsChecked, group_of, played, IsFormed, Gives, Reduced, ThreadsRise, RiseAfter}
-use Rattle.te_cert.specs.Players.{AreSeated, starts_of, seats_of, table_of, TellsFault, BecomesTable, told}
-use Rattle.std.proofs.Math.Seq.{take-append_seam}
-use Rattle.te_cert.proofs.SoFar.{starts_are}
-use Rattle.te_cert.proofs.SeatsSet.{as_many}
+use Rattle.te_cert.specs.Lending.{lent_terms}
+use Rattle.te_cert.specs.Players.{Entering, entering, start_of, all_entering, starts_of, played_by, TellsFault, told, PlaysTo}
 use Rattle.te_cert.proofs.PlaysReduce.{plays_reduce}
-
--- the play from its second and its third stage on
-abbrev ended : Table → Result Played PlayFault
-ended last = endings 0 last.players >>= λ os. Ok (record { outcomes = os; word = last.word })
-
-abbrev met : List Meeting → Table → Result Played PlayFault
-met meetings start = all_meet 0 meetings (record { players = start.players; word = start.word }) >>= ended
 
 -- a fault of the play is the answer of a check
 checked_so : (cert : Certificate) (es : List Term) (e : CertFault) → IsFormed cert → TellsFault (played cert es) e → IsChecked cert es (Err e)
@@ -54,59 +45,55 @@ reduces_so cert es os rise gives = record {
   reduces = plays_reduce (group_of cert.members es) (map (λ m. m.choices) cert.members) cert.meets (record { outcomes = os; word = gives.word }) (is_group cert.members es rise) gives.plays;
 }
 
-module _ (ms : List Member) (mts : List Meeting) (es : List Term) where
-  abbrev cert : Certificate
-  cert = record { members = ms; meets = mts }
-
-  in_stages : played cert es ≡ (all_advanced 0 (starts_of ms es) >>= met mts)
-  in_stages = ap (λ ps. all_advanced 0 ps >>= met mts) (starts_are ms es)
-
-  seating_fails : (e : CertFault) → TellsFault (all_advanced 0 (starts_of ms es)) e → TellsFault (played cert es) e
-  seating_fails e (inl memory) = inl memory
-  seating_fails e (inr failed) = inr (failed.0, in_stages ∙ rw failed.1 refl, failed.2)
-
-  pub checked_seats : IsFormed cert → (e : CertFault) → TellsFault (all_advanced 0 (starts_of ms es)) e → IsChecked cert es (Err e)
-  checked_seats formed e fails = checked_so cert es e formed (seating_fails e fails)
-
-  module _ (ks : List Kept) (seats : BecomesTable (all_advanced 0 (starts_of ms es)) ms ks) where
-    after_seats : played cert es ≡ met mts (table_of ms ks seats.0)
-    after_seats = in_stages ∙ rw seats.1 refl
-
-    meeting_fails : (e : CertFault) → ((word : List Label) → TellsFault (all_meet 0 mts (table_of ms ks word)) e) → TellsFault (played cert es) e
-    meeting_fails e fails = by_fault (fails seats.0)
-      where
-        by_fault : TellsFault (all_meet 0 mts (table_of ms ks seats.0)) e → TellsFault (played cert es) e
-        by_fault (inl memory) = inl memory
-        by_fault (inr failed) = inr (failed.0, after_seats ∙ rw failed.1 refl, failed.2)
-
-    pub checked_meets : IsFormed cert → (e : CertFault) → ((word : List Label) → TellsFault (all_meet 0 mts (table_of ms ks word)) e) → IsChecked cert es (Err e)
-    checked_meets formed e fails = checked_so cert es e formed (meeting_fails e fails)
-
-    module _ (ls : List Kept) (meets_so : (word : List Label) → BecomesTable (all_meet 0 mts (table_of ms ks word)) ms ls) where
-      after_meetings : played cert es ≡ ended (table_of ms ls (meets_so seats.0).0)
-      after_meetings = after_seats ∙ rw (meets_so seats.0).1 refl
-
-      ending_fails : (e : CertFault) → TellsFault (endings 0 (seats_of ms ls)) e → TellsFault (played cert es) e
-      ending_fails e (inl memory) = inl memory
-      ending_fails e (inr failed) = inr (failed.0, after_meetings ∙ rw failed.1 refl, failed.2)
-
-      gives_so : (os : List Outcome) → endings 0 (seats_of ms ls) ≡ Ok os → Gives cert es os
-      gives_so os ends = record { word = (meets_so seats.0).0; plays = after_meetings ∙ rw ends refl }
-
-      -- the answer of the last stage is that of a check
-      pub checked_end : IsFormed cert → (r : Result (List Outcome) CertFault) → IfOk r (λ os. endings 0 (seats_of ms ls) ≡ Ok os) → IfErr r (λ e. TellsFault (endings 0 (seats_of ms ls)) e) → IsChecked cert es r
-      checked_end formed (Ok os) ok err = (formed, gives_so os ok)
-      checked_end formed (Err e) ok err = checked_so cert es e formed (ending_fails e err)
-
-      pub reduces_end : ThreadsRise ms → (r : Result (List Outcome) CertFault) → IfOk r (λ os. endings 0 (seats_of ms ls) ≡ Ok os) → IfOk r (λ os. Reduced cert es os)
-      reduces_end rise (Ok os) ok = reduces_so cert es os rise (gives_so os ok)
-      reduces_end rise (Err e) ok = tt
+-- who enters starts as the group does
+starts_are : (ms : List Member) (ls : List Lent) → seated (group_of ms (lent_terms ls)) (map (λ m. m.choices) ms) ≡ starts_of (all_entering ms ls)
+starts_are [] ls = refl
+starts_are (m ∷ ms) [] = refl
+starts_are (m ∷ ms) (l ∷ ls) = ap (λ ps. start_of (entering m l) ∷ ps) (starts_are ms ls)
 
 -- parts that are the same make the same certificate
 pub same_certificate : (ms ns : List Member) (mts nts : List Meeting) (cert : Certificate) → ms ≡ ns → mts ≡ nts → record { members = ns; meets = nts } ≡ cert → record { members = ms; meets = mts } ≡ cert
 same_certificate ms ns mts nts cert members meets is = rw (members, meets) is
 
--- what was written through a slice of all players is what is then read of them
-pub read_again : (ms : List Member) (old new read : List Kept) (len : ℕ) → AreSeated ms old → AreSeated ms new → length old ≡ len → read ≡ take len (new ++ drop (length new) old) → read ≡ new
-read_again ms old new read len before after many is =
-    is ∙ ap (λ n. take n (new ++ drop (length new) old)) (sym many ∙ sym (as_many ms old before) ∙ as_many ms new after) ∙ take-append_seam new (drop (length new) old)
+module _ (ms : List Member) (mts : List Meeting) (ls : List Lent) where
+  abbrev cert : Certificate
+  cert = record { members = ms; meets = mts }
+
+  played_so : played cert (lent_terms ls) ≡ played_by (all_entering ms ls) mts
+  played_so = ap (λ ps. all_advanced 0 ps >>= λ start. all_meet 0 mts (record { players = start.players; word = start.word }) >>= λ last. endings 0 last.players >>= λ os. Ok (record { outcomes = os; word = last.word })) (starts_are ms ls)
+
+  pub checked_play : IsFormed cert → (r : Result (List Outcome) CertFault) → PlaysTo (played_by (all_entering ms ls) mts) r → IsChecked cert (lent_terms ls) r
+  checked_play formed (Ok os) plays = (formed, record { word = plays.0; plays = played_so ∙ plays.1 })
+  checked_play formed (Err e) plays = checked_so cert (lent_terms ls) e formed (subst (λ (p : Result Played PlayFault). TellsFault p e) (sym played_so) plays)
+
+  pub reduced_play : ThreadsRise ms → (r : Result (List Outcome) CertFault) → PlaysTo (played_by (all_entering ms ls) mts) r → IfOk r (λ os. Reduced cert (lent_terms ls) os)
+  reduced_play rise (Ok os) plays = reduces_so cert (lent_terms ls) os rise (record { word = plays.0; plays = played_so ∙ plays.1 })
+  reduced_play rise (Err e) plays = tt
+
+-- ---- the stages of a play
+
+module _ (es : List Entering) (mts : List Meeting) where
+  abbrev ended : Table → Result Played PlayFault
+  ended last = endings 0 last.players >>= λ os. Ok (record { outcomes = os; word = last.word })
+
+  abbrev met : Table → Result Played PlayFault
+  met start = all_meet 0 mts (record { players = start.players; word = start.word }) >>= ended
+
+  failed : {A : Type 0} (r : Result A PlayFault) (go : A → Result Played PlayFault) (e : CertFault) → TellsFault r e → TellsFault (r >>= go) e
+  failed r go e (inl memory) = inl memory
+  failed r go e (inr fails) = inr (fails.0, rw fails.1 refl, fails.2)
+
+  pub seats_fail : (e : CertFault) → TellsFault (all_advanced 0 (starts_of es)) e → TellsFault (played_by es mts) e
+  seats_fail e fails = failed (all_advanced 0 (starts_of es)) met e fails
+
+  module _ (ps : List Player) (word : List Label) (advance : all_advanced 0 (starts_of es) ≡ Ok (record { players = ps; word = word })) where
+    abbrev start : Table
+    start = record { players = ps; word = word }
+
+    pub meets_fail : (e : CertFault) → TellsFault (all_meet 0 mts start) e → TellsFault (played_by es mts) e
+    meets_fail e fails = rw advance (failed (all_meet 0 mts start) ended e fails)
+
+    module _ (qs : List Player) (more : List Label) (meet : all_meet 0 mts start ≡ Ok (record { players = qs; word = more })) where
+      pub ends_so : (r : Result (List Outcome) CertFault) → IfOk r (λ os. endings 0 qs ≡ Ok os) → IfErr r (λ e. TellsFault (endings 0 qs) e) → PlaysTo (played_by es mts) r
+      ends_so (Ok os) ok err = (more, rw (advance, meet, ok) refl)
+      ends_so (Err e) ok err = rw (advance, meet) (failed (endings 0 qs) (λ os. Ok (record { outcomes = os; word = more })) e err)

@@ -2,11 +2,12 @@
 use Rattle.std.proofs.Common.{◌≡◌, ℕ, Bool, true, false, cond, List, [], ◌∷◌, Some, Ok, refl, sym, ap, subst, ◌∙◌, ne_eqb, eq-eqb}
 use Rattle.std.specs.Option.{option_map}
 use Rattle.te_terms.specs.Terms.{Term, choose}
-use Rattle.te_terms.specs.Steps.{Member, IsSettled, quiet_step, with_head}
+use Rattle.te_terms.specs.Steps.{Member, IsSettled, quiet_step, with_head, at_term}
 use Rattle.te_terms.specs.Joint.{Label, choice, after_choice, chosen_from}
 use Rattle.te_terms.specs.Settling.{settled, CannotChoose}
-use Rattle.te_terms.proofs.Settles.{settled_already, settled_after, quiet_thread}
-use Rattle.te_terms.proofs.OneThing.{choice_is, choice_rests, settled_from}
+use Rattle.te_terms.proofs.QuietStepsEnd.{step_stays}
+use Rattle.te_terms.proofs.Settles.{settled_already, settled_after}
+use Rattle.te_terms.proofs.OneThing.{choice_is, choice_rests}
 use Rattle.te_cert.specs.Play.{Player, choice_of, with_label}
 use Rattle.te_cert.specs.Certs.{letters_of}
 use Rattle.te_cert.specs.Advances.{by_letters, without_letter, with_letter}
@@ -46,7 +47,7 @@ ahead_before_quiet word m n p step ahead = record {
   word = ahead.word;
   goes = λ i.
       as_settled i m n (letters_of m.thread word) (sym (settled_after m n step))
-      ∙ ap (λ t. by_letters i n (letters_of t word)) (sym (quiet_thread m n step)) ∙ ahead.goes i;
+      ∙ ap (λ t. by_letters i n (letters_of t word)) (sym (step_stays m n step).0) ∙ ahead.goes i;
 }
 
 -- ---- before a choice
@@ -67,16 +68,16 @@ chosen_both left t u p =
 -- at a choice the first letter is taken
 by_first_letter : (i : ℕ) (m : Member) (left : Bool) (letters : List Bool) (a b u : Term) → settled m ≡ m → after_choice true m.term ≡ Some a →
     after_choice false m.term ≡ Some b → cond left a b ≡ u →
-    by_letters i m (left ∷ letters) ≡ with_label (choice m.thread left) (by_letters i (record m { term = u }) letters)
+    by_letters i m (left ∷ letters) ≡ with_label (choice m.thread left) (by_letters i (at_term m u) letters)
 by_first_letter i m true letters a b u at p q is = rw (at, p, q, is) refl
 by_first_letter i m false letters a b u at p q is = rw (at, p, q, is) refl
 
 pub ahead_before_choice : (word : List Label) (m : Member) (left : Bool) (u : Term) (p : Player) → after_choice left m.term ≡ Some u →
-    IsAhead word (record m { term = u }) p → IsAhead (choice m.thread left ∷ word) m p
+    IsAhead word (at_term m u) p → IsAhead (choice m.thread left ∷ word) m p
 ahead_before_choice word m left u p chosen ahead =
     let letters = letters_of m.thread word in
     let both = chosen_both left m.term u chosen in
-    let at = settled_already m (settled_from m (choice_rests m.thread left m.term u chosen).0.0) in
+    let at = settled_already m ((choice_rests m left m.term u chosen).0.0) in
     let goes_on : Becomes m (left ∷ letters) p = record {
       word = choice m.thread left ∷ ahead.word;
       goes = λ i. by_first_letter i m left letters both.0 both.1 u at both.2 both.3 both.4 ∙ ap (with_label (choice m.thread left)) (ahead.goes i);

@@ -30,7 +30,7 @@ many_players start t come =
 two_places : (ps : List Player) (m : Meeting) (e : Ends) → Met (slice_get ps m.sender) (slice_get ps m.receiver) e → ¬ (m.sender ≡ m.receiver)
 two_places ps m e who same =
     let one : Some who.sender ≡ Some who.receiver = sym who.sender_is ∙ ap (slice_get ps) same ∙ who.receiver_is in
-    let alone = send_is_alone who.sender.member.thread who.sender.member.term who.fit.sent who.fit.sends in
+    let alone = send_is_alone who.sender.member who.sender.member.term who.fit.sent who.fit.sends in
     let itself : who.sender ≡ who.receiver = cc in
     let receives : receiving who.sender.member.term ≡ Some who.fit.channel = ap (λ p. receiving p.member.term) itself ∙ who.fit.receives in
     let none = alone.1 in

@@ -1,7 +1,7 @@
 -- Where a meeting leads a group, with the advances of its two ends.
 use Rattle.std.proofs.Common.{◌≡◌, ℕ, true, List, [], ◌∷◌, ◌++◌, Some, None, refl, sym, ap, subst, ◌∙◌}
 use Rattle.std.specs.Prelude.{◌==◌}
-use Rattle.te_terms.specs.Steps.{Member, giving, with_head}
+use Rattle.te_terms.specs.Steps.{Member, giving, with_head, at_term}
 use Rattle.te_terms.specs.Joint.{Label, meeting, Message, member_of, with_member, meeting_joint, sending, receiving}
 use Rattle.te_terms.proofs.OneThing.{receive_is_alone}
 use Rattle.te_cert.proofs.MembersReplaced.{other_test, found_new, found_other, replaced_again, replaced_apart}
@@ -11,10 +11,10 @@ use Rattle.te_cert.proofs.MembersMove.{Moves}
 -- ---- two ends that fit
 
 abbrev pub after_sending : Member → Member
-after_sending m = record m { term = with_head (giving []) m.term }
+after_sending m = at_term m (with_head (giving []) m.term)
 
 abbrev pub after_receiving : Message → Member → Member
-after_receiving sent m = record m { term = with_head (giving sent.value) m.term }
+after_receiving sent m = at_term m (with_head (giving sent.value) m.term)
 
 -- the sender has something to send, on a channel on which the receiver waits
 pub record Fit (s r : Member) : Type 0 where
@@ -28,7 +28,7 @@ pub record Fit (s r : Member) : Type 0 where
 two_threads : (g : List Member) (s r : Member) → member_of s.thread g ≡ Some s → member_of r.thread g ≡ Some r → Fit s r → ¬ (s.thread ≡ r.thread)
 two_threads g s r s_found r_found fit same =
     let one : s ≡ r = let both : Some s ≡ Some r = sym s_found ∙ ap (λ t. member_of t g) same ∙ r_found in cc in
-    let none : sending r.term ≡ None = (receive_is_alone r.thread r.term fit.channel fit.receives).2 in
+    let none : sending r.term ≡ None = (receive_is_alone r r.term fit.channel fit.receives).2 in
     let some : sending r.term ≡ Some fit.sent = ap (λ m. sending m.term) (sym one) ∙ fit.sends in
     let both : None ≡ Some fit.sent = sym none ∙ some in
     absurd cc

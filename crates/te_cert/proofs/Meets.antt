@@ -1,114 +1,148 @@
--- A meeting of two players by their places: that its ends don't fit, that one lacks a letter then, and what both come to.
-use Rattle.std.proofs.Common.{◌≡◌, inr, ℕ, zero, suc, ◌<◌, ◌≤◌, true, false, List, [], ◌∷◌, ◌++◌, length, get_or, drop, length-set, Option, Some, Ok, Err, refl, sym, ap, ◌∙◌, subst, eq-eqb, arith}
-use Rattle.std.specs.Prelude.{slice_get, slice_set, IsSome}
-use Rattle.std.proofs.lemmas.Option.{slice_get-get_or}
+-- A meeting of two players: that its ends don't fit, that one lacks a letter then, and what both come to.
+use Rattle.std.proofs.Common.{◌≡◌, ◌≢◌, ◌⊎◌, inl, inr, subst, ℕ, Bool, true, false, cond, ◌==◌, List, [], ◌∷◌, ◌++◌, Option, Some, None, Result, Ok, Err, refl, sym, ap, ◌∙◌}
+use Rattle.std.specs.Prelude.{slice_get, slice_set, IsSome, OnOk, IfErr}
+use Rattle.std.specs.Option.{option_map}
 use Rattle.te_terms.specs.declared.value.Atom.{Atom}
-use Rattle.te_terms.specs.Steps.{giving, with_head}
-use Rattle.te_terms.specs.Joint.{Label, meeting, sending, receiving}
-use Rattle.te_cert.specs.declared.cert.Member.{Member}
+use Rattle.te_terms.specs.Steps.{Member}
+use Rattle.te_terms.specs.Joint.{Label, meeting, Message, sent_from, received_on, sending, receiving}
+use Rattle.te_terms.proofs.OneThing.{end_is_alone, send_is_alone, receive_is_alone, never_is_alone}
+use Rattle.te_path.specs.declared.spot.Stop.{Stop}
+use Rattle.te_path.specs.declared.spot.Stop.TheVariants as stops
+use Rattle.te_path.specs.Paths.{IsChoice, StandsAt}
 use Rattle.te_cert.specs.declared.cert.Meeting.{Meeting}
+use Rattle.te_cert.specs.Play.{Player, Table, Ends, met, met_by, meets, ends_advance, advanced, no_letter, no_meeting}
+use Rattle.te_cert.specs.declared.cert.CertFault.{CertFault}
 use Rattle.te_cert.specs.declared.cert.CertFault.TheVariants as faults
-use Rattle.te_cert.specs.declared.player.Player.{Player as Kept}
-use Rattle.te_cert.specs.Play.{met_by, with_term, meets, ends_advance, advanced, no_letter, no_meeting}
-use Rattle.te_cert.specs.Checks.{IsBetween}
-use Rattle.te_cert.specs.Players.{AreSeated, FitBy, DontFit, ComesTo, TellsFault, BecomesTable, table_of, seats_of, seat_of}
-use Rattle.te_cert.proofs.Advancing.{advanced_is}
+use Rattle.te_cert.specs.Players.{handed, passing, GoesOn, Lacks, TellsFault, BecomesTable}
+use Rattle.te_cert.proofs.SeatsByPlace.{Standing}
 use Rattle.te_cert.proofs.Places.{get_set_other}
-use Rattle.te_cert.proofs.SeatsSet.{as_many, seat_there, still_seated, seat_set}
 
--- what is found at a place within a list
-pub found : {A : Type 0} (xs : List A) (i : ℕ) (x : A) → i < length xs → x ≡ get_or xs i x → slice_get xs i ≡ Some x
-found xs i x within is = slice_get-get_or xs i x within ∙ ap Some (sym is)
+-- ---- what a stop tells of the term
 
--- something is there
-pub some_there : {A : Type 0} (xs : List A) (i : ℕ) → i < length xs → (x : A) × (slice_get xs i ≡ Some x)
-some_there [] i within = absurd (omega arith)
-some_there (x ∷ xs) zero within = (x, refl)
-some_there (x ∷ xs) (suc i) within = some_there xs i (omega arith)
+abbrev sent_at : Stop → Option Message
+sent_at (stops.Send c v) = Some (record { channel = c; value = v })
+sent_at _ = None
 
-pub is_some : {A : Type 0} (o : Option A) (x : A) → o ≡ Some x → IsSome o
-is_some o x e = rw e refl
+abbrev received_at : Stop → Option ℕ
+received_at (stops.Recv c) = Some c
+received_at _ = None
 
-pub one_item : {A : Type 0} (xs : List A) (i : ℕ) (x y : A) → i < length xs → x ≡ get_or xs i x → y ≡ get_or xs i y → x ≡ y
-one_item xs i x y within p q = let both : Some x ≡ Some y = sym (found xs i x within p) ∙ found xs i y within q in cc
+at_choice : (m : Member) → IsChoice m.term → (sending m.term ≡ None) × (receiving m.term ≡ None)
+at_choice m at = (ap sent_from at.1.1, ap received_on at.1.1)
 
-module _ (ms : List Member) (ks : List Kept) (seated : AreSeated ms ks) (j : ℕ) (mt : Meeting) (between : IsBetween (length ms) mt) where
-  pub sender_there : mt.sender < length ks
-  sender_there = omega (arith, between.0, as_many ms ks seated)
+sends_so : (m : Member) (stop : Stop) → StandsAt m.term stop → sending m.term ≡ sent_at stop
+sends_so m (stops.Done v) at = (end_is_alone m m.term _ at).2
+sends_so m (stops.Raised v) at = (end_is_alone m m.term _ at).2
+sends_so m (stops.Send c v) at = at
+sends_so m (stops.Recv c) at = (receive_is_alone m m.term c at).2
+sends_so m stops.Choice at = (at_choice m at).0
+sends_so m stops.Dead at = (never_is_alone m m.term at).2
 
-  pub receiver_there : mt.receiver < length ks
-  receiver_there = omega (arith, between.1, as_many ms ks seated)
+receives_so : (m : Member) (stop : Stop) → StandsAt m.term stop → receiving m.term ≡ received_at stop
+receives_so m (stops.Done v) at = (end_is_alone m m.term _ at).3
+receives_so m (stops.Raised v) at = (end_is_alone m m.term _ at).3
+receives_so m (stops.Send c v) at = (send_is_alone m m.term _ at).2
+receives_so m (stops.Recv c) at = at
+receives_so m stops.Choice at = (at_choice m at).1
+receives_so m stops.Dead at = (never_is_alone m m.term at).3
 
-  -- who stands at the places
-  pub member_sends : (d : Member) → slice_get ms mt.sender ≡ Some (get_or ms mt.sender d)
-  member_sends d = slice_get-get_or ms mt.sender d between.0
+-- what passes is sent, and received
+passing_sends : (a b : Stop) (v : List Atom) → passing a b ≡ Some v → IsSome (sent_at a)
+passing_sends (stops.Send c w) b v p = refl
+passing_sends _ b v p = absurd cc
 
-  pub member_receives : (d : Member) → slice_get ms mt.receiver ≡ Some (get_or ms mt.receiver d)
-  member_receives d = slice_get-get_or ms mt.receiver d between.1
+passing_receives : (a b : Stop) (v : List Atom) → passing a b ≡ Some v → IsSome (received_at b)
+passing_receives (stops.Send c w) (stops.Recv d) v p = refl
+passing_receives _ _ v p = absurd cc
 
-  pub player_sends : (d : Kept) → slice_get ks mt.sender ≡ Some (get_or ks mt.sender d)
-  player_sends d = slice_get-get_or ks mt.sender d sender_there
+-- ---- both ends move by what passes
 
-  -- the receiver's player is there still when the sender's has gone on
-  pub player_receives : (sent d : Kept) → slice_get ks mt.receiver ≡ Some (get_or (slice_set ks mt.sender sent) mt.receiver d)
-  player_receives sent d =
-      sym (get_set_other ks mt.sender mt.receiver sent between.2)
-      ∙ slice_get-get_or (slice_set ks mt.sender sent) mt.receiver d (omega (arith, receiver_there, length-set ks mt.sender sent))
+abbrev both : Player → Player → List Atom → Ends
+both p q v = record { sender = handed [] p; receiver = handed v q }
 
-  -- the ends that were looked at are those that go on
-  pub same_fit : (v : List Atom) (k k' l l' : Kept) → k ≡ get_or ks mt.sender k → slice_get ks mt.sender ≡ Some k' → l ≡ get_or ks mt.receiver l → slice_get ks mt.receiver ≡ Some l' → FitBy v k.path l.path → FitBy v k'.path l'.path
-  same_fit v k k' l l' p p' q q' fit =
-      let a : k ≡ k' = let both : Some k ≡ Some k' = sym (found ks mt.sender k sender_there p) ∙ p' in cc in
-      let b : l ≡ l' = let both : Some l ≡ Some l' = sym (found ks mt.receiver l receiver_there q) ∙ q' in cc in
-      subst (λ (x : Kept). FitBy v k'.path x.path) b (subst (λ (x : Kept). FitBy v x.path l.path) a fit)
+on_channels : (p q : Player) (v : List Atom) (same : Bool) → cond {A = Option Ends} same (Some (both p q v)) None ≡ option_map (both p q) (cond {A = Option (List Atom)} same (Some v) None)
+on_channels p q v true = refl
+on_channels p q v false = refl
 
-  module _ (m n : Member) (k l : Kept) (m_is : slice_get ms mt.sender ≡ Some m) (n_is : slice_get ms mt.receiver ≡ Some n) (k_is : slice_get ks mt.sender ≡ Some k) (l_is : slice_get ks mt.receiver ≡ Some l) where
-    they_meet : (word : List Label) → meets j mt (table_of ms ks word) ≡ ends_advance j mt (table_of ms ks word) (met_by (seat_of m k) (seat_of n l) (sending k.path) (receiving l.path))
-    they_meet word = rw (seat_there ms ks mt.sender m k m_is k_is, seat_there ms ks mt.receiver n l n_is l_is) refl
+meet_by : (p q : Player) (a b : Stop) → met_by p q (sent_at a) (received_at b) ≡ option_map (both p q) (passing a b)
+meet_by p q (stops.Send c v) (stops.Recv d) = on_channels p q v (c == d)
+meet_by p q _ _ = refl
 
-    pub misfit : DontFit k.path l.path → (word : List Label) → TellsFault (meets j mt (table_of ms ks word)) (faults.Meet j)
-    misfit dont word = inr (no_meeting j, they_meet word ∙ ap (ends_advance j mt (table_of ms ks word)) (dont (seat_of m k) (seat_of n l)), refl)
+-- two players at the places of a meeting
+module _ (j : ℕ) (mt : Meeting) (ps : List Player) (a b : Stop) (sender : Standing ps mt.sender a) (receiver : Standing ps mt.receiver b) where
+  abbrev p : Player
+  p = sender.player
 
-    both_fit : (v : List Atom) → FitBy v k.path l.path →
-        met_by (seat_of m k) (seat_of n l) (sending k.path) (receiving l.path) ≡ Some (record { sender = with_term (seat_of m k) (with_head (giving []) k.path); receiver = with_term (seat_of n l) (with_head (giving v) l.path) })
-    both_fit v fit = rw (fit.sends, fit.receives, eq-eqb fit.channel fit.channel refl) refl
+  abbrev q : Player
+  q = receiver.player
 
-    they_go : (v : List Atom) → FitBy v k.path l.path → (word : List Label) → meets j mt (table_of ms ks word) ≡
-        ends_advance j mt (table_of ms ks word) (Some (record { sender = with_term (seat_of m k) (with_head (giving []) k.path); receiver = with_term (seat_of n l) (with_head (giving v) l.path) }))
-    they_go v fit word = they_meet word ∙ ap (ends_advance j mt (table_of ms ks word)) (both_fit v fit)
+  abbrev at : List Label → Table
+  at word = record { players = ps; word = word }
 
-    -- the sender lacks a letter
-    pub sender_lacks : (v : List Atom) (end : Kept) → FitBy v k.path l.path → ComesTo (with_head (giving []) k.path) (drop k.used m.choices) false end.path (drop end.used m.choices) → (word : List Label) →
-        TellsFault (meets j mt (table_of ms ks word)) (faults.Choices mt.sender)
-    sender_lacks v end fit comes word =
-        let lacks : advanced mt.sender (with_term (seat_of m k) (with_head (giving []) k.path)) ≡ Err (no_letter mt.sender) =
-        advanced_is mt.sender (with_term (seat_of m k) (with_head (giving []) k.path)) ∙ comes mt.sender m.thread in
-        inr (no_letter mt.sender, they_go v fit word ∙ rw lacks refl, refl)
+  they_meet : (word : List Label) → meets j mt (at word) ≡ ends_advance j mt (at word) (option_map (both p q) (passing a b))
+  they_meet word =
+      ap (λ o. ends_advance j mt (at word) (met o (slice_get ps mt.receiver))) sender.is_there
+      ∙ ap (λ o. ends_advance j mt (at word) (met (Some p) o)) receiver.is_there
+      ∙ ap (λ o. ends_advance j mt (at word) (met_by p q o (receiving q.member.term))) (sends_so p.member a sender.stands)
+      ∙ ap (λ o. ends_advance j mt (at word) (met_by p q (sent_at a) o)) (receives_so q.member b receiver.stands)
+      ∙ ap (ends_advance j mt (at word)) (meet_by p q a b)
 
-    module _ (v : List Atom) (fit : FitBy v k.path l.path) (sent : Kept) (went : ComesTo (with_head (giving []) k.path) (drop k.used m.choices) true sent.path (drop sent.used m.choices)) where
-      sender_goes : (word : List Label) × (advanced mt.sender (with_term (seat_of m k) (with_head (giving []) k.path)) ≡ Ok (record { player = seat_of m sent; word = word }))
-      sender_goes =
-          let there = went mt.sender m.thread in
-          (there.0, advanced_is mt.sender (with_term (seat_of m k) (with_head (giving []) k.path)) ∙ there.1)
+  pub misfit : passing a b ≡ None → (word : List Label) → TellsFault (meets j mt (at word)) (faults.Meet j)
+  misfit none word = inr (no_meeting j, they_meet word ∙ ap (λ o. ends_advance j mt (at word) (option_map (both p q) o)) none, refl)
 
-      -- the receiver lacks one
-      pub receiver_lacks : (end : Kept) → ComesTo (with_head (giving v) l.path) (drop l.used n.choices) false end.path (drop end.used n.choices) → (word : List Label) →
-          TellsFault (meets j mt (table_of ms ks word)) (faults.Choices mt.receiver)
-      receiver_lacks end comes word =
-          let lacks : advanced mt.receiver (with_term (seat_of n l) (with_head (giving v) l.path)) ≡ Err (no_letter mt.receiver) =
-          advanced_is mt.receiver (with_term (seat_of n l) (with_head (giving v) l.path)) ∙ comes mt.receiver n.thread in
-          inr (no_letter mt.receiver, they_go v fit word ∙ rw (sender_goes.1, lacks) refl, refl)
+  one_sender : (x : Player) → slice_get ps mt.sender ≡ Some x → x ≡ p
+  one_sender x is = let one : Some x ≡ Some p = sym is ∙ sender.is_there in cc
 
-      -- both go on
-      pub both_go : (got : Kept) → ComesTo (with_head (giving v) l.path) (drop l.used n.choices) true got.path (drop got.used n.choices) → (word : List Label) →
-          BecomesTable (meets j mt (table_of ms ks word)) ms (slice_set (slice_set ks mt.sender sent) mt.receiver got)
-      both_go got comes word =
-          let there = comes mt.receiver n.thread in
-          let goes : advanced mt.receiver (with_term (seat_of n l) (with_head (giving v) l.path)) ≡ Ok (record { player = seat_of n got; word = there.0 }) =
-          advanced_is mt.receiver (with_term (seat_of n l) (with_head (giving v) l.path)) ∙ there.1 in
-          let seats : seats_of ms (slice_set (slice_set ks mt.sender sent) mt.receiver got) ≡ slice_set (slice_set (seats_of ms ks) mt.sender (seat_of m sent)) mt.receiver (seat_of n got) =
-          seat_set ms (slice_set ks mt.sender sent) mt.receiver n got n_is ∙ ap (λ xs. slice_set xs mt.receiver (seat_of n got)) (seat_set ms ks mt.sender m sent m_is) in
-          (word ++ (meeting m.thread n.thread ∷ sender_goes.0) ++ there.0, they_go v fit word ∙ rw (sender_goes.1, goes, seats) refl)
+  module _ (v : List Atom) (some : passing a b ≡ Some v) where
+    they_go : (word : List Label) → meets j mt (at word) ≡ ends_advance j mt (at word) (Some (both p q v))
+    they_go word = they_meet word ∙ ap (λ o. ends_advance j mt (at word) (option_map (both p q) o)) some
 
-    pub both_seated : (sent got : Kept) → sent.used ≤ length m.choices → got.used ≤ length n.choices → AreSeated ms (slice_set (slice_set ks mt.sender sent) mt.receiver got)
-    both_seated sent got p q = still_seated ms (slice_set ks mt.sender sent) mt.receiver n got (still_seated ms ks mt.sender m sent seated m_is p) n_is q
+    -- the sender stands at a send
+    pub sends_there : (x : Player) → slice_get ps mt.sender ≡ Some x → IsSome (sending x.member.term)
+    sends_there x is =
+        let same = one_sender x is in
+        subst (λ (o : Option Message). IsSome o) (sym (ap (λ (y : Player). sending y.member.term) same ∙ sends_so p.member a sender.stands)) (passing_sends a b v some)
+
+    pub sender_fails : (e : CertFault) → (e ≡ faults.Memory) ⊎ ((e ≡ faults.Choices mt.sender) × Lacks mt.sender [] ps) → (word : List Label) → TellsFault (meets j mt (at word)) e
+    sender_fails e (inl memory) word = inl memory
+    sender_fails e (inr lacks) word =
+        let so : advanced mt.sender (handed [] p) ≡ Err (no_letter mt.sender) = ap (λ x. advanced mt.sender (handed [] x)) (sym (one_sender lacks.1.player lacks.1.is_there)) ∙ lacks.1.lacks in
+        inr (no_letter mt.sender, they_go word ∙ rw so refl, lacks.0)
+
+    module _ (apart : mt.sender ≢ mt.receiver) (after : List Player) (went : GoesOn mt.sender [] ps after) where
+      sender_goes : advanced mt.sender (handed [] p) ≡ Ok (record { player = went.end; word = went.word })
+      sender_goes = ap (λ x. advanced mt.sender (handed [] x)) (sym (one_sender went.player went.is_there)) ∙ went.advances
+
+      -- the receiver's stays while the sender goes on
+      one_receiver : (x : Player) → slice_get after mt.receiver ≡ Some x → x ≡ q
+      one_receiver x is =
+          let one : Some x ≡ Some q = sym is ∙ ap (λ xs. slice_get xs mt.receiver) went.then_so ∙ get_set_other ps mt.sender mt.receiver went.end apart ∙ receiver.is_there in
+          cc
+
+      -- and stands at a receive
+      pub receives_there : (x : Player) → slice_get after mt.receiver ≡ Some x → IsSome (receiving x.member.term)
+      receives_there x is =
+          let same = one_receiver x is in
+          subst (λ (o : Option ℕ). IsSome o) (sym (ap (λ (y : Player). receiving y.member.term) same ∙ receives_so q.member b receiver.stands)) (passing_receives a b v some)
+
+      receiver_fails : (e : CertFault) → (e ≡ faults.Memory) ⊎ ((e ≡ faults.Choices mt.receiver) × Lacks mt.receiver v after) → (word : List Label) → TellsFault (meets j mt (at word)) e
+      receiver_fails e (inl memory) word = inl memory
+      receiver_fails e (inr lacks) word =
+          let so : advanced mt.receiver (handed v q) ≡ Err (no_letter mt.receiver) = ap (λ x. advanced mt.receiver (handed v x)) (sym (one_receiver lacks.1.player lacks.1.is_there)) ∙ lacks.1.lacks in
+          inr (no_letter mt.receiver, they_go word ∙ rw (sender_goes, so) refl, lacks.0)
+
+      both_go : (last : List Player) → GoesOn mt.receiver v after last → (word : List Label) → BecomesTable (meets j mt (at word)) last
+      both_go last got word =
+          let so : advanced mt.receiver (handed v q) ≡ Ok (record { player = got.end; word = got.word }) = ap (λ x. advanced mt.receiver (handed v x)) (sym (one_receiver got.player got.is_there)) ∙ got.advances in
+          let players : slice_set (slice_set ps mt.sender went.end) mt.receiver got.end ≡ last = sym (got.then_so ∙ ap (λ xs. slice_set xs mt.receiver got.end) went.then_so) in
+          (word ++ (meeting p.member.thread q.member.thread ∷ went.word) ++ got.word, they_go word ∙ rw (sender_goes, so, players) refl)
+
+      -- both by the answer of the receiver's
+      pub both_go_so : (last : List Player) (r : Result (Unit {0}) CertFault) → OnOk r (GoesOn mt.receiver v after last) → OnOk r ((word : List Label) → BecomesTable (meets j mt (at word)) last)
+      both_go_so last (Ok u) got = both_go last got
+      both_go_so last (Err e) got = tt
+
+      pub receiver_fails_so : (r : Result (Unit {0}) CertFault) → IfErr r (λ e. (e ≡ faults.Memory) ⊎ ((e ≡ faults.Choices mt.receiver) × Lacks mt.receiver v after)) →
+          IfErr r (λ e. (word : List Label) → TellsFault (meets j mt (at word)) e)
+      receiver_fails_so (Ok u) fails = tt
+      receiver_fails_so (Err e) fails = receiver_fails e fails

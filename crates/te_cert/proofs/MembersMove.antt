@@ -2,10 +2,11 @@
 use Rattle.std.proofs.Common.{◌≡◌, ℕ, Bool, true, false, List, [], ◌∷◌, ◌++◌, Option, Some, Result, Ok, Err, refl, sym, ap, subst, ◌∙◌}
 use Rattle.std.specs.Option.{option_map, option_and_then}
 use Rattle.te_terms.specs.Terms.{Term}
-use Rattle.te_terms.specs.Steps.{Member, quiet_step}
+use Rattle.te_terms.specs.Steps.{Member, quiet_step, at_term}
 use Rattle.te_terms.specs.Joint.{Label, choice, member_of, with_member, with_term, after_choice}
 use Rattle.te_terms.specs.Settling.{Quietly, here, after_one, settled}
-use Rattle.te_terms.proofs.Settles.{quiet_thread, settled_is_reached}
+use Rattle.te_terms.proofs.QuietStepsEnd.{step_stays}
+use Rattle.te_terms.proofs.Settles.{settled_is_reached}
 use Rattle.te_cert.specs.Play.{Player, advanced, PlayFault, Turn, by_choice, choice_of, Advance, with_label}
 use Rattle.te_cert.specs.Advances.{by_letters, with_letter, without_letter, settled_turn}
 use Rattle.te_cert.proofs.Advancing.{advanced_is}
@@ -36,7 +37,7 @@ moves_on m n k w v first more = record {
 
 moves_quietly : (m n : Member) → quiet_step m ≡ Some n → Moves m [] n
 moves_quietly m n step = record {
-  same_thread = quiet_thread m n step;
+  same_thread = (step_stays m n step).0;
   leads = λ g found. leads_quietly m.thread g (with_member n g)
       (ap (λ o. option_map (λ x. with_member x g) (option_and_then quiet_step o)) found ∙ ap (option_map (λ x. with_member x g)) step);
 }
@@ -45,10 +46,10 @@ moves_along : (m n : Member) → Quietly m n → Moves m [] n
 moves_along m n (here _) = moves_nowhere m
 moves_along m n (after_one _ q _ step more) = moves_on m q n [] [] (moves_quietly m q step) (moves_along q n more)
 
-moves_choosing : (left : Bool) (m : Member) (u : Term) → after_choice left m.term ≡ Some u → Moves m (choice m.thread left ∷ []) (record m { term = u })
+moves_choosing : (left : Bool) (m : Member) (u : Term) → after_choice left m.term ≡ Some u → Moves m (choice m.thread left ∷ []) (at_term m u)
 moves_choosing left m u chosen = record {
   same_thread = refl;
-  leads = λ g found. leads_by (choice m.thread left) g (with_member (record m { term = u }) g)
+  leads = λ g found. leads_by (choice m.thread left) g (with_member (at_term m u) g)
       (ap (option_and_then (λ x. option_map (with_term g x) (after_choice left x.term))) found ∙ ap (option_map (with_term g m)) chosen);
 }
 
@@ -67,20 +68,20 @@ without_moves : (i : ℕ) (s : Member) (turn : Turn) → GoesOn s (without_lette
 without_moves i s (by_choice l r) a e = absurd cc
 without_moves i s _ a e = stands_still s [] a e
 
-labelled_moves : (left : Bool) (s : Member) (u : Term) (r : Result Advance PlayFault) → after_choice left s.term ≡ Some u → GoesOn (record s { term = u }) r →
+labelled_moves : (left : Bool) (s : Member) (u : Term) (r : Result Advance PlayFault) → after_choice left s.term ≡ Some u → GoesOn (at_term s u) r →
     GoesOn s (with_label (choice s.thread left) r)
 labelled_moves left s u (Err f) chosen more a e = absurd cc
 labelled_moves left s u (Ok b) chosen more a e =
     let is : record { player = b.player; word = choice s.thread left ∷ b.word } ≡ a = cc in
     subst (λ x. Moves s x.word x.player.member) is
-    (moves_on s (record s { term = u }) b.player.member (choice s.thread left ∷ []) b.word (moves_choosing left s u chosen) (more b refl))
+    (moves_on s (at_term s u) b.player.member (choice s.thread left ∷ []) b.word (moves_choosing left s u chosen) (more b refl))
 
 with_moves : (go : Member → Result Advance PlayFault) (left : Bool) (letters : List Bool) (s : Member) (e f : Option Term) →
     after_choice true s.term ≡ e → after_choice false s.term ≡ f → ((n : Member) → GoesOn n (go n)) → GoesOn s (with_letter go left letters s (choice_of s e f))
 with_moves go true letters s (Some e) (Some f) on_left on_right more =
-    labelled_moves true s e (go (record s { term = e })) on_left (more (record s { term = e }))
+    labelled_moves true s e (go (at_term s e)) on_left (more (at_term s e))
 with_moves go false letters s (Some e) (Some f) on_left on_right more =
-    labelled_moves false s f (go (record s { term = f })) on_right (more (record s { term = f }))
+    labelled_moves false s f (go (at_term s f)) on_right (more (at_term s f))
 with_moves go left letters s _ _ on_left on_right more = stands_still s (left ∷ letters)
 
 settled_first : (m : Member) (r : Result Advance PlayFault) → GoesOn (settled m) r → GoesOn m r

@@ -4,7 +4,7 @@ use Rattle.std.proofs.lemmas.Option.{option_and_then_some}
 use Rattle.te_terms.specs.declared.event.Outcome.{Outcome}
 use Rattle.te_terms.specs.Steps.{Member, outcome_of}
 use Rattle.te_terms.specs.Joint.{Label, choice, meeting, Action, quiet, labelled, IsGroup, joint_step, after, labels, and_outcome, outcomes_of, Reduces}
-use Rattle.te_terms.proofs.OneThing.{end_is_alone, settled_from}
+use Rattle.te_terms.proofs.OneThing.{end_is_alone}
 use Rattle.te_cert.specs.Play.{Player, all_advanced, endings, seated, play}
 use Rattle.te_cert.specs.Certs.{choices_of, meetings_of}
 use Rattle.te_cert.proofs.Advancing.{advanced_is}
@@ -25,9 +25,9 @@ all_end : (i : ℕ) (g : List Member) (results : List Outcome) → outcomes_of g
 all_end i [] results e = (tt, cc)
 all_end i (m ∷ ms) results e =
     let both = both_outcomes (outcome_of m.term) (outcomes_of ms) results e in
-    let alone = end_is_alone m.thread m.term both.0 both.2 in
+    let alone = end_is_alone m m.term both.0 both.2 in
     let rest = all_end (suc i) ms both.1 both.3 in
-    ((ahead_as_it_stands [] m (settled_from m alone.0) alone.1, rest.0), rw (both.2, rest.1) (ap Ok both.4))
+    ((ahead_as_it_stands [] m alone.0 alone.1, rest.0), rw (both.2, rest.1) (ap Ok both.4))
 
 final_plays : (g : List Member) (results : List Outcome) → outcomes_of g ≡ Some results → Plays [] g results
 final_plays g results e =

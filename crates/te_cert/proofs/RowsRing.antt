@@ -1,6 +1,7 @@
 -- Three threads each send to the next: none of them can commit without the other two.
 use Rattle.std.specs.Prelude.{ℕ, List, [], ◌∷◌}
 use Rattle.te_terms.specs.declared.event.Outcome.{Outcome}
+use Rattle.te_terms.specs.Steps.{come_to}
 use Rattle.te_terms.specs.declared.event.Outcome.TheVariants.{Gives}
 use Rattle.te_terms.specs.Expressions.{chan}
 use Rattle.te_terms.specs.Terms.{Term, always, send, recv, and_then}
@@ -19,7 +20,7 @@ abbrev pub passes : ℕ → ℕ → Term
 passes from to = and_then (recv (chan from)) 0 (and_then (send (chan to) (one_more_than 0)) 1 (always (the_name 0)))
 
 abbrev pub group : List steps.Member
-group = record { thread = 0; term = starts } ∷ record { thread = 1; term = passes 0 1 } ∷ record { thread = 2; term = passes 1 2 } ∷ []
+group = come_to 0 0 0 starts ∷ come_to 1 0 0 (passes 0 1) ∷ come_to 2 0 0 (passes 1 2) ∷ []
 
 abbrev pub meetings : List Meeting
 meetings = record { sender = 0; receiver = 1 } ∷ record { sender = 1; receiver = 2 } ∷ record { sender = 2; receiver = 0 } ∷ []

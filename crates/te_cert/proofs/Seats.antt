@@ -1,53 +1,67 @@
--- Players as the code keeps them: what their advances say of the play.
-use Rattle.std.proofs.Common.{◌≡◌, inr, ℕ, ◌<◌, ◌≤◌, Bool, true, false, List, [], ◌∷◌, length, drop, Option, Some, None, Err, refl, sym, ap, ◌∙◌, subst, arith}
-use Rattle.std.specs.Prelude.{IsSome}
+-- Seats: what an advance to one says of the play.
+use Rattle.std.proofs.Common.{◌≡◌, inr, ℕ, ◌<◌, Bool, true, false, List, [], ◌∷◌, ◌++◌, length, Option, Some, None, Result, Ok, Err, refl, sym, ap, ◌∙◌, arith}
+use Rattle.std.specs.Prelude.{IsSome, IfOk}
 use Rattle.std.specs.Option.{option_map}
+use Rattle.te_terms.specs.declared.value.Atom.{Atom}
 use Rattle.te_terms.specs.declared.event.Outcome.{Outcome}
-use Rattle.te_terms.specs.Terms.{Term}
+use Rattle.te_terms.specs.declared.memory.NoMemory.{NoMemory}
+use Rattle.te_terms.specs.Steps.{at_term, giving, with_head}
 use Rattle.te_terms.specs.Settling.{settled}
-use Rattle.te_path.specs.Paths.{member, StepsTo, SettlesAs}
-use Rattle.te_cert.specs.declared.cert.Member.{Member}
+use Rattle.te_path.specs.declared.cells.Cells.{Cells}
+use Rattle.te_path.specs.Paths.{StepsTo}
 use Rattle.te_cert.specs.declared.cert.CertFault.TheVariants as faults
-use Rattle.te_cert.specs.declared.player.Player.{Player as Kept}
-use Rattle.te_cert.specs.Play.{advanced, ending, no_letter, letters_left}
-use Rattle.te_cert.specs.Players.{ComesTo, IsSeatedAt, start_of, TellsFault, Tells}
+use Rattle.te_cert.specs.declared.seat.Seat.{Seat}
+use Rattle.te_cert.specs.Play.{Player, advanced, ending, no_letter, letters_left}
+use Rattle.te_cert.specs.Players.{Entering, start_of, seat_of, IsSeat, IsSeatedAt, TakesSeat, Comes, handed, PassesOn, TellsFault, Tells}
+use Rattle.te_cert.specs.Advances.{by_letters}
 use Rattle.te_cert.proofs.Advancing.{advanced_is}
-use Rattle.te_cert.proofs.Letters.{by_settled, same_end}
+use Rattle.te_cert.proofs.Letters.{by_settled, settles_twice}
 
--- what settles alike comes to the same
-pub comes_from : (t u : Term) (letters : List Bool) (done : Bool) (end : Term) (rest : List Bool) → ((thread : ℕ) → settled (member thread t) ≡ settled (member thread u)) → ComesTo u letters done end rest → ComesTo t letters done end rest
-comes_from t u letters true end rest same comes =
-    λ i thread. let there = comes i thread in (there.0, by_settled i (member thread t) (member thread u) letters (same thread) ∙ there.1)
-comes_from t u letters false end rest same comes = λ i thread. by_settled i (member thread t) (member thread u) letters (same thread) ∙ comes i thread
+-- what settles alike, with the same letters, comes to the same
+pub comes_from : (p q r : Player) (done : Bool) → settled p.member ≡ settled q.member → p.letters ≡ q.letters → Comes q done r → Comes p done r
+comes_from p q r true same letters comes = λ i.
+    let there = comes i in
+    (there.0, by_settled i p.member q.member p.letters same ∙ ap (λ ls. by_letters i q.member ls) letters ∙ there.1)
+comes_from p q r false same letters comes = λ i.
+    by_settled i p.member q.member p.letters same ∙ ap (λ ls. by_letters i q.member ls) letters ∙ comes i
 
 -- the step of an end of a meeting
-pub step_settles : {A : Type 0} (next u : Term) (o : Option A) → IsSome o → StepsTo (option_map (λ x. next) o) u → SettlesAs next u
-step_settles next u None some to = absurd cc
-step_settles next u (Some x) some to =
-    let same : to.next ≡ next = let both : Some next ≡ Some to.next = to.steps in cc in
-    λ thread. ap (λ y. settled (member thread y)) (sym same) ∙ to.settles thread
+pub passes_on : {A : Type 0} (v : List Atom) (p q : Player) (o : Option A) → IsSome o → StepsTo p.member (option_map (λ x. with_head (giving v) p.member.term) o) q.member → p.letters ≡ q.letters → PassesOn v p q
+passes_on v p q None some to letters = absurd cc
+passes_on v p q (Some x) some to letters =
+    let same : to.next ≡ with_head (giving v) p.member.term = let both : Some (with_head (giving v) p.member.term) ≡ Some to.next = to.steps in cc in
+    record { settles = ap (λ t. settled (at_term p.member t)) (sym same) ∙ to.settles; letters = letters }
 
-pub comes_after : {A : Type 0} (next u : Term) (o : Option A) (letters : List Bool) (done : Bool) (end : Term) (rest : List Bool) → IsSome o → StepsTo (option_map (λ x. next) o) u → ComesTo u letters done end rest →
-    ComesTo next letters done end rest
-comes_after next u o letters done end rest some to comes = comes_from next u letters done end rest (λ thread. same_end thread next u (step_settles next u o some to)) comes
+handed_comes : (v : List Atom) (p q r : Player) (done : Bool) → PassesOn v p q → Comes q done r → Comes (handed v p) done r
+handed_comes v p q r done on comes =
+    comes_from (handed v p) q r done (sym (settles_twice (handed v p).member) ∙ ap settled on.settles) on.letters comes
 
--- a player at its seat
-pub seated_so : (i : ℕ) (m : Member) (event path : Term) (letters : List Bool) (k : Kept) → letters ≡ m.choices → SettlesAs event path → ComesTo path letters true k.path (drop k.used letters) → k.used ≤ length letters →
-    IsSeatedAt i (start_of m event) m k
-seated_so i m event path letters k same to comes within =
-    let there = comes_from event path letters true k.path (drop k.used letters) (λ thread. same_end thread event path to) comes i m.thread in
-    subst (λ (ls : List Bool). IsSeatedAt i (record { member = member m.thread event; letters = ls }) (record m { choices = ls }) k) same
-    (record { word = there.0; advances = advanced_is i (record { member = member m.thread event; letters = letters }) ∙ there.1; within = within })
+pub handed_comes_so : (v : List Atom) (p q r : Player) (done : Result Bool NoMemory) → PassesOn v p q → IfOk done (λ d. Comes q d r) → IfOk done (λ d. Comes (handed v p) d r)
+handed_comes_so v p q r (Ok d) on comes = handed_comes v p q r d on comes
+handed_comes_so v p q r (Err e) on comes = tt
+
+-- ---- from the event on
+
+starts : (e : Entering) (q r : Player) (done : Bool) → q.member ≡ settled (start_of e).member → q.letters ≡ e.letters → Comes q done r → Comes (start_of e) done r
+starts e q r done is letters comes =
+    comes_from (start_of e) q r done (sym (settles_twice (start_of e).member) ∙ ap settled (sym is)) (sym letters) comes
+
+seated_so : (i : ℕ) (e : Entering) (q : Player) (cells : Cells) (k : Seat) → q.member ≡ settled (start_of e).member → q.letters ≡ e.letters → Comes q true (seat_of cells e k) → IsSeat cells e k →
+    IsSeatedAt i e cells k
+seated_so i e q cells k is letters comes seat =
+    let there = starts e q (seat_of cells e k) true is letters comes i in
+    record { word = there.0; advances = advanced_is i (start_of e) ∙ there.1; seat = seat }
+
+pub takes_seat : (i : ℕ) (e : Entering) (q : Player) (cells : Cells) (k : Seat) (before after : List Seat) → q.member ≡ settled (start_of e).member → q.letters ≡ e.letters → Comes q true (seat_of cells e k) → IsSeat cells e k →
+    after ≡ before ++ k ∷ [] → TakesSeat i e cells before after
+takes_seat i e q cells k before after is letters comes seat put = record { seat = k; seated = seated_so i e q cells k is letters comes seat; put = put }
 
 -- one that lacks a letter
-pub lacks_so : (i : ℕ) (m : Member) (event path end : Term) (letters rest : List Bool) → letters ≡ m.choices → SettlesAs event path → ComesTo path letters false end rest →
-    TellsFault (advanced i (start_of m event)) (faults.Choices i)
-lacks_so i m event path end letters rest same to comes =
-    let there = comes_from event path letters false end rest (λ thread. same_end thread event path to) comes i m.thread in
-    let lacks : advanced i (record { member = member m.thread event; letters = letters }) ≡ Err (no_letter i) = advanced_is i (record { member = member m.thread event; letters = letters }) ∙ there in
-    inr (no_letter i, subst (λ (ls : List Bool). advanced i (record { member = member m.thread event; letters = ls }) ≡ Err (no_letter i)) same lacks, refl)
+pub lacks_so : (i : ℕ) (e : Entering) (q r : Player) → q.member ≡ settled (start_of e).member → q.letters ≡ e.letters → Comes q false r → TellsFault (advanced i (start_of e)) (faults.Choices i)
+lacks_so i e q r is letters comes = inr (no_letter i, advanced_is i (start_of e) ∙ starts e q r false is letters comes i, refl)
 
--- letters that are left in the end
+-- ---- letters that are left in the end
+
 over : (i : ℕ) (o : Outcome) (letters : List Bool) → 0 < length letters → ending i (Some o) letters ≡ Err (letters_left i)
 over i o [] some = absurd (omega arith)
 over i o (l ∷ ls) some = refl

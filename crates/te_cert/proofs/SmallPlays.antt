@@ -1,6 +1,7 @@
 -- The plays of one event that has a value, and of a sender and a receiver on one channel.
 use Rattle.std.proofs.Common.{◌≡◌, ℕ, List, [], ◌∷◌, Ok, refl, eq-eqb}
 use Rattle.te_terms.specs.declared.value.Atom.{Atom}
+use Rattle.te_terms.specs.Steps.{come_to}
 use Rattle.te_terms.specs.declared.event.Outcome.TheVariants.{Gives}
 use Rattle.te_terms.specs.Expressions.{Primitive, Expression, value_of, channel_value}
 use Rattle.te_terms.specs.Terms.{always, send, recv}
@@ -8,15 +9,15 @@ use Rattle.te_terms.specs.Joint.{meeting}
 use Rattle.te_cert.specs.Play.{play}
 
 pub play-alone : (t : ℕ) (e : Expression) (v : List Atom) → value_of e ≡ Ok v
-    → play (record { thread = t; term = always e } ∷ []) ([] ∷ []) [] ≡ Ok (record { outcomes = Gives v ∷ []; word = [] })
+    → play (come_to t 0 0 (always e) ∷ []) ([] ∷ []) [] ≡ Ok (record { outcomes = Gives v ∷ []; word = [] })
 play-alone t e v of = simp of
 
 pub play-sender_first : (s r : ℕ) (p q : Primitive) (e : Expression) (c : ℕ) (v : List Atom) → channel_value p ≡ Ok c → value_of e ≡ Ok v → channel_value q ≡ Ok c
-    → play (record { thread = s; term = send p e } ∷ record { thread = r; term = recv q } ∷ []) ([] ∷ [] ∷ []) (record { sender = 0; receiver = 1 } ∷ [])
+    → play (come_to s 0 0 (send p e) ∷ come_to r 0 0 (recv q) ∷ []) ([] ∷ [] ∷ []) (record { sender = 0; receiver = 1 } ∷ [])
     ≡ Ok (record { outcomes = Gives [] ∷ Gives v ∷ []; word = meeting s r ∷ [] })
 play-sender_first s r p q e c v on of same = simp (on, of, same, eq-eqb c c refl)
 
 pub play-receiver_first : (s r : ℕ) (p q : Primitive) (e : Expression) (c : ℕ) (v : List Atom) → channel_value p ≡ Ok c → value_of e ≡ Ok v → channel_value q ≡ Ok c
-    → play (record { thread = r; term = recv q } ∷ record { thread = s; term = send p e } ∷ []) ([] ∷ [] ∷ []) (record { sender = 1; receiver = 0 } ∷ [])
+    → play (come_to r 0 0 (recv q) ∷ come_to s 0 0 (send p e) ∷ []) ([] ∷ [] ∷ []) (record { sender = 1; receiver = 0 } ∷ [])
     ≡ Ok (record { outcomes = Gives v ∷ Gives [] ∷ []; word = meeting s r ∷ [] })
 play-receiver_first s r p q e c v on of same = simp (on, of, same, eq-eqb c c refl)

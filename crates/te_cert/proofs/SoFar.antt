@@ -1,25 +1,31 @@
 -- What the three loops of a play have done so far, and what one more turn of each does.
-use Rattle.std.proofs.Common.{◌≡◌, inl, inr, ℕ, suc, ◌+◌, ◌<◌, ◌≤◌, List, [], ◌∷◌, ◌++◌, length, get_or, take, drop, map, Result, Ok, Err, refl, sym, ap, ◌∙◌, append_assoc, add-one}
-use Rattle.std.proofs.Math.Seq.{drop-cons, take-suc}
+use Rattle.std.proofs.Common.{◌≡◌, inl, inr, ℕ, zero, suc, ◌+◌, ◌<◌, ◌≤◌, List, [], ◌∷◌, ◌++◌, length, get_or, take, drop, Some, Result, Ok, Err, refl, sym, ap, subst, ◌∙◌, append_assoc, append-nil, take_all, add-one}
+use Rattle.std.specs.Prelude.{slice_get}
+use Rattle.std.proofs.Math.Seq.{drop-cons}
+use Rattle.std.proofs.Math.ListN.{drop_of_length-le}
 use Rattle.te_terms.specs.declared.event.Outcome.{Outcome}
-use Rattle.te_terms.specs.Terms.{Term}
 use Rattle.te_terms.specs.Steps.{outcome_of}
 use Rattle.te_terms.specs.Joint.{Label}
-use Rattle.te_cert.specs.declared.cert.Member.{Member}
+use Rattle.te_path.specs.declared.cells.Cells.{Cells}
+use Rattle.te_path.specs.Growth.{Grows}
 use Rattle.te_cert.specs.declared.cert.Meeting.{Meeting}
 use Rattle.te_cert.specs.declared.cert.CertFault.{CertFault}
-use Rattle.te_cert.specs.declared.player.Player.{Player as Kept}
-use Rattle.te_cert.specs.Play.{PlayFault, Player, Table, ◌>>=◌, advanced, all_advanced, meets, all_meet, ending, endings, seated}
-use Rattle.te_cert.specs.Checks.{group_of}
-use Rattle.te_cert.specs.Players.{AreSeated, IsSeatedAt, start_of, starts_of, seat_of, seats_of, players_before, outcomes_before, TellsFault, Tells}
+use Rattle.te_cert.specs.declared.seat.Seat.{Seat}
+use Rattle.te_cert.specs.Play.{PlayFault, Player, Table, ◌>>=◌, advanced, all_advanced, meets, all_meet, ending, endings}
+use Rattle.te_cert.specs.Players.{Entering, IsSeat, AreSeated, IsSeatedAt, start_of, starts_of, seat_of, seats_of, BecomesTable, players_before, outcomes_before, TellsFault, Tells}
+use Rattle.te_cert.proofs.SeatsByPlace.{seated_stay, seats_stay}
 
 -- ---- a list by its place
 
-pub from_place : {A : Type 0} (xs : List A) (i : ℕ) (x : A) → i < length xs → x ≡ get_or xs i x → drop i xs ≡ x ∷ drop (i + 1) xs
-from_place xs i x within is = drop-cons xs i x within ∙ ap (λ y. y ∷ drop (suc i) xs) (sym is) ∙ ap (λ k. x ∷ drop k xs) (sym (add-one i))
+pub from_here : {A : Type 0} (xs : List A) (i : ℕ) (x : A) → slice_get xs i ≡ Some x → drop i xs ≡ x ∷ drop (suc i) xs
+from_here [] i x e = absurd cc
+from_here (y ∷ xs) zero x e = let is : y ≡ x = cc in ap (λ z. z ∷ xs) is
+from_here (y ∷ xs) (suc i) x e = from_here xs i x e
 
-pub up_to_place : {A : Type 0} (xs : List A) (i : ℕ) (x : A) → i < length xs → x ≡ get_or xs i x → take (i + 1) xs ≡ take i xs ++ x ∷ []
-up_to_place xs i x within is = ap (λ k. take k xs) (add-one i) ∙ take-suc xs i x within ∙ ap (λ y. take i xs ++ y ∷ []) (sym is)
+pub up_to_here : {A : Type 0} (xs : List A) (i : ℕ) (x : A) → slice_get xs i ≡ Some x → take (suc i) xs ≡ take i xs ++ x ∷ []
+up_to_here [] i x e = absurd cc
+up_to_here (y ∷ xs) zero x e = let is : y ≡ x = cc in ap (λ z. z ∷ []) is
+up_to_here (y ∷ xs) (suc i) x e = ap (λ zs. y ∷ zs) (up_to_here xs i x e)
 
 -- ---- all advance
 
@@ -27,58 +33,73 @@ pub none_before : (r : Result Table PlayFault) → players_before [] [] r ≡ r
 none_before (Ok t) = refl
 none_before (Err f) = refl
 
-pub starts_are : (ms : List Member) (es : List Term) → seated (group_of ms es) (map (λ m. m.choices) ms) ≡ starts_of ms es
-starts_are [] es = refl
-starts_are (m ∷ ms) [] = refl
-starts_are (m ∷ ms) (e ∷ es) = ap (λ ps. start_of m e ∷ ps) (starts_are ms es)
+none_behind : (ps : List Player) (word : List Label) → players_before ps word (Ok (record { players = []; word = [] })) ≡ Ok (record { players = ps; word = word })
+none_behind ps word = rw (append-nil ps, append-nil word) refl
 
 one_more : (ps : List Player) (word more : List Label) (p : Player) (r : Result Table PlayFault) →
     players_before ps word (r >>= λ t. Ok (record { players = p ∷ t.players; word = more ++ t.word })) ≡ players_before (ps ++ p ∷ []) (word ++ more) r
 one_more ps word more p (Err f) = refl
 one_more ps word more p (Ok t) = rw (append_assoc ps (p ∷ []) t.players, append_assoc word more t.word) refl
 
-pub advance_on : (i : ℕ) (ps : List Player) (word : List Label) (m : Member) (e : Term) (k : Kept) (ms : List Member) (es : List Term) (at : IsSeatedAt i (start_of m e) m k) →
-    players_before ps word (all_advanced i (starts_of (m ∷ ms) (e ∷ es))) ≡ players_before (ps ++ seat_of m k ∷ []) (word ++ at.word) (all_advanced (suc i) (starts_of ms es))
-advance_on i ps word m e k ms es at = rw at.advances (one_more ps word at.word (seat_of m k) (all_advanced (suc i) (starts_of ms es)))
+advance_on : (i : ℕ) (ps : List Player) (word : List Label) (cells : Cells) (e : Entering) (k : Seat) (es : List Entering) (at : IsSeatedAt i e cells k) →
+    players_before ps word (all_advanced i (starts_of (e ∷ es))) ≡ players_before (ps ++ seat_of cells e k ∷ []) (word ++ at.word) (all_advanced (suc i) (starts_of es))
+advance_on i ps word cells e k es at = rw at.advances (one_more ps word at.word (seat_of cells e k) (all_advanced (suc i) (starts_of es)))
 
-pub advance_fails : (i : ℕ) (ps : List Player) (word : List Label) (m : Member) (e : Term) (ms : List Member) (es : List Term) (fault : CertFault) → TellsFault (advanced i (start_of m e)) fault →
-    TellsFault (players_before ps word (all_advanced i (starts_of (m ∷ ms) (e ∷ es)))) fault
-advance_fails i ps word m e ms es fault (inl memory) = inl memory
-advance_fails i ps word m e ms es fault (inr failed) = inr (failed.0, rw failed.1 refl, failed.2)
+advance_fails : (i : ℕ) (ps : List Player) (word : List Label) (e : Entering) (es : List Entering) (fault : CertFault) → TellsFault (advanced i (start_of e)) fault →
+    TellsFault (players_before ps word (all_advanced i (starts_of (e ∷ es)))) fault
+advance_fails i ps word e es fault (inl memory) = inl memory
+advance_fails i ps word e es fault (inr failed) = inr (failed.0, rw failed.1 refl, failed.2)
 
-pub seated_more : (ms : List Member) (ks : List Kept) (m : Member) (k : Kept) → AreSeated ms ks → k.used ≤ length m.choices → AreSeated (ms ++ m ∷ []) (ks ++ k ∷ [])
-seated_more [] [] m k at within = (within, tt)
-seated_more (n ∷ ms) (l ∷ ks) m k at within = (at.0, seated_more ms ks m k at.1 within)
-seated_more [] (l ∷ ks) m k at within = absurd at
-seated_more (n ∷ ms) [] m k at within = absurd at
+seated_more : (cells : Cells) (es : List Entering) (ks : List Seat) (e : Entering) (k : Seat) → AreSeated cells es ks → IsSeat cells e k → AreSeated cells (es ++ e ∷ []) (ks ++ k ∷ [])
+seated_more cells [] [] e k at seat = (seat, tt)
+seated_more cells (d ∷ es) (l ∷ ks) e k at seat = (at.0, seated_more cells es ks e k at.1 seat)
+seated_more cells [] (l ∷ ks) e k at seat = absurd at
+seated_more cells (d ∷ es) [] e k at seat = absurd at
 
-pub seats_more : (ms : List Member) (ks : List Kept) (m : Member) (k : Kept) → AreSeated ms ks → seats_of (ms ++ m ∷ []) (ks ++ k ∷ []) ≡ seats_of ms ks ++ seat_of m k ∷ []
-seats_more [] [] m k at = refl
-seats_more (n ∷ ms) (l ∷ ks) m k at = ap (λ ps. seat_of n l ∷ ps) (seats_more ms ks m k at.1)
-seats_more [] (l ∷ ks) m k at = absurd at
-seats_more (n ∷ ms) [] m k at = absurd at
+seats_more : (cells : Cells) (es : List Entering) (ks : List Seat) (e : Entering) (k : Seat) → AreSeated cells es ks → seats_of cells (es ++ e ∷ []) (ks ++ k ∷ []) ≡ seats_of cells es ks ++ seat_of cells e k ∷ []
+seats_more cells [] [] e k at = refl
+seats_more cells (d ∷ es) (l ∷ ks) e k at = ap (λ ps. seat_of cells d l ∷ ps) (seats_more cells es ks e k at.1)
+seats_more cells [] (l ∷ ks) e k at = absurd at
+seats_more cells (d ∷ es) [] e k at = absurd at
 
--- one more turn of the first loop
-pub seated_on : (ms : List Member) (es : List Term) (ks : List Kept) (i : ℕ) (m : Member) (e : Term) (k : Kept) (r : Result Table PlayFault) → i < length ms → m ≡ get_or ms i m → i < length es → e ≡ get_or es i e →
-    AreSeated (take i ms) ks → (word : List Label) → r ≡ players_before (seats_of (take i ms) ks) word (all_advanced i (starts_of (drop i ms) (drop i es))) →
-    IsSeatedAt i (start_of m e) m k →
-    AreSeated (take (i + 1) ms) (ks ++ k ∷ []) × ((more : List Label) × (r ≡ players_before (seats_of (take (i + 1) ms) (ks ++ k ∷ [])) more (all_advanced (i + 1) (starts_of (drop (i + 1) ms) (drop (i + 1) es)))))
-seated_on ms es ks i m e k r a p b q seated word so_far at = (
-  rw (up_to_place ms i m a p) (seated_more (take i ms) ks m k seated at.within),
-  (
-    word ++ at.word,
-    so_far ∙ ap (λ x. players_before (seats_of (take i ms) ks) word (all_advanced i (starts_of x (drop i es)))) (from_place ms i m a p)
-        ∙ ap (λ x. players_before (seats_of (take i ms) ks) word (all_advanced i (starts_of (m ∷ drop (i + 1) ms) x))) (from_place es i e b q)
-        ∙ advance_on i (seats_of (take i ms) ks) word m e k (drop (i + 1) ms) (drop (i + 1) es) at
-        ∙ rw (up_to_place ms i m a p, seats_more (take i ms) ks m k seated, add-one i) refl,
-  ),
-)
+-- the first loop: who has advanced, and the rest
+pub record HaveAdvanced (cells : Cells) (es : List Entering) (ks : List Seat) (i : ℕ) : Type 0 where
+  pub seated : AreSeated cells (take i es) ks
+  pub word : List Label
+  pub so_far : all_advanced 0 (starts_of es) ≡ players_before (seats_of cells (take i es) ks) word (all_advanced i (starts_of (drop i es)))
 
-pub seated_fails : (ms : List Member) (es : List Term) (ks : List Kept) (i : ℕ) (m : Member) (e : Term) (r : Result Table PlayFault) (fault : CertFault) → i < length ms → m ≡ get_or ms i m → i < length es → e ≡ get_or es i e →
-    (word : List Label) → r ≡ players_before (seats_of (take i ms) ks) word (all_advanced i (starts_of (drop i ms) (drop i es))) →
-    TellsFault (advanced i (start_of m e)) fault → TellsFault r fault
-seated_fails ms es ks i m e r fault a p b q word so_far fails =
-    rw (so_far, from_place ms i m a p, from_place es i e b q) (advance_fails i (seats_of (take i ms) ks) word m e (drop (i + 1) ms) (drop (i + 1) es) fault fails)
+pub advanced_none : (cells : Cells) (es : List Entering) → HaveAdvanced cells es [] 0
+advanced_none cells es = record { seated = tt; word = []; so_far = sym (none_before (all_advanced 0 (starts_of es))) }
+
+pub advanced_more : (old new : Cells) (es : List Entering) (ks : List Seat) (i : ℕ) (e : Entering) (k : Seat) → slice_get es i ≡ Some e → Grows old new → HaveAdvanced old es ks i → IsSeatedAt i e new k →
+    HaveAdvanced new es (ks ++ k ∷ []) (i + 1)
+advanced_more old new es ks i e k e_is grows have at =
+    let old_seated : AreSeated new (take i es) ks = seated_stay old new (take i es) ks grows have.seated in
+    let longer : take (suc i) es ≡ take i es ++ e ∷ [] = up_to_here es i e e_is in
+    let seats : seats_of new (take i es) ks ++ seat_of new e k ∷ [] ≡ seats_of new (take (suc i) es) (ks ++ k ∷ []) =
+    sym (seats_more new (take i es) ks e k old_seated) ∙ ap (λ x. seats_of new x (ks ++ k ∷ [])) (sym longer) in
+    subst (HaveAdvanced new es (ks ++ k ∷ [])) (sym (add-one i)) (record {
+      seated = subst (λ x. AreSeated new x (ks ++ k ∷ [])) (sym longer) (seated_more new (take i es) ks e k old_seated at.seat);
+      word = have.word ++ at.word;
+      so_far = have.so_far
+          ∙ ap (λ ps. players_before ps have.word (all_advanced i (starts_of (drop i es)))) (sym (seats_stay old new (take i es) ks grows have.seated))
+          ∙ ap (λ x. players_before (seats_of new (take i es) ks) have.word (all_advanced i (starts_of x))) (from_here es i e e_is)
+          ∙ advance_on i (seats_of new (take i es) ks) have.word new e k (drop (suc i) es) at
+          ∙ ap (λ ps. players_before ps (have.word ++ at.word) (all_advanced (suc i) (starts_of (drop (suc i) es)))) seats;
+    })
+
+pub advances_fail : (cells : Cells) (es : List Entering) (ks : List Seat) (i : ℕ) (e : Entering) (fault : CertFault) → slice_get es i ≡ Some e → HaveAdvanced cells es ks i → TellsFault (advanced i (start_of e)) fault →
+    TellsFault (all_advanced 0 (starts_of es)) fault
+advances_fail cells es ks i e fault e_is have fails =
+    rw (have.so_far, from_here es i e e_is) (advance_fails i (seats_of cells (take i es) ks) have.word e (drop (suc i) es) fault fails)
+
+-- with none left
+pub all_seated : (cells : Cells) (es : List Entering) (ks : List Seat) (i : ℕ) → length es ≤ i → HaveAdvanced cells es ks i → AreSeated cells es ks
+all_seated cells es ks i past have = subst (λ x. AreSeated cells x ks) (take_all i es past) have.seated
+
+pub all_have_advanced : (cells : Cells) (es : List Entering) (ks : List Seat) (i : ℕ) → length es ≤ i → HaveAdvanced cells es ks i → BecomesTable (all_advanced 0 (starts_of es)) (seats_of cells es ks)
+all_have_advanced cells es ks i past have =
+    (have.word, have.so_far ∙ rw (drop_of_length-le es past, take_all i es past) (none_behind (seats_of cells es ks) have.word))
 
 -- ---- all meet
 
@@ -122,22 +143,33 @@ tells_err : {A : Type 0} (r : Result A PlayFault) (fault : CertFault) → Tells 
 tells_err (Ok y) fault told = absurd cc
 tells_err (Err f) fault told = let same : fault ≡ _ = cc in inr (f, refl, same)
 
--- one more turn of the last loop
-pub ended_on : (ms : List Member) (ks : List Kept) (os : List Outcome) (i : ℕ) (m : Member) (k : Kept) (o : Outcome) (r : Result (List Outcome) PlayFault) → i < length ms → m ≡ get_or ms i m → i < length ks → k ≡ get_or ks i k →
-    r ≡ outcomes_before os (endings i (seats_of (drop i ms) (drop i ks))) → Tells (ending i (outcome_of k.path) (drop k.used m.choices)) (Ok o) →
-    r ≡ outcomes_before (os ++ o ∷ []) (endings (i + 1) (seats_of (drop (i + 1) ms) (drop (i + 1) ks)))
-ended_on ms ks os i m k o r a p b q so_far told =
-    so_far ∙ ap (λ x. outcomes_before os (endings i (seats_of x (drop i ks)))) (from_place ms i m a p)
-    ∙ ap (λ x. outcomes_before os (endings i (seats_of (m ∷ drop (i + 1) ms) x))) (from_place ks i k b q)
-    ∙ ends_on i os o (seat_of m k) (seats_of (drop (i + 1) ms) (drop (i + 1) ks)) (tells_ok (ending i (outcome_of k.path) (drop k.used m.choices)) o told)
-    ∙ rw (add-one i) refl
-
 ends_badly : (i : ℕ) (os : List Outcome) (p : Player) (ps : List Player) (fault : CertFault) → TellsFault (ending i (outcome_of p.member.term) p.letters) fault → TellsFault (outcomes_before os (endings i (p ∷ ps))) fault
 ends_badly i os p ps fault (inl memory) = inl memory
 ends_badly i os p ps fault (inr failed) = inr (failed.0, rw failed.1 refl, failed.2)
 
-pub ended_fails : (ms : List Member) (ks : List Kept) (os : List Outcome) (i : ℕ) (m : Member) (k : Kept) (r : Result (List Outcome) PlayFault) (fault : CertFault) → i < length ms → m ≡ get_or ms i m → i < length ks → k ≡ get_or ks i k →
-    r ≡ outcomes_before os (endings i (seats_of (drop i ms) (drop i ks))) → Tells (ending i (outcome_of k.path) (drop k.used m.choices)) (Err fault) → TellsFault r fault
-ended_fails ms ks os i m k r fault a p b q so_far told =
-    rw (so_far, from_place ms i m a p, from_place ks i k b q)
-    (ends_badly i os (seat_of m k) (seats_of (drop (i + 1) ms) (drop (i + 1) ks)) fault (tells_err (ending i (outcome_of k.path) (drop k.used m.choices)) fault told))
+-- the last loop: one member more
+module _ (cells : Cells) (es : List Entering) (ks : List Seat) (os : List Outcome) (i : ℕ) (e : Entering) (k : Seat) (r : Result (List Outcome) PlayFault) (e_is : slice_get es i ≡ Some e) (k_is : slice_get ks i ≡ Some k)
+    (so_far : r ≡ outcomes_before os (endings i (seats_of cells (drop i es) (drop i ks)))) where
+  here_so : r ≡ outcomes_before os (endings i (seat_of cells e k ∷ seats_of cells (drop (suc i) es) (drop (suc i) ks)))
+  here_so =
+      so_far
+      ∙ ap (λ x. outcomes_before os (endings i (seats_of cells x (drop i ks)))) (from_here es i e e_is)
+      ∙ ap (λ x. outcomes_before os (endings i (seats_of cells (e ∷ drop (suc i) es) x))) (from_here ks i k k_is)
+
+  pub ended_on : (o : Outcome) → Tells (ending i (outcome_of (seat_of cells e k).member.term) (seat_of cells e k).letters) (Ok o) →
+      r ≡ outcomes_before (os ++ o ∷ []) (endings (i + 1) (seats_of cells (drop (i + 1) es) (drop (i + 1) ks)))
+  ended_on o told =
+      here_so
+      ∙ ends_on i os o (seat_of cells e k) (seats_of cells (drop (suc i) es) (drop (suc i) ks)) (tells_ok (ending i (outcome_of (seat_of cells e k).member.term) (seat_of cells e k).letters) o told)
+      ∙ rw (add-one i) refl
+
+  pub ended_fails : (fault : CertFault) → Tells (ending i (outcome_of (seat_of cells e k).member.term) (seat_of cells e k).letters) (Err fault) → TellsFault r fault
+  ended_fails fault told =
+      rw here_so
+      (ends_badly i os (seat_of cells e k) (seats_of cells (drop (suc i) es) (drop (suc i) ks)) fault (tells_err (ending i (outcome_of (seat_of cells e k).member.term) (seat_of cells e k).letters) fault told))
+
+-- with none left
+pub all_ended : (cells : Cells) (es : List Entering) (ks : List Seat) (os : List Outcome) (i : ℕ) → length es ≤ i →
+    endings 0 (seats_of cells es ks) ≡ outcomes_before os (endings i (seats_of cells (drop i es) (drop i ks))) → endings 0 (seats_of cells es ks) ≡ Ok os
+all_ended cells es ks os i past so_far =
+    so_far ∙ rw (drop_of_length-le es past) (ap Ok (append-nil os))

@@ -2,9 +2,9 @@
 use Rattle.std.proofs.Common.{◌≡◌, ℕ, suc, Bool, true, ◌==◌, List, [], ◌∷◌, ◌++◌, Some, Ok, slice_get, slice_set, refl, sym, ap, subst, ◌∙◌, set-set}
 use Rattle.te_terms.specs.declared.event.Outcome.{Outcome}
 use Rattle.te_terms.specs.Terms.{Term}
-use Rattle.te_terms.specs.Steps.{Member, giving, with_head}
+use Rattle.te_terms.specs.Steps.{Member, giving, with_head, at_term}
 use Rattle.te_terms.specs.Joint.{Label, choice, meeting, Message, sending, receiving, IsGroup, member_of, with_member}
-use Rattle.te_terms.proofs.OneThing.{send_is_alone, receive_is_alone, settled_from}
+use Rattle.te_terms.proofs.OneThing.{send_is_alone, receive_is_alone}
 use Rattle.te_cert.specs.Play.{Player, with_term, meets, all_meet, endings, advanced, ◌>>=◌}
 use Rattle.te_cert.specs.Certs.{place_of, meetings_of}
 use Rattle.te_cert.specs.declared.cert.Meeting.{Meeting}
@@ -67,7 +67,7 @@ meet_so j a b ps qs word s r s' r' ws wr m c s_at r_at sends receives fits s_goe
     (word ++ (meeting s.member.thread r.member.thread ∷ ws) ++ wr, rw (s_at, r_at, sends, receives, fits, s_goes, r_goes, same) refl)
 
 -- an end advances as its letters lead
-advances : (at : ℕ) (word : List Label) (m : Member) (u : Term) (p : Player) (goes : IsAhead word (record m { term = u }) p) →
+advances : (at : ℕ) (word : List Label) (m : Member) (u : Term) (p : Player) (goes : IsAhead word (at_term m u) p) →
     advanced at (with_term (as_it_stands word m) u) ≡ Ok (record { player = p; word = goes.word })
 advances at word m u p goes = advanced_is at (with_term (as_it_stands word m) u) ∙ goes.goes at
 
@@ -99,8 +99,8 @@ meeting_back word g i j m c results group apart i_at j_at sends receives fits pl
     let b = place_of j.thread g in
     let s = as_it_stands word i in
     let r = as_it_stands word j in
-    let at_send = send_is_alone i.thread i.term m sends in
-    let at_receive = receive_is_alone j.thread j.term c receives in
+    let at_send = send_is_alone i i.term m sends in
+    let at_receive = receive_is_alone j j.term c receives in
     let received : TakesPlace (IsAhead word) (IsAhead word) g' j j' plays.players b =
     subst (TakesPlace (IsAhead word) (IsAhead word) g' j j' plays.players) (place_stays j.thread i' g)
     (one_changes (IsAhead word) (IsAhead word) g' j j' plays.players (group_stays i' g group) (member_stays j.thread i' g apart ∙ j_at)
@@ -108,12 +108,12 @@ meeting_back word g i j m c results group apart i_at j_at sends receives fits pl
     let ps = slice_set plays.players b r in
     let sent : TakesPlace (IsAhead word) (IsAhead word) g i i' ps a =
     one_changes (IsAhead word) (IsAhead word) g i i' ps group i_at (λ o p other was. was)
-    (received.before r (ahead_as_it_stands word j (settled_from j at_receive.0.0) at_receive.1)) in
+    (received.before r (ahead_as_it_stands word j at_receive.0.0 at_receive.1)) in
     let r_stands : slice_get (slice_set ps a s) b ≡ Some r =
     get_set_other ps a b s (places_apart i.thread j.thread g i j i_at j_at apart) ∙ get_set_same plays.players b received.player r received.stands in
     record {
       players = slice_set ps a s;
-      ahead = sent.before s (ahead_as_it_stands word i (settled_from i at_send.0.0) at_send.1);
+      ahead = sent.before s (ahead_as_it_stands word i at_send.0.0 at_send.1);
       finish = λ k labels. then_finish k (record { sender = a; receiver = b }) (meetings_of g word) plays.players (slice_set ps a s) labels results
           (meet_so k a b plays.players (slice_set ps a s) labels s r sent.player received.player sent.fits.word received.fits.word m c
           (get_set_same ps a sent.player s sent.stands) r_stands sends receives fits

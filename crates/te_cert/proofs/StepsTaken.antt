@@ -3,15 +3,15 @@ use Rattle.std.proofs.Common.{◌≡◌, ℕ, Bool, true, false, cond, ◌==◌,
 use Rattle.std.specs.Option.{option_map, option_and_then}
 use Rattle.std.proofs.lemmas.Option.{option_and_then_some}
 use Rattle.te_terms.specs.Terms.{Term}
-use Rattle.te_terms.specs.Steps.{Member, giving, quiet_step, with_head}
+use Rattle.te_terms.specs.Steps.{Member, giving, quiet_step, with_head, at_term}
 use Rattle.te_terms.specs.Joint.{choice, meeting, Action, quiet, labelled, Message, after_choice, sending, receiving, IsGroup, member_of, with_member}
 use Rattle.te_terms.specs.Joint.{with_term, quiet_joint, choice_joint, handed, meeting_of, meeting_joint, joint_step}
-use Rattle.te_terms.proofs.Settles.{quiet_thread}
+use Rattle.te_terms.proofs.QuietStepsEnd.{step_stays}
 use Rattle.te_cert.proofs.Places.{by_threads, member_thread, group_stays}
 
 -- the member with another term in its head's place
 abbrev pub goes_with : Term → Member → Member
-goes_with u m = record m { term = with_head u m.term }
+goes_with u m = at_term m (with_head u m.term)
 
 -- a member and what it becomes by a quiet step, in the groups before and after it
 pub record QuietTaken (g h : List Member) : Type 0 where
@@ -28,7 +28,7 @@ pub record ChoiceTaken (t : ℕ) (left : Bool) (g h : List Member) : Type 0 wher
   pub thread : before.thread ≡ t
   pub at : member_of before.thread g ≡ Some before
   pub chosen : after_choice left before.term ≡ Some term
-  pub to : with_member (record before { term = term }) g ≡ h
+  pub to : with_member (at_term before term) g ≡ h
 
 -- the two ends of a meeting, which stand at one channel and go on with () and with the message
 pub record MeetingTaken (s r : ℕ) (g h : List Member) : Type 0 where
@@ -58,7 +58,7 @@ quiet_taken t g h e =
     option_and_then_some quiet_step (member_of t g) n was (λ m at step. record {
       before = m;
       after = n;
-      at = ap (λ u. member_of u g) (quiet_thread m n step ∙ member_thread t g m at) ∙ at;
+      at = ap (λ u. member_of u g) ((step_stays m n step).0 ∙ member_thread t g m at) ∙ at;
       step = step;
       to = to;
     }))

@@ -27,11 +27,11 @@ meetings_of group (meeting s r ∷ word) = record { sender = place_of s group; r
 abbrev pub choices_of : List Member → List Label → List (List Bool)
 choices_of group word = map (λ m. letters_of m.thread word) group
 
--- no meeting leads from one side to the other
-abbrev pub KeepsSides : (ℕ → Bool) → List Meeting → Type 0
-KeepsSides side meetings = AllByRecursion (λ m. side m.sender ≡ side m.receiver) meetings
+-- no meeting between two of so many members leads from one side to the other
+abbrev pub KeepsSides : ℕ → (ℕ → Bool) → List Meeting → Type 0
+KeepsSides members side meetings = AllByRecursion (λ m. m.sender < members → m.receiver < members → side m.sender ≡ side m.receiver) meetings
 
 -- the members can't be split into two non-empty parts with no meeting between them
 abbrev pub IsTight : Cert → Type 0
 IsTight cert =
-    (side : ℕ → Bool) → KeepsSides side cert.meets → (i j : ℕ) → i < length cert.members → j < length cert.members → side i ≡ side j
+    (side : ℕ → Bool) → KeepsSides (length cert.members) side cert.meets → (i j : ℕ) → i < length cert.members → j < length cert.members → side i ≡ side j

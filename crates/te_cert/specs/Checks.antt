@@ -2,6 +2,7 @@
 use Rattle.std.specs.Prelude.{◌≡◌, ◌≢◌, ◌⊎◌, ℕ, ◌<◌, List, [], ◌∷◌, length, map, Some, Result, Ok, Err, slice_get}
 use Rattle.te_terms.specs.declared.event.Outcome.{Outcome}
 use Rattle.te_terms.specs.Terms.{Term}
+use Rattle.te_terms.specs.Steps.{come_to}
 use Rattle.te_terms.specs.Steps as steps
 use Rattle.te_terms.specs.Joint.{Label, Reduces}
 use Rattle.te_cert.specs.declared.cert.Member.{Member}
@@ -24,7 +25,7 @@ ThreadsRise (m ∷ ms) = RiseAfter m.thread ms
 abbrev pub group_of : List Member → List Term → List steps.Member
 group_of [] events = []
 group_of (m ∷ ms) [] = []
-group_of (m ∷ ms) (e ∷ es) = record { thread = m.thread; term = e } ∷ group_of ms es
+group_of (m ∷ ms) (e ∷ es) = come_to m.thread m.ticket 0 e ∷ group_of ms es
 
 -- the play of the certificate on the events of its members
 abbrev pub played : Certificate → List Term → Result Played PlayFault

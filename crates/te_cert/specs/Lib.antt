@@ -3,4 +3,5 @@ pub mod Play
 pub mod Certs
 pub mod Checks
 pub mod Advances
+pub mod Lending
 pub mod Players

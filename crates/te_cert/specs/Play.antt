@@ -3,9 +3,9 @@
 use Rattle.std.specs.Prelude.{ℕ, zero, suc, ◌*◌, Bool, true, false, ◌==◌, List, [], ◌∷◌, ◌++◌, Option, Some, None, Result, Ok, Err, slice_get, slice_set, if◌then◌else◌}
 use Rattle.te_terms.specs.declared.event.Outcome.{Outcome}
 use Rattle.te_terms.specs.Terms.{Term}
-use Rattle.te_terms.specs.Steps.{Member, giving, quiet_step, outcome_of, with_head}
+use Rattle.te_terms.specs.Steps.{Member, at_term, giving, quiet_step, outcome_of, with_head}
 use Rattle.te_terms.specs.Joint.{Label, choice, meeting, Message, after_choice, sending, receiving}
-use Rattle.te_terms.specs.Settling.{node_count}
+use Rattle.te_terms.specs.Measures.{node_count}
 use Rattle.te_cert.specs.declared.cert.Meeting.{Meeting}
 
 -- why a play fails: a member lacks a letter; the ends of a meeting don't fit; a member isn't final; letters are left over
@@ -40,7 +40,7 @@ pub data Turn : Type 0 where
 
 -- the members after a left and after a right choice
 abbrev pub choice_of : Member → Option Term → Option Term → Turn
-choice_of m (Some e) (Some f) = by_choice (record m { term = e }) (record m { term = f })
+choice_of m (Some e) (Some f) = by_choice (at_term m e) (at_term m f)
 choice_of m _ _ = stands
 
 abbrev pub own_turn : Member → Option Member → Turn
@@ -86,7 +86,7 @@ all_advanced i (p ∷ ps) = do
 -- ---- meetings
 
 abbrev pub with_term : Player → Term → Player
-with_term p t = record p { member = record p.member { term = t } }
+with_term p t = record p { member = at_term p.member t }
 
 -- both ends of a meeting move
 pub record Ends : Type 0 where

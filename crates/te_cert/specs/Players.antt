@@ -1,86 +1,171 @@
--- Players as the code keeps them: paths, and how many letters each has used. No public clause cites this module.
-use Rattle.std.specs.Prelude.{◌≡◌, ◌≢◌, ◌⊎◌, ℕ, ◌≤◌, Bool, true, false, List, [], ◌∷◌, ◌++◌, length, drop, Some, None, Result, Ok, Err}
-use Rattle.te_terms.specs.declared.event.Outcome.{Outcome}
-use Rattle.te_terms.specs.Terms.{Term}
-use Rattle.te_terms.specs.Joint.{Label, sending, receiving}
+-- Players as the code keeps them: spots over cells, and how many letters each has used. No public clause cites this module.
+use Rattle.std.specs.Prelude.{◌≡◌, ◌⊎◌, ℕ, ◌<◌, ◌≤◌, Bool, true, false, ◌==◌, List, [], ◌∷◌, ◌++◌, length, drop, map, Option, Some, None, Result, Ok, Err, IsSome, slice_get, slice_set, if◌then◌else◌}
 use Rattle.te_terms.specs.declared.value.Atom.{Atom}
-use Rattle.te_path.specs.declared.path.Stop.{Stop}
-use Rattle.te_path.specs.declared.path.Stop.TheVariants as stops
-use Rattle.te_path.specs.Paths.{member, StandsAt}
+use Rattle.te_terms.specs.declared.event.Outcome.{Outcome}
+use Rattle.te_terms.specs.Terms.{Term, closed}
+use Rattle.te_terms.specs.Codes.{term_under}
+use Rattle.te_terms.specs.Steps.{giving, with_head}
+use Rattle.te_terms.specs.Joint.{Label, sending, receiving}
+use Rattle.te_terms.specs.Settling.{settled}
+use Rattle.te_path.specs.declared.cells.Cells.{Cells}
+use Rattle.te_path.specs.declared.spot.Stop.{Stop}
+use Rattle.te_path.specs.declared.spot.Stop.TheVariants as stops
+use Rattle.te_path.specs.Origins.{Origin, origin_of, member_at}
+use Rattle.te_path.specs.Spots.{spelled, IsSpot}
 use Rattle.te_cert.specs.declared.cert.Member.{Member}
+use Rattle.te_cert.specs.declared.cert.Meeting.{Meeting}
 use Rattle.te_cert.specs.declared.cert.CertFault.{CertFault}
 use Rattle.te_cert.specs.declared.cert.CertFault.TheVariants as faults
-use Rattle.te_cert.specs.declared.player.Player.{Player as Kept}
-use Rattle.te_cert.specs.Play.{PlayFault, no_letter, no_meeting, unfinished, letters_left, Player, Advance, Table, with_label, advanced, met_by}
+use Rattle.te_cert.specs.declared.lent.Lent.{Lent}
+use Rattle.te_cert.specs.declared.group.Entrant.{Entrant}
+use Rattle.te_cert.specs.declared.group.Group.{Group}
+use Rattle.te_cert.specs.declared.seat.Seat.{Seat}
+use Rattle.te_cert.specs.declared.seat.End.{End}
+use Rattle.te_cert.specs.declared.seat.End.TheVariants as ends
+use Rattle.te_cert.specs.Play.{PlayFault, no_letter, no_meeting, unfinished, letters_left, Player, Advance, Table, Played, ◌>>=◌, with_label, with_term, advanced, all_advanced, all_meet, endings}
 use Rattle.te_cert.specs.Advances.{by_letters}
 
--- it stands, and not at a choice
-abbrev pub StandsElsewhere : Term → Type 0
-StandsElsewhere t = (stop : Stop) × StandsAt t stop × (stop ≢ stops.Choice)
+-- ---- who enters
 
--- the one sends this value, and the other receives on its channel
-pub record FitBy (value : List Atom) (t u : Term) : Type 0 where
-  pub channel : ℕ
-  pub sends : sending t ≡ Some (record { channel = channel; value = value })
-  pub receives : receiving u ≡ Some channel
+-- what the moves of a member read, the node of its event, and its letters
+pub record Entering : Type 0 where
+  pub origin : Origin
+  pub root : ℕ
+  pub letters : List Bool
 
--- they are no ends of a meeting, whoever they are
-abbrev pub DontFit : Term → Term → Type 0
-DontFit t u = (s r : Player) → met_by s r (sending t) (receiving u) ≡ None
+abbrev pub entering : Member → Lent → Entering
+entering m l = record {
+  origin = record { code = l.code.now; regs = l.regs.now; thread = m.thread; ticket = m.ticket };
+  root = l.root;
+  letters = m.choices;
+}
 
--- ---- one member
+abbrev pub all_entering : List Member → List Lent → List Entering
+all_entering [] ls = []
+all_entering (m ∷ ms) [] = []
+all_entering (m ∷ ms) (l ∷ ls) = entering m l ∷ all_entering ms ls
+
+abbrev pub of_group : Group → List Entering
+of_group g = all_entering g.members.now g.lents.now
+
+abbrev pub entered : Entrant → Entering
+entered e = record { origin = origin_of e.posted; root = e.root; letters = e.choices.now }
+
+abbrev pub start_of : Entering → Player
+start_of e = record { member = member_at e.origin 0 (closed e.origin.regs (term_under e.origin.code e.root)); letters = e.letters }
+
+abbrev pub starts_of : List Entering → List Player
+starts_of es = map start_of es
+
+abbrev pub IsEntering : Entering → Type 0
+IsEntering e = e.root < length e.origin.code
+
+-- ---- seats
+
+abbrev pub seat_of : Cells → Entering → Seat → Player
+seat_of cells e k = record { member = spelled e.origin cells k.spot; letters = drop k.used e.letters }
+
+abbrev pub seats_of : Cells → List Entering → List Seat → List Player
+seats_of cells [] ks = []
+seats_of cells (e ∷ es) [] = []
+seats_of cells (e ∷ es) (k ∷ ks) = seat_of cells e k ∷ seats_of cells es ks
+
+pub record IsSeat (cells : Cells) (e : Entering) (k : Seat) : Type 0 where
+  pub spot : IsSpot e.origin cells k.spot
+  pub within : k.used ≤ length e.letters
+
+-- a seat for each who entered
+abbrev pub AreSeated : Cells → List Entering → List Seat → Type 0
+AreSeated cells [] [] = Unit {0}
+AreSeated cells (e ∷ es) (k ∷ ks) = IsSeat cells e k × AreSeated cells es ks
+AreSeated cells _ _ = ⊥
+
+-- ---- one member goes on
 
 -- with further labels in front
 abbrev pub with_labels : List Label → Result Advance PlayFault → Result Advance PlayFault
 with_labels [] r = r
 with_labels (l ∷ ls) r = with_label l (with_labels ls r)
 
--- the one term with letters advances as the other, but for labels in front
-abbrev pub AdvancesAs : Term → List Bool → Term → List Bool → Type 0
-AdvancesAs t letters u rest = (i thread : ℕ) → (word : List Label) × (by_letters i (member thread t) letters ≡ with_labels word (by_letters i (member thread u) rest))
+abbrev pub letters_from : ℕ → Player → Result Advance PlayFault
+letters_from i p = by_letters i p.member p.letters
 
--- an advance comes to a stand with letters left, or lacks a letter
-abbrev pub ComesTo : Term → List Bool → Bool → Term → List Bool → Type 0
-ComesTo t letters true u rest = (i thread : ℕ) → (word : List Label) × (by_letters i (member thread t) letters ≡ Ok (record { player = record { member = member thread u; letters = rest }; word = word }))
-ComesTo t letters false u rest = (i thread : ℕ) → by_letters i (member thread t) letters ≡ Err (no_letter i)
+-- the one advances as the other, but for labels in front
+abbrev pub AdvancesAs : Player → Player → Type 0
+AdvancesAs p q = (i : ℕ) → (word : List Label) × (letters_from i p ≡ with_labels word (letters_from i q))
 
--- ---- all members
+-- an advance comes to a stand, or lacks a letter
+abbrev pub Comes : Player → Bool → Player → Type 0
+Comes p true q = (i : ℕ) → (word : List Label) × (letters_from i p ≡ Ok (record { player = q; word = word }))
+Comes p false q = (i : ℕ) → letters_from i p ≡ Err (no_letter i)
 
--- a member at its start, and where its player stands
-abbrev pub start_of : Member → Term → Player
-start_of m event = record { member = member m.thread event; letters = m.choices }
-
-abbrev pub starts_of : List Member → List Term → List Player
-starts_of [] events = []
-starts_of (m ∷ ms) [] = []
-starts_of (m ∷ ms) (e ∷ es) = start_of m e ∷ starts_of ms es
-
-abbrev pub seat_of : Member → Kept → Player
-seat_of m k = record { member = member m.thread k.path; letters = drop k.used m.choices }
-
-abbrev pub seats_of : List Member → List Kept → List Player
-seats_of [] ks = []
-seats_of (m ∷ ms) [] = []
-seats_of (m ∷ ms) (k ∷ ks) = seat_of m k ∷ seats_of ms ks
-
--- a player that stands as its member advances from here, with letters left
-pub record IsSeatedAt (i : ℕ) (from : Player) (m : Member) (k : Kept) : Type 0 where
+-- a seat at which its member has advanced from its event
+pub record IsSeatedAt (i : ℕ) (e : Entering) (cells : Cells) (k : Seat) : Type 0 where
   pub word : List Label
-  pub advances : advanced i from ≡ Ok (record { player = seat_of m k; word = word })
-  pub within : k.used ≤ length m.choices
+  pub advances : advanced i (start_of e) ≡ Ok (record { player = seat_of cells e k; word = word })
+  pub seat : IsSeat cells e k
 
--- a player for each member, that has used no more letters than there are
-abbrev pub AreSeated : List Member → List Kept → Type 0
-AreSeated [] [] = Unit {0}
-AreSeated (m ∷ ms) (k ∷ ks) = (k.used ≤ length m.choices) × AreSeated ms ks
-AreSeated _ _ = ⊥
+-- another seat stands behind the others
+pub record TakesSeat (i : ℕ) (e : Entering) (cells : Cells) (before after : List Seat) : Type 0 where
+  pub seat : Seat
+  pub seated : IsSeatedAt i e cells seat
+  pub put : after ≡ before ++ seat ∷ []
 
-abbrev pub table_of : List Member → List Kept → List Label → Table
-table_of ms ks word = record { players = seats_of ms ks; word = word }
+-- ---- meetings
+
+-- it goes on from its head with this value
+abbrev pub handed : List Atom → Player → Player
+handed v p = with_term p (with_head (giving v) p.member.term)
+
+abbrev pub value_at : End → List Atom
+value_at ends.Sender = []
+value_at (ends.Receiver v) = v
+
+abbrev pub StandsAtEnd : End → Term → Type 0
+StandsAtEnd ends.Sender t = IsSome (sending t)
+StandsAtEnd (ends.Receiver v) t = IsSome (receiving t)
+
+-- with its quiet steps done it is the other, its letters as before
+pub record PassesOn (v : List Atom) (p q : Player) : Type 0 where
+  pub settles : settled (handed v p).member ≡ q.member
+  pub letters : p.letters ≡ q.letters
+
+-- what the one passes to the other where they stand so
+abbrev pub passing : Stop → Stop → Option (List Atom)
+passing (stops.Send c v) (stops.Recv d) = if c == d then Some v else None
+passing _ _ = None
+
+-- the member at place i goes on with the value and advances
+pub record GoesOn (i : ℕ) (v : List Atom) (before after : List Player) : Type 0 where
+  pub player : Player
+  pub is_there : slice_get before i ≡ Some player
+  pub end : Player
+  pub word : List Label
+  pub advances : advanced i (handed v player) ≡ Ok (record { player = end; word = word })
+  pub then_so : after ≡ slice_set before i end
+
+-- it lacks a letter then
+pub record Lacks (i : ℕ) (v : List Atom) (before : List Player) : Type 0 where
+  pub player : Player
+  pub is_there : slice_get before i ≡ Some player
+  pub lacks : advanced i (handed v player) ≡ Err (no_letter i)
+
+-- ---- tables
+
+abbrev pub table_of : Cells → List Entering → List Seat → List Label → Table
+table_of cells es ks word = record { players = seats_of cells es ks; word = word }
 
 -- a part of the play gives these players, whatever its labels
-abbrev pub BecomesTable : Result Table PlayFault → List Member → List Kept → Type 0
-BecomesTable r ms ks = (word : List Label) × (r ≡ Ok (table_of ms ks word))
+abbrev pub BecomesTable : Result Table PlayFault → List Player → Type 0
+BecomesTable r ps = (word : List Label) × (r ≡ Ok (record { players = ps; word = word }))
+
+-- the play of those who enter
+abbrev pub played_by : List Entering → List Meeting → Result Played PlayFault
+played_by es mts = do
+  start ← all_advanced 0 (starts_of es)
+  last ← all_meet 0 mts (record { players = start.players; word = start.word })
+  os ← endings 0 last.players
+  Ok (record { outcomes = os; word = last.word })
 
 -- ---- what has been done before the rest
 
@@ -109,3 +194,8 @@ TellsFault r e = (e ≡ faults.Memory) ⊎ ((f : PlayFault) × (r ≡ Err f) × 
 abbrev pub Tells : {A : Type 0} → Result A PlayFault → Result A CertFault → Type 0
 Tells (Ok x) answer = answer ≡ Ok x
 Tells (Err f) answer = answer ≡ Err (told f)
+
+-- the answer has the outcomes of the play, or tells its fault
+abbrev pub PlaysTo : Result Played PlayFault → Result (List Outcome) CertFault → Type 0
+PlaysTo r (Ok os) = (word : List Label) × (r ≡ Ok (record { outcomes = os; word = word }))
+PlaysTo r (Err e) = TellsFault r e

@@ -1,9 +1,13 @@
 ghost use Rattle.std.specs.Prelude.{◌≡◌, ◌≢◌, ℕ, ◌≤◌, ◌<◌, ◌^◌, [], length, true, IfOk, IfErr, OnOk, IsTrue};
-ghost use Rattle.te_cert.specs.declared.cert.CertFault.TheVariants.{Index};
+ghost use Rattle.te_cert.specs.declared.cert.CertFault.TheVariants.{Index, Memory};
+ghost use Rattle.te_cert.specs.Lending.{lent_terms, AreLent};
 ghost use Rattle.te_cert.specs.Checks.{IsChecked, Reduced, ThreadsRise, RiseAfter, IsBetween, AreBetween, IsFirstAstray, IsOutOfOrder};
 
 use crate::cert::{Cert, CertFault, Meeting, Member};
-use crate::playing::{meet_all, outcomes, seat_all};
+use crate::group::Group;
+use crate::lent::Lent;
+use crate::playing::play;
+use crate::room::Room;
 use std::alloc::Global;
 use te_terms::{Event, Outcome, Rows};
 
@@ -32,9 +36,50 @@ pub fn check(alloc: Global, cert: &Cert, events: &[Event]) -> Result<Rows<Outcom
     let meetings = cert.meets.as_slice();
     in_order(members)?;
     all_between(members.len(), meetings)?;
-    let mut players = seat_all(alloc, members, events)?;
-    meet_all(&mut players, members, meetings)?;
-    outcomes(alloc, members, &players)
+    let lents = lend_all(alloc, events)?;
+    let group = Group {
+        members,
+        lents: lents.as_slice(),
+    };
+    play(alloc, &mut Room::new(alloc), &group, meetings)
+}
+
+/// The same as `check`, on events where they lie and in room that serves for many plays: only the outcomes take
+/// memory, once the room has grown. It is public for the crates above alone.
+#[doc(hidden)]
+pub fn check_in(
+    alloc: Global,
+    room: &mut Room,
+    cert: &Cert,
+    lents: &[Lent],
+) -> Result<Rows<Outcome>, CertFault>
+    requires as_many { length cert.now.members ≡ length lents.now }
+    requires lent { AreLent lents.now }
+    ensures checked { IsChecked cert.now (lent_terms lents.now) result }
+    ensures reduces { IfOk result (λ outcomes. Reduced cert.now (lent_terms lents.now) outcomes) }
+{
+    let members = cert.members.as_slice();
+    let meetings = cert.meets.as_slice();
+    in_order(members)?;
+    all_between(members.len(), meetings)?;
+    play(alloc, room, &Group { members, lents }, meetings)
+}
+
+// The parts of all events.
+fn lend_all<'a>(alloc: Global, events: &'a [Event]) -> Result<Vec<Lent<'a>>, CertFault>
+    ensures ok { IfOk result (λ lents. lent_terms lents.items ≡ events.now) }
+    ensures lent { IfOk result (λ lents. AreLent lents.items) }
+    ensures err { IfErr result (λ e. e ≡ Memory) }
+{
+    let Ok(mut lents) = Vec::with_capacity(alloc, events.len()) else {
+        return Err(CertFault::Memory);
+    };
+    for event in events {
+        let Ok(()) = lents.push(Lent::of(event)) else {
+            return Err(CertFault::Memory);
+        };
+    }
+    Ok(lents)
 }
 
 // Whether there are members, and their threads rise strictly.

@@ -1,16 +1,17 @@
 // The laws of plays and checks, each the contract of a function with nothing to do: what stands on certificates goes by
 // these. Reductions are those of Donnelly and Fluet, Transactional Events, JFP 18(5-6), 2008; plays are this project's own.
 
-ghost use Rattle.std.specs.Prelude.{◌≡◌, ◌⊎◌, Bool, List, length, Result, Ok, Err};
+ghost use Rattle.std.specs.Prelude.{◌≡◌, ◌⊎◌, ℕ, Bool, List, length, Result, Ok, Err};
 ghost use Rattle.te_terms.specs.declared.event.Outcome.{Outcome};
 ghost use Rattle.te_terms.specs.Terms.{Term};
-ghost use Rattle.te_terms.specs.Steps.{Member};
+ghost use Rattle.te_terms.specs.Settling.{CannotChoose};
+ghost use Rattle.te_terms.specs.Steps.{Member, IsSettled};
 ghost use Rattle.te_terms.specs.Joint.{Label, IsGroup, Reduces};
 ghost use Rattle.te_cert.specs.declared.cert.Meeting.{Meeting};
 ghost use Rattle.te_cert.specs.declared.cert.CertFault.{CertFault};
 ghost use Rattle.te_cert.specs.declared.cert.CertFault.TheVariants.{Memory};
 ghost use Rattle.te_cert.specs.Certificates.{Certificate};
-ghost use Rattle.te_cert.specs.Play.{play, Played};
+ghost use Rattle.te_cert.specs.Play.{play, Played, Player, Advance, advanced};
 ghost use Rattle.te_cert.specs.Certs.{choices_of, meetings_of};
 ghost use Rattle.te_cert.specs.Checks.{IsChecked, HasOrder, Gives};
 
@@ -28,4 +29,16 @@ pub fn reductions_play()
 /// outcomes, and answers these.
 pub fn checks_accept()
     ensures { (cert : Certificate) (events : List Term) (outcomes : List Outcome) (answer : Result (List Outcome) CertFault) → length cert.members ≡ length events → IsChecked cert events answer → HasOrder cert → Gives cert events outcomes → (answer ≡ Ok outcomes) ⊎ (answer ≡ Err Memory) }
+{}
+
+/// But for want of memory, two checks of one certificate on the same events have one answer.
+pub fn checks_are_one()
+    ensures { (cert : Certificate) (events : List Term) (answer other : Result (List Outcome) CertFault) → IsChecked cert events answer → IsChecked cert events other → (answer ≡ other) ⊎ (answer ≡ Err Memory) ⊎ (other ≡ Err Memory) }
+{}
+
+/// An advance ends where no quiet step is left and there is no choice: where the member is final, or stands at a
+/// send, a receive or never.
+pub fn advances_end()
+    ensures settled { (i : ℕ) (player : Player) (end : Advance) → advanced i player ≡ Ok end → IsSettled end.player.member }
+    ensures no_choice { (i : ℕ) (player : Player) (end : Advance) → advanced i player ≡ Ok end → CannotChoose end.player.member.term }
 {}

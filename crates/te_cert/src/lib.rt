@@ -3,13 +3,18 @@
 
 mod cert;
 mod checking;
+mod group;
 mod laws;
-mod player;
+mod lent;
 mod playing;
+mod room;
+mod seat;
 
 pub use cert::{Cert, CertFault, Meeting, Member};
-pub use checking::check;
-pub use laws::{checks_accept, plays_reduce, reductions_play};
+pub use checking::{check, check_in};
+pub use laws::{advances_end, checks_accept, checks_are_one, plays_reduce, reductions_play};
+pub use lent::Lent;
+pub use room::Room;
 
 #[cfg(test)]
 mod tests;

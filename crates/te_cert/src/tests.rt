@@ -221,3 +221,64 @@ fn nobody_meets_itself(rt: HostRuntime) -> Result<(), Fail> {
     assert_eq!(rt; fault(alone), Some(CertFault::Index(0)));
     Ok(())
 }
+
+// do { _0 <- fresh; _1 <- send 0 _0; recv _0.0 }
+fn makes_and_sends() -> [Node; 5] {
+    [
+        Node::Send(Prim::Chan(0), Expr::Whole(Var::Inner(0))),
+        Node::Recv(Prim::Part(Var::Inner(0), 0)),
+        Node::Then(0, 1),
+        Node::Fresh,
+        Node::Then(3, 2),
+    ]
+}
+
+// do { _0 <- recv 0; _1 <- send _0.0 (5); always _0 }
+fn answers_on_it() -> [Node; 5] {
+    [
+        Node::Send(Prim::Part(Var::Inner(0), 0), number(5)),
+        Node::Always(Expr::Whole(Var::Inner(0))),
+        Node::Then(0, 1),
+        Node::Recv(Prim::Chan(0)),
+        Node::Then(3, 2),
+    ]
+}
+
+#[test]
+fn two_talk_on_a_fresh_channel(rt: HostRuntime) -> Result<(), Fail> {
+    let alloc = rt.alloc();
+    let events = [
+        event(alloc, &makes_and_sends())?,
+        event(alloc, &answers_on_it())?,
+    ];
+    let group = &[(0, &[][..]), (1, &[][..])][..];
+    let channel = Value::of(&[Atom::Chan(1073741824)]).unwrap_or_default();
+    let want = [Outcome::Gives(ints(&[5])), Outcome::Gives(channel)];
+    assert!(rt; gives(&answer(alloc, group, &[(0, 1), (1, 0)], &events)?, &want));
+    Ok(())
+}
+
+#[test]
+fn a_room_serves_for_many_plays(rt: HostRuntime) -> Result<(), Fail> {
+    let alloc = rt.alloc();
+    let events = pair(alloc)?;
+    let mut room = Room::new(alloc);
+    let want = [Outcome::Gives(Value::unit()), Outcome::Gives(ints(&[7]))];
+    for _ in 0..3 {
+        let mut members = Rows::new(alloc);
+        members.push(member(alloc, 0, &[])?)?;
+        members.push(member(alloc, 1, &[])?)?;
+        let mut meets = Rows::new(alloc);
+        meets.push(Meeting {
+            sender: 0,
+            receiver: 1,
+        })?;
+        if meets.len() > u32::MAX as usize || members.len() != 2 {
+            Err("another certificate")?;
+        }
+        let lents = [Lent::of(&events[0]), Lent::of(&events[1])];
+        let met = check_in(alloc, &mut room, &Cert { members, meets }, &lents);
+        assert!(rt; gives(&met, &want));
+    }
+    Ok(())
+}
