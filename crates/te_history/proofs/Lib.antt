@@ -9,3 +9,5 @@ pub mod RefusedDontFollow
 pub mod RefusedCommits
 pub mod RoomNeverRises
 pub mod RefusalsWorked
+pub mod CanPlay
+pub mod RefusalsAreOne
