@@ -1,19 +1,18 @@
 -- Members that can play have events, and a refusal of members is one of their commit.
-use Rattle.std.proofs.Common.{◌≡◌, ◌≢◌, ◌⊎◌, inl, inr, ℕ, suc, List, [], ◌∷◌, Some, refl}
-use Rattle.std.specs.List.{slice_get}
+use Rattle.std.proofs.Common.{◌≡◌, ◌≢◌, ◌⊎◌, inl, inr, ℕ, suc, List, [], ◌∷◌, refl}
 use Rattle.te_terms.specs.declared.event.Outcome.{Outcome}
 use Rattle.te_terms.specs.Terms.{Term}
 use Rattle.te_cert.specs.declared.cert.Member.{Member}
 use Rattle.te_cert.specs.declared.cert.CertFault.TheVariants as unsound
 use Rattle.te_cert.specs.Certificates.{Certificate}
-use Rattle.te_cert.specs.Checks.{Gives, IsChecked}
+use Rattle.te_cert.specs.Checks.{Gives}
 use Rattle.te_history.specs.declared.entry.StepFault.{StepFault}
 use Rattle.te_history.specs.declared.entry.StepFault.TheVariants as faults
 use Rattle.te_history.specs.declared.status.Status.TheVariants as statuses
 use Rattle.te_history.specs.State.{Standing, idle, parked, given, ended, State}
 use Rattle.te_history.specs.Follows.{Stands, Commits}
 use Rattle.te_history.specs.Histories.{HasStatus, status_of}
-use Rattle.te_history.specs.Refusals.{AreAllParked, AreParked, CanPlay, IsUnordered, IsUnsound, RefusesMembers, RefusesPlay, RefusesCommit}
+use Rattle.te_history.specs.Refusals.{AreAllParked, AreParked, CanPlay, RefusesMembers, RefusesPlay, RefusesCommit}
 use Rattle.te_history.proofs.Events.{commits_by}
 
 pub is_memory : (fault : StepFault) → (fault ≡ faults.Memory) ⊎ (fault ≢ faults.Memory)

@@ -11,3 +11,7 @@ pub mod RoomNeverRises
 pub mod RefusalsWorked
 pub mod CanPlay
 pub mod RefusalsAreOne
+pub mod Commits
+pub mod Growing
+pub mod GivenOnce
+pub mod Lasting

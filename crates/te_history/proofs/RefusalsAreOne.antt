@@ -1,5 +1,5 @@
 -- Two refusals of one entry after one history are equal, but for want of memory.
-use Rattle.std.proofs.Common.{◌≡◌, ◌≢◌, ◌⊎◌, inl, inr, ℕ, ◌<◌, ◌≤◌, zero, suc, true, List, [], ◌∷◌, Some, Result, Ok, Err, length, refl, ap, sym, ◌∙◌, subst, arith}
+use Rattle.std.proofs.Common.{◌≡◌, ◌≢◌, ◌⊎◌, inl, inr, ℕ, ◌<◌, ◌≤◌, zero, suc, true, List, [], ◌∷◌, Some, Result, Err, length, refl, ap, sym, ◌∙◌, subst, arith}
 use Rattle.std.specs.List.{slice_get, AllByRecursion}
 use Rattle.std.proofs.lemmas.Bool.{cases_lt}
 use Rattle.std.proofs.lemmas.Option.{slice_get_within}
@@ -22,8 +22,8 @@ use Rattle.te_history.specs.declared.status.Status.{Status}
 use Rattle.te_history.specs.declared.status.Status.TheVariants as statuses
 use Rattle.te_history.specs.State.{Standing, parked, State, posts_by}
 use Rattle.te_history.specs.Follows.{Stands, IsParkedOrEnded, caller_of}
-use Rattle.te_history.specs.Histories.{History, now, status_of, HasStatus}
-use Rattle.te_history.specs.Refusals.{IsFirstLive, AreCallers, IsFirstStranger, IsFirstStale, AreAllParked, AreParked, IsFirstOther, RefusesPost, RefusesWithdraw, RefusesTake, RefusesRest, RefusesStuck, RefusesEnd, RefusesCommit, RefusesEntry, IsEnd, IsOpenFor, IsRefused}
+use Rattle.te_history.specs.Histories.{History, now, HasStatus}
+use Rattle.te_history.specs.Refusals.{IsFirstLive, AreCallers, IsFirstStranger, IsFirstStale, AreParked, IsFirstOther, RefusesPost, RefusesWithdraw, RefusesTake, RefusesRest, RefusesStuck, RefusesEnd, RefusesCommit, RefusesEntry, IsEnd, IsOpenFor, IsRefused}
 use Rattle.te_history.proofs.AfterEntry.{length-state}
 use Rattle.te_history.proofs.Events.{length-parked}
 use Rattle.te_history.proofs.Places.{by_place}

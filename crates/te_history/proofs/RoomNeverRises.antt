@@ -26,7 +26,7 @@ room_set (c ∷ cs) (suc t) old new is = let rest = room_set cs t old new is in 
 
 -- ---- commits
 
-events_after : (s : State) (t : ℕ) (standing : Standing) (ms : List Member) (group : List steps.Member) → RiseAfter t ms → AreEvents s ms group
+pub events_after : (s : State) (t : ℕ) (standing : Standing) (ms : List Member) (group : List steps.Member) → RiseAfter t ms → AreEvents s ms group
     → AreEvents (with_standing t standing s) ms group
 events_after s t standing ms group rise events = go t ms group rise (omega arith) events
   where
@@ -39,7 +39,7 @@ events_after s t standing ms group rise events = go t ms group rise (omega arith
     go low [] (g ∷ gs) rises under are = absurd are
     go low (n ∷ ns) [] rises under are = absurd are
 
-rise_rest : (t : ℕ) (ms : List Member) → RiseAfter t ms → ThreadsRise ms
+pub rise_rest : (t : ℕ) (ms : List Member) → RiseAfter t ms → ThreadsRise ms
 rise_rest t [] rise = tt
 rise_rest t (m ∷ ms) rise = rise.1
 
@@ -56,7 +56,7 @@ room_given s (m ∷ ms) (g ∷ gs) (o ∷ os) rise events same =
 room_given s [] (g ∷ gs) os rise events same = absurd events
 room_given s (m ∷ ms) [] os rise events same = absurd events
 
-as_many_events : (s : State) (ms : List Member) (group : List steps.Member) → AreEvents s ms group → length group ≡ length ms
+pub as_many_events : (s : State) (ms : List Member) (group : List steps.Member) → AreEvents s ms group → length group ≡ length ms
 as_many_events s [] [] events = refl
 as_many_events s (m ∷ ms) (g ∷ gs) events = ap suc (as_many_events s ms gs events.2)
 as_many_events s [] (g ∷ gs) events = absurd events
@@ -66,12 +66,12 @@ some_there : (ms : List Member) → ms ≢ [] → 1 ≤ length ms
 some_there [] some = absurd (some refl)
 some_there (m ∷ ms) some = omega arith
 
-stuck_stays : (ms : List Member) (os : List Outcome) (s : State) → (with_given ms os s).stuck ≡ s.stuck
+pub stuck_stays : (ms : List Member) (os : List Outcome) (s : State) → (with_given ms os s).stuck ≡ s.stuck
 stuck_stays [] os s = refl
 stuck_stays (m ∷ ms) [] s = refl
 stuck_stays (m ∷ ms) (o ∷ os) s = stuck_stays ms os (with_standing m.thread (given m.ticket o) s)
 
-resting_stays : (ms : List Member) (os : List Outcome) (s : State) → (with_given ms os s).resting ≡ s.resting
+pub resting_stays : (ms : List Member) (os : List Outcome) (s : State) → (with_given ms os s).resting ≡ s.resting
 resting_stays [] os s = refl
 resting_stays (m ∷ ms) [] s = refl
 resting_stays (m ∷ ms) (o ∷ os) s = resting_stays ms os (with_standing m.thread (given m.ticket o) s)

@@ -147,11 +147,7 @@ fn can_play(hist: &Hist, cert: &Cert) -> Result<(), StepFault>
 /// `Stranger`; `Stale`; `Unsound` of what else the check finds, which is never want of memory. `Memory` is want of
 /// memory, which comes once the members are known to be parked. Nothing is changed. This project's own.
 #[doc(hidden)]
-pub fn play_commit(
-    alloc: Global,
-    hist: &Hist,
-    cert: &Cert,
-) -> Result<Rows<Outcome>, StepFault>
+pub fn play_commit(alloc: Global, hist: &Hist, cert: &Cert) -> Result<Rows<Outcome>, StepFault>
     ensures ok { IfOk result (λ outcomes. Commits (now hist.now) cert.now outcomes) }
     ensures played { IfOk result (λ outcomes. IsPlayed (now hist.now) cert.now outcomes) }
     ensures few { IfOk result (λ outcomes. length outcomes ≤ 64) }

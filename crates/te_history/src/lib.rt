@@ -2,6 +2,7 @@
 #![tactic(auto)]
 
 mod committing;
+mod copying;
 mod entry;
 mod following;
 mod history;
@@ -10,12 +11,15 @@ mod same;
 mod seat;
 mod status;
 
-pub use entry::{Entry, StepFault};
 #[doc(hidden)]
 pub use committing::{may_commit_played, play_commit};
+pub use entry::{Entry, StepFault};
 pub use following::may_follow;
 pub use history::Hist;
-pub use laws::{posts_alone_raise_room, refusals_are_one};
+pub use laws::{
+    declarations_stand, ended_stays, legal_is_loose, posts_alone_raise_room, refusals_are_one,
+    tickets_are_given_once,
+};
 pub use status::{How, Phase, Status};
 
 #[cfg(test)]

@@ -22,4 +22,3 @@ pub returns-in_err-played-clause-refused : goal.returns-in_err-played-clause-ref
 returns-in_err-played-clause-refused c =
     let p = err_from_is_err_and c.from_residual.result c.from_residual.ensures.1 in
     rw (p.1, p.2) (play_refused c.args.hist.now.callers (now c.args.hist.now) c.args.cert.now c.args.outcomes.now c.in_err-played.field-0.0 c.in_err-played.ensures.refused)
-

@@ -5,7 +5,6 @@ use Rattle.te_history.specs.Histories.{now}
 use Rattle.te_history.proofs.CanPlay.{commits_known}
 use Rattle.te_history.proofs.committing.may_commit_played.Goals as goal
 
-
 -- a fact of a result that is fine gives another
 along : {P Q : Unit {0} → Type 0} (r : Result (Unit {0}) StepFault) → ((x : Unit {0}) → P x → Q x) → IfOk r P → IfOk r Q
 along (Ok x) f holds = f x holds
