@@ -4,12 +4,14 @@ use Rattle.std.specs.List.{slice_get}
 use Rattle.std.specs.Prelude.{◌↔◌}
 use Rattle.te_history.specs.declared.entry.Entry.{Entry}
 use Rattle.te_history.specs.declared.entry.Entry.TheVariants.{Post, Commit, Withdraw, Take, Rest, Stuck, End}
+use Rattle.te_history.specs.declared.status.How.{How}
 use Rattle.te_history.specs.declared.status.How.TheVariants as ways
 use Rattle.te_history.specs.State.{Standing, idle, parked, ended, State, opening, with_standing, with_given, changed, state_from, state}
-use Rattle.te_history.specs.Follows.{Stands, LooselyFollows, IsLoose}
+use Rattle.te_history.specs.Follows.{Stands, IsParkedOrEnded, Ends, LooselyFollows, IsLoose}
 use Rattle.te_history.proofs.AfterEntry.{state-after}
-use Rattle.te_history.proofs.Commits.{same_or_other, stands_other, Touch, untouched, touched, touch}
+use Rattle.te_history.proofs.Commits.{same_or_other, stands_put, stands_other, Touch, untouched, touched, touch}
 use Rattle.te_history.proofs.Growing.{grows, later_part}
+use Rattle.te_history.proofs.Places.{by_place}
 use Rattle.te_history.proofs.RoomNeverRises.{stuck_stays, resting_stays}
 
 -- ---- an ended caller
@@ -47,6 +49,42 @@ ended_stays callers history more t loose stands =
     grows callers (λ h. Stands (state callers h) t ended)
     (λ h e follows was. subst (λ (s : State). Stands s t ended) (sym (state-after callers h e)) (ended_after callers t h e follows was))
     history more (later_part callers history more loose) stands
+
+-- ---- the callers of a stuck board
+
+all_after : (callers : ℕ) (h : List Entry) (e : Entry) → LooselyFollows callers h e
+    → ((state callers h).stuck ≡ true → (t : ℕ) (x : Standing) → Stands (state callers h) t x → IsParkedOrEnded x)
+    → (changed (state callers h) e).stuck ≡ true → (t : ℕ) (x : Standing) → Stands (changed (state callers h) e) t x → IsParkedOrEnded x
+all_after callers h (Post by ticket event) follows all stuck = let runs = follows.0 in absurd cc
+all_after callers h (Commit by cert outcomes) follows all stuck =
+    let runs = follows.0 in let same = stuck_stays cert.members outcomes (state callers h) in absurd cc
+all_after callers h (Withdraw by ticket) follows all stuck = let runs = follows.0 in absurd cc
+all_after callers h (Take by ticket outcome) follows all stuck = let runs = follows.0 in absurd cc
+all_after callers h (Rest by) follows all stuck = let runs = follows.0 in absurd cc
+all_after callers h (Stuck by) follows all stuck = λ t x stands. by_place IsParkedOrEnded (state callers h).callers t x follows.2 stands
+all_after callers h (End by how) follows all stuck = λ t x stands. by_caller t x stands (same_or_other by t)
+  where
+    old : (how : How) → Ends (state callers h) by how → (x : Standing) × Stands (state callers h) by x
+    old (ways.Done values) ends = (idle, ends.1)
+    old (ways.Raised value) ends = (idle, ends.1)
+    old ways.Stuck ends = (_, ends.1.2)
+
+    by_caller : (t : ℕ) (x : Standing) → Stands (with_standing by ended (state callers h)) t x → (by ≡ t) ⊎ (by ≡ t → ⊥) → IsParkedOrEnded x
+    by_caller t x stands (inr other) = all stuck t x (sym (stands_other (state callers h) by t ended other) ∙ stands)
+    by_caller t x stands (inl same) =
+        let was = old how follows in
+        let at : Stands (with_standing by ended (state callers h)) by x = subst (λ (k : ℕ). Stands (with_standing by ended (state callers h)) k x) (sym same) stands in
+        let both : Some ended ≡ Some x = sym (stands_put (state callers h) by was.0 ended was.1) ∙ at in
+        let is : ended ≡ x = cc in
+        subst IsParkedOrEnded is tt
+
+-- on a stuck board every caller is parked or has ended
+pub stuck_waits : (callers : ℕ) (history : List Entry) → IsLoose callers history → (state callers history).stuck ≡ true → (t : ℕ) (x : Standing)
+    → Stands (state callers history) t x → IsParkedOrEnded x
+stuck_waits callers history loose =
+    grows callers (λ h. (state callers h).stuck ≡ true → (t : ℕ) (x : Standing) → Stands (state callers h) t x → IsParkedOrEnded x)
+    (λ h e follows all. subst (λ (s : State). s.stuck ≡ true → (t : ℕ) (x : Standing) → Stands s t x → IsParkedOrEnded x) (sym (state-after callers h e)) (all_after callers h e follows all))
+    [] history loose (λ stuck. absurd cc)
 
 -- ---- a board that is stuck or resting
 

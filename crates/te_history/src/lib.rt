@@ -14,11 +14,13 @@ mod status;
 #[doc(hidden)]
 pub use committing::{may_commit_played, play_commit};
 pub use entry::{Entry, StepFault};
+#[doc(hidden)]
+pub use following::first_live;
 pub use following::may_follow;
 pub use history::Hist;
 pub use laws::{
     declarations_stand, ended_stays, legal_is_loose, posts_alone_raise_room, refusals_are_one,
-    tickets_are_given_once,
+    room_goes_by_entries, stuck_boards_wait, tickets_are_given_once,
 };
 pub use status::{How, Phase, Status};
 
