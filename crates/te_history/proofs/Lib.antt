@@ -9,3 +9,9 @@ pub mod RefusedDontFollow
 pub mod RefusedCommits
 pub mod RoomNeverRises
 pub mod RefusalsWorked
+pub mod CanPlay
+pub mod RefusalsAreOne
+pub mod Commits
+pub mod Growing
+pub mod GivenOnce
+pub mod Lasting

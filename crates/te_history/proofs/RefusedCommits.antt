@@ -77,39 +77,40 @@ not_unsound s cert outcomes events fault commits all other checked =
       | inr none ↦ other cc
     ]
 
-one_play : (r : Result Played PlayFault) (p q : Played) → r ≡ Ok p → r ≡ Ok q → p ≡ q
+pub one_play : (r : Result Played PlayFault) (p q : Played) → r ≡ Ok p → r ≡ Ok q → p ≡ q
 one_play r p q first second = let both : Ok p ≡ Ok q = sym first ∙ second in cc
 
 not_other : (outcomes played : List Outcome) (i : ℕ) → IsFirstOther outcomes played i → outcomes ≢ played
 not_other outcomes played i first = λ same. first.other (ap (λ (os : List Outcome). slice_get os i) same)
 
 pub not_commit : (callers : ℕ) (s : State) (cert : Certificate) (outcomes : List Outcome) (fault : StepFault) → length s.callers ≡ callers
-    → RefusesCommit callers s cert outcomes fault → Commits s cert outcomes → ⊥
-not_commit callers s cert outcomes (faults.Unsound unsound.Empty) same refuses commits = commits.some_member refuses
-not_commit callers s cert outcomes (faults.Unsound unsound.Order) same refuses commits = refuses.1 commits.rise
-not_commit callers s cert outcomes (faults.Unsound unsound.Memory) same refuses commits = refuses
-not_commit callers s cert outcomes (faults.Unsound (unsound.Index j)) same refuses commits =
+    → RefusesCommit callers s cert outcomes fault → fault ≢ faults.Memory → Commits s cert outcomes → ⊥
+not_commit callers s cert outcomes (faults.Unsound unsound.Empty) same refuses found commits = commits.some_member refuses
+not_commit callers s cert outcomes (faults.Unsound unsound.Order) same refuses found commits = refuses.1 commits.rise
+not_commit callers s cert outcomes (faults.Unsound unsound.Memory) same refuses found commits = refuses
+not_commit callers s cert outcomes (faults.Unsound (unsound.Index j)) same refuses found commits =
     not_unsound s cert outcomes refuses.0 (unsound.Index j) commits refuses.1 (λ is. cc) refuses.2
-not_commit callers s cert outcomes (faults.Unsound (unsound.Meet j)) same refuses commits =
+not_commit callers s cert outcomes (faults.Unsound (unsound.Meet j)) same refuses found commits =
     not_unsound s cert outcomes refuses.0 (unsound.Meet j) commits refuses.1 (λ is. cc) refuses.2
-not_commit callers s cert outcomes (faults.Unsound (unsound.Choices i)) same refuses commits =
+not_commit callers s cert outcomes (faults.Unsound (unsound.Choices i)) same refuses found commits =
     not_unsound s cert outcomes refuses.0 (unsound.Choices i) commits refuses.1 (λ is. cc) refuses.2
-not_commit callers s cert outcomes (faults.Unsound (unsound.Unfinished i)) same refuses commits =
+not_commit callers s cert outcomes (faults.Unsound (unsound.Unfinished i)) same refuses found commits =
     not_unsound s cert outcomes refuses.0 (unsound.Unfinished i) commits refuses.1 (λ is. cc) refuses.2
-not_commit callers s cert outcomes (faults.Stranger i) same refuses commits =
+not_commit callers s cert outcomes (faults.Stranger i) same refuses found commits =
     let first = refuses.1 in
     let at = parked_at s cert.members commits.group i first.member commits.events first.is_there in
     let low = slice_get_within s.callers first.member.thread _ at.1 in
     let high = first.stranger in
     absurd (omega arith)
-not_commit callers s cert outcomes (faults.Stale i status) same refuses commits =
+not_commit callers s cert outcomes (faults.Stale i status) same refuses found commits =
     let first = refuses.2 in
     let at = parked_at s cert.members commits.group i first.member commits.events first.is_there in
     first.stale (one_status s first.member.thread (parked first.member.ticket at.0) status at.1 first.stands)
-not_commit callers s cert outcomes (faults.Result i) same refuses commits =
-    let found = refuses.1 in
-    let plays = plays_so s cert outcomes found.0 commits found.2 in
-    let plays' = found.3.plays in
-    let one : outcomes ≡ found.1 = ap (λ (x : Played). x.outcomes) (one_play _ _ _ plays plays') in
-    not_other outcomes found.1 i found.4 one
-not_commit callers s cert outcomes _ same refuses commits = absurd refuses
+not_commit callers s cert outcomes (faults.Result i) same refuses found commits =
+    let other = refuses.1 in
+    let plays = plays_so s cert outcomes other.0 commits other.2 in
+    let plays' = other.3.plays in
+    let one : outcomes ≡ other.1 = ap (λ (x : Played). x.outcomes) (one_play _ _ _ plays plays') in
+    not_other outcomes other.1 i other.4 one
+not_commit callers s cert outcomes faults.Memory same refuses found commits = absurd (found refl)
+not_commit callers s cert outcomes _ same refuses found commits = absurd refuses

@@ -1,5 +1,5 @@
 -- An entry that is refused, for another cause than want of memory, doesn't follow.
-use Rattle.std.proofs.Common.{◌≡◌, ◌≢◌, ℕ, ◌<◌, false, sym, ◌∙◌, arith}
+use Rattle.std.proofs.Common.{◌≡◌, ◌≢◌, ℕ, ◌<◌, true, false, sym, ◌∙◌, arith}
 use Rattle.std.specs.List.{AllByRecursion}
 use Rattle.std.proofs.lemmas.Option.{slice_get_within}
 use Rattle.te_terms.specs.declared.event.Outcome.{Outcome}
@@ -14,7 +14,7 @@ use Rattle.te_history.specs.declared.status.Status.TheVariants as statuses
 use Rattle.te_history.specs.State.{Standing, idle, parked, given, ended, State, posts_by}
 use Rattle.te_history.specs.Follows.{Stands, IsParkedOrEnded, Ends, LooselyFollows, caller_of}
 use Rattle.te_history.specs.Histories.{History, now, HasStatus}
-use Rattle.te_history.specs.Refusals.{RefusesPost, RefusesWithdraw, RefusesTake, RefusesRest, RefusesStuck, RefusesEnd, RefusesEntry}
+use Rattle.te_history.specs.Refusals.{RefusesPost, RefusesWithdraw, RefusesTake, RefusesRest, RefusesStuck, RefusesEnd, RefusesEntry, IsEnd, IsRefused}
 use Rattle.te_history.proofs.AfterEntry.{length-state}
 use Rattle.te_history.proofs.Places.{by_place}
 use Rattle.te_history.proofs.RefusedCommits.{one_status, not_commit}
@@ -47,7 +47,7 @@ not_rest : (s : State) (fault : StepFault) → RefusesRest s fault → s.resting
 not_rest s faults.Resting refuses open_so = absurd cc
 not_rest s _ refuses open_so = absurd refuses
 
-parked_or_ended : (s : State) (t : ℕ) (status : Status) (standing : Standing) → Stands s t standing → HasStatus s t status → IsParkedOrEnded standing
+pub parked_or_ended : (s : State) (t : ℕ) (status : Status) (standing : Standing) → Stands s t standing → HasStatus s t status → IsParkedOrEnded standing
     → ((ticket : ℕ) → status ≢ statuses.Parked ticket) → status ≢ statuses.Ended → ⊥
 parked_or_ended s t status idle stands has so not_parked not_ended = absurd so
 parked_or_ended s t status (parked ticket event) stands has so not_parked not_ended = not_parked ticket (one_status s t (parked ticket event) status stands has)
@@ -75,15 +75,15 @@ not_end s by (ways.Raised value) _ refuses ends = absurd refuses
 
 -- ---- all entries
 
-pub not_entry : (h : History) (e : Entry) (fault : StepFault) → RefusesEntry h e fault → ¬ LooselyFollows h.callers h.entries e
-not_entry h (entries.Post by ticket event) fault refuses = λ follows. not_post (now h) (posts_by by h.entries) by ticket fault refuses follows.1 follows.2
-not_entry h (entries.Commit by cert outcomes) fault refuses =
-    λ follows. not_commit h.callers (now h) cert outcomes fault (length-state h.callers h.entries) refuses follows.2
-not_entry h (entries.Withdraw by ticket) fault refuses = λ follows. not_withdraw (now h) by ticket follows.1.0 fault refuses follows.1.1
-not_entry h (entries.Take by ticket outcome) fault refuses = λ follows. not_take (now h) by ticket outcome fault refuses follows.1
-not_entry h (entries.Rest by) fault refuses = λ follows. not_rest (now h) fault refuses follows.2
-not_entry h (entries.Stuck by) fault refuses = λ follows. not_stuck (now h) by follows.1.0 follows.1.1 fault refuses follows.1.2 follows.2
-not_entry h (entries.End by how) fault refuses = λ follows. not_end (now h) by how fault refuses follows
+pub not_entry : (h : History) (e : Entry) (fault : StepFault) → RefusesEntry h e fault → fault ≢ faults.Memory → ¬ LooselyFollows h.callers h.entries e
+not_entry h (entries.Post by ticket event) fault refuses found = λ follows. not_post (now h) (posts_by by h.entries) by ticket fault refuses follows.1 follows.2
+not_entry h (entries.Commit by cert outcomes) fault refuses found =
+    λ follows. not_commit h.callers (now h) cert outcomes fault (length-state h.callers h.entries) refuses found follows.2
+not_entry h (entries.Withdraw by ticket) fault refuses found = λ follows. not_withdraw (now h) by ticket follows.1.0 fault refuses follows.1.1
+not_entry h (entries.Take by ticket outcome) fault refuses found = λ follows. not_take (now h) by ticket outcome fault refuses follows.1
+not_entry h (entries.Rest by) fault refuses found = λ follows. not_rest (now h) fault refuses follows.2
+not_entry h (entries.Stuck by) fault refuses found = λ follows. not_stuck (now h) by follows.1.0 follows.1.1 fault refuses follows.1.2 follows.2
+not_entry h (entries.End by how) fault refuses found = λ follows. not_end (now h) by how fault refuses follows
 
 stands_low : (h : History) (t : ℕ) (standing : Standing) → Stands (now h) t standing → t < h.callers
 stands_low h t standing stands = omega (arith, slice_get_within (now h).callers t standing stands, length-state h.callers h.entries)
@@ -98,3 +98,18 @@ by_caller h (entries.Stuck by) follows = stands_low h by _ follows.1.2
 by_caller h (entries.End by (ways.Done values)) follows = stands_low h by _ follows.1
 by_caller h (entries.End by (ways.Raised value)) follows = stands_low h by _ follows.1
 by_caller h (entries.End by ways.Stuck) follows = stands_low h by _ follows.1.2
+
+no_closed : (h : History) (e : Entry) → (now h).stuck ≡ true → ¬ IsEnd e → ¬ LooselyFollows h.callers h.entries e
+no_closed h (entries.Post by ticket event) stuck no_end = λ follows. let runs = follows.0 in cc
+no_closed h (entries.Commit by cert outcomes) stuck no_end = λ follows. let runs = follows.0 in cc
+no_closed h (entries.Withdraw by ticket) stuck no_end = λ follows. let runs = follows.0 in cc
+no_closed h (entries.Take by ticket outcome) stuck no_end = λ follows. let runs = follows.0 in cc
+no_closed h (entries.Rest by) stuck no_end = λ follows. let runs = follows.0 in cc
+no_closed h (entries.Stuck by) stuck no_end = λ follows. let runs = follows.0 in cc
+no_closed h (entries.End by how) stuck no_end = absurd (no_end tt)
+
+-- what is refused, but for want of memory, doesn't follow
+pub refused_fails : (h : History) (e : Entry) (fault : StepFault) → IsRefused h e fault → fault ≢ faults.Memory → ¬ LooselyFollows h.callers h.entries e
+refused_fails h e faults.Caller refused found = λ follows. let low = by_caller h e follows in absurd (omega arith)
+refused_fails h e faults.Closed refused found = no_closed h e refused.1 refused.2
+refused_fails h e _ refused found = not_entry h e _ refused.2 found

@@ -12,7 +12,7 @@ use Rattle.te_history.specs.declared.entry.Entry.TheVariants as entries
 use Rattle.te_history.specs.declared.status.How.TheVariants as ways
 use Rattle.te_history.specs.State.{Standing, idle, parked, given, ended, State, with_standing, with_given, changed}
 use Rattle.te_history.specs.Follows.{Stands, AreEvents, Commits, Needs}
-use Rattle.te_history.specs.Room.{room_of, callers_room, one_unless, room}
+use Rattle.te_history.specs.Room.{room_of, callers_room, one_unless, room, claimed, freed}
 use Rattle.te_history.proofs.PlayLengths.{length-play}
 
 -- a caller that stands otherwise
@@ -26,7 +26,7 @@ room_set (c ∷ cs) (suc t) old new is = let rest = room_set cs t old new is in 
 
 -- ---- commits
 
-events_after : (s : State) (t : ℕ) (standing : Standing) (ms : List Member) (group : List steps.Member) → RiseAfter t ms → AreEvents s ms group
+pub events_after : (s : State) (t : ℕ) (standing : Standing) (ms : List Member) (group : List steps.Member) → RiseAfter t ms → AreEvents s ms group
     → AreEvents (with_standing t standing s) ms group
 events_after s t standing ms group rise events = go t ms group rise (omega arith) events
   where
@@ -39,7 +39,7 @@ events_after s t standing ms group rise events = go t ms group rise (omega arith
     go low [] (g ∷ gs) rises under are = absurd are
     go low (n ∷ ns) [] rises under are = absurd are
 
-rise_rest : (t : ℕ) (ms : List Member) → RiseAfter t ms → ThreadsRise ms
+pub rise_rest : (t : ℕ) (ms : List Member) → RiseAfter t ms → ThreadsRise ms
 rise_rest t [] rise = tt
 rise_rest t (m ∷ ms) rise = rise.1
 
@@ -56,7 +56,7 @@ room_given s (m ∷ ms) (g ∷ gs) (o ∷ os) rise events same =
 room_given s [] (g ∷ gs) os rise events same = absurd events
 room_given s (m ∷ ms) [] os rise events same = absurd events
 
-as_many_events : (s : State) (ms : List Member) (group : List steps.Member) → AreEvents s ms group → length group ≡ length ms
+pub as_many_events : (s : State) (ms : List Member) (group : List steps.Member) → AreEvents s ms group → length group ≡ length ms
 as_many_events s [] [] events = refl
 as_many_events s (m ∷ ms) (g ∷ gs) events = ap suc (as_many_events s ms gs events.2)
 as_many_events s [] (g ∷ gs) events = absurd events
@@ -66,12 +66,12 @@ some_there : (ms : List Member) → ms ≢ [] → 1 ≤ length ms
 some_there [] some = absurd (some refl)
 some_there (m ∷ ms) some = omega arith
 
-stuck_stays : (ms : List Member) (os : List Outcome) (s : State) → (with_given ms os s).stuck ≡ s.stuck
+pub stuck_stays : (ms : List Member) (os : List Outcome) (s : State) → (with_given ms os s).stuck ≡ s.stuck
 stuck_stays [] os s = refl
 stuck_stays (m ∷ ms) [] s = refl
 stuck_stays (m ∷ ms) (o ∷ os) s = stuck_stays ms os (with_standing m.thread (given m.ticket o) s)
 
-resting_stays : (ms : List Member) (os : List Outcome) (s : State) → (with_given ms os s).resting ≡ s.resting
+pub resting_stays : (ms : List Member) (os : List Outcome) (s : State) → (with_given ms os s).resting ≡ s.resting
 resting_stays [] os s = refl
 resting_stays (m ∷ ms) [] s = refl
 resting_stays (m ∷ ms) (o ∷ os) s = resting_stays ms os (with_standing m.thread (given m.ticket o) s)
@@ -123,3 +123,22 @@ room_after callers s posts (entries.End by ways.Stuck) needs other =
 pub room_posted : (callers : ℕ) (s : State) (posts by ticket : ℕ) (event : _) → Needs callers s posts (entries.Post by ticket event)
     → room (changed s (entries.Post by ticket event)) ≡ room s + 2
 room_posted callers s posts by ticket event needs = let here = room_restand s by idle (parked ticket event) needs.1 in omega (arith, here)
+
+-- exactly how the room goes by an entry
+pub room_exactly : (callers : ℕ) (s : State) (posts : ℕ) (e : Entry) → Needs callers s posts e → room (changed s e) + freed e ≡ room s + claimed e
+room_exactly callers s posts (entries.Post by ticket event) needs = let here = room_posted callers s posts by ticket event needs in omega (arith, here)
+room_exactly callers s posts (entries.Commit by cert outcomes) needs =
+    let commits = needs.2 in
+    let as_many : length outcomes ≡ length cert.members = length-play commits.group (map (λ (m : Member). m.choices) cert.members) cert.meets _ commits.plays
+    ∙ as_many_events s cert.members commits.group commits.events in
+    let given = room_given s cert.members commits.group outcomes commits.rise commits.events as_many in
+    omega (arith, given, ap one_unless (stuck_stays cert.members outcomes s), ap one_unless (resting_stays cert.members outcomes s))
+room_exactly callers s posts (entries.Withdraw by ticket) needs =
+    let here = room_restand s by (parked ticket needs.1.0) idle needs.1.1 in omega (arith, here)
+room_exactly callers s posts (entries.Take by ticket outcome) needs = let here = room_restand s by (given ticket outcome) idle needs.1 in omega (arith, here)
+room_exactly callers s posts (entries.Rest by) needs = let one : one_unless s.resting ≡ 1 = ap one_unless needs.2 in omega (arith, one)
+room_exactly callers s posts (entries.Stuck by) needs = let one : one_unless s.stuck ≡ 1 = ap one_unless needs.0 in omega (arith, one)
+room_exactly callers s posts (entries.End by (ways.Done values)) needs = let here = room_restand s by idle ended needs.1 in omega (arith, here)
+room_exactly callers s posts (entries.End by (ways.Raised value)) needs = let here = room_restand s by idle ended needs.1 in omega (arith, here)
+room_exactly callers s posts (entries.End by ways.Stuck) needs =
+    let here = room_restand s by (parked needs.1.0 needs.1.1) ended needs.1.2 in omega (arith, here)

@@ -4,4 +4,5 @@ pub mod Histories
 pub mod HistoryCode
 pub mod Refusals
 pub mod Room
+pub mod Givings
 pub mod Kept

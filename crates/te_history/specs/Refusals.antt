@@ -1,5 +1,5 @@
 -- Which need of an entry is the first that fails, as a refusal tells it. This project's own.
-use Rattle.std.specs.Prelude.{◌≡◌, ◌≢◌, ℕ, ◌<◌, ◌≤◌, true, false, List, [], ◌∷◌, Some, Err, slice_get}
+use Rattle.std.specs.Prelude.{◌≡◌, ◌≢◌, ℕ, ◌<◌, ◌≤◌, true, false, List, [], ◌∷◌, Some, Result, Ok, Err, slice_get}
 use Rattle.std.specs.List.{AllByRecursion}
 use Rattle.te_terms.specs.declared.event.Outcome.{Outcome}
 use Rattle.te_terms.specs.Terms.{Term}
@@ -17,7 +17,7 @@ use Rattle.te_history.specs.declared.status.How.TheVariants as ways
 use Rattle.te_history.specs.declared.status.Status.{Status}
 use Rattle.te_history.specs.declared.status.Status.TheVariants as statuses
 use Rattle.te_history.specs.State.{State, parked, posts_by}
-use Rattle.te_history.specs.Follows.{IsRunning, Stands, IsParkedOrEnded, caller_of}
+use Rattle.te_history.specs.Follows.{IsRunning, Stands, IsParkedOrEnded, LooselyFollows, caller_of}
 use Rattle.te_history.specs.Histories.{History, now, HasStatus}
 
 -- ---- posts, withdrawals, takes, rests and ends
@@ -113,17 +113,40 @@ abbrev pub IsUnsound : CertFault → StepFault → Type 0
 IsUnsound unsound.Memory fault = fault ≡ faults.Memory
 IsUnsound found fault = fault ≡ faults.Unsound found
 
+-- the members are in order, callers, and parked under their tickets
+pub record CanPlay (callers : ℕ) (s : State) (cert : Cert) : Type 0 where
+  pub order : HasOrder cert
+  pub callers_all : AreCallers callers cert.members
+  pub parked_all : AreAllParked s cert.members
+
+-- the play of the events that the members are parked with gives these outcomes
+pub record IsPlayed (s : State) (cert : Cert) (outcomes : List Outcome) : Type 0 where
+  pub order : HasOrder cert
+  pub events : List Term
+  pub parked_all : AreParked s cert.members events
+  pub gives : Gives cert events outcomes
+
+-- the first of these that fails
+abbrev pub RefusesMembers : ℕ → State → Cert → StepFault → Type 0
+RefusesMembers callers s cert (faults.Unsound fault) = IsOutOfOrder cert.members fault
+RefusesMembers callers s cert (faults.Stranger i) = HasOrder cert × IsFirstStranger callers cert.members i
+RefusesMembers callers s cert (faults.Stale i status) = HasOrder cert × AreCallers callers cert.members × IsFirstStale s cert.members i status
+RefusesMembers callers s cert _ = ⊥
+
+-- the play of the members, or the want of memory for it once they can play
+abbrev pub RefusesPlay : ℕ → State → Cert → StepFault → Type 0
+RefusesPlay callers s cert (faults.Unsound unsound.Empty) = IsOutOfOrder cert.members unsound.Empty
+RefusesPlay callers s cert (faults.Unsound unsound.Order) = IsOutOfOrder cert.members unsound.Order
+RefusesPlay callers s cert (faults.Unsound unsound.Memory) = ⊥
+RefusesPlay callers s cert (faults.Unsound fault) = (events : List Term) × AreParked s cert.members events × IsChecked cert events (Err fault)
+RefusesPlay callers s cert faults.Memory = CanPlay callers s cert
+RefusesPlay callers s cert fault = RefusesMembers callers s cert fault
+
 abbrev pub RefusesCommit : ℕ → State → Cert → List Outcome → StepFault → Type 0
-RefusesCommit callers s cert outcomes (faults.Unsound unsound.Empty) = IsOutOfOrder cert.members unsound.Empty
-RefusesCommit callers s cert outcomes (faults.Unsound unsound.Order) = IsOutOfOrder cert.members unsound.Order
-RefusesCommit callers s cert outcomes (faults.Unsound unsound.Memory) = ⊥
-RefusesCommit callers s cert outcomes (faults.Unsound fault) = (events : List Term) × AreParked s cert.members events × IsChecked cert events (Err fault)
-RefusesCommit callers s cert outcomes (faults.Stranger i) = HasOrder cert × IsFirstStranger callers cert.members i
-RefusesCommit callers s cert outcomes (faults.Stale i status) = HasOrder cert × AreCallers callers cert.members × IsFirstStale s cert.members i status
 RefusesCommit callers s cert outcomes (faults.Result i) =
     HasOrder cert × ((events : List Term) × (played : List Outcome) × AreParked s cert.members events × Gives cert events played × IsFirstOther outcomes
     played i)
-RefusesCommit callers s cert outcomes _ = ⊥
+RefusesCommit callers s cert outcomes fault = RefusesPlay callers s cert fault
 
 -- ---- all entries
 
@@ -146,14 +169,13 @@ RefusesEntry h (entries.Rest by) fault = RefusesRest (now h) fault
 RefusesEntry h (entries.Stuck by) fault = RefusesStuck (now h) by fault
 RefusesEntry h (entries.End by how) fault = RefusesEnd (now h) by how fault
 
--- of commits alone the check takes memory
-abbrev pub IsCommit : Entry → Type 0
-IsCommit (entries.Commit by cert outcomes) = Unit {0}
-IsCommit _ = ⊥
-
--- the first need that fails; want of memory tells of none
+-- the first need that fails; want of memory, which tells of none, comes of a commit alone whose members can play
 abbrev pub IsRefused : History → Entry → StepFault → Type 0
 IsRefused h e faults.Caller = h.callers ≤ caller_of e
 IsRefused h e faults.Closed = (caller_of e < h.callers) × ((now h).stuck ≡ true) × (¬ IsEnd e)
-IsRefused h e faults.Memory = (caller_of e < h.callers) × IsRunning (now h) × IsCommit e
 IsRefused h e fault = (caller_of e < h.callers) × IsOpenFor (now h) e × RefusesEntry h e fault
+
+-- what may be answered of an entry: that it follows, or a refusal
+abbrev pub IsAnswered : History → Entry → Result (Unit {0}) StepFault → Type 0
+IsAnswered h e (Ok done) = LooselyFollows h.callers h.entries e
+IsAnswered h e (Err fault) = IsRefused h e fault

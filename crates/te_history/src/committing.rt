@@ -1,15 +1,16 @@
 // Whether a commit may follow.
 
-ghost use Rattle.std.specs.Prelude.{ℕ, false, ◌≡◌, ◌≢◌, ◌↔◌, ◌⊎◌, ◌<◌, ◌≤◌, [], ◌∷◌, length, slice_get, IfOk, IfErr, IfSome, IfNone, IsTrue};
+ghost use Rattle.std.specs.Prelude.{ℕ, List, false, ◌≡◌, ◌≢◌, ◌↔◌, ◌⊎◌, ◌<◌, ◌≤◌, [], ◌∷◌, length, slice_get, IfOk, IfErr, IfSome, IfNone, IsTrue};
 ghost use Rattle.te_cert.specs.declared.cert.Member.{Member as Party};
 ghost use Rattle.te_cert.specs.declared.cert.CertFault.TheVariants as unsound;
-ghost use Rattle.te_cert.specs.Checks.{ThreadsRise};
+ghost use Rattle.te_terms.specs.Terms.{Term};
+ghost use Rattle.te_cert.specs.Checks.{ThreadsRise, Gives};
 ghost use Rattle.te_history.specs.declared.entry.StepFault.TheVariants as faults;
 ghost use Rattle.te_history.specs.declared.status.Status.{Status as Stance};
 ghost use Rattle.te_history.specs.declared.status.Status.TheVariants.{Parked};
 ghost use Rattle.te_history.specs.Histories.{now, HasStatus};
 ghost use Rattle.te_history.specs.Follows.{Commits};
-ghost use Rattle.te_history.specs.Refusals.{AreCallers, AreAllParked, AreParked, IsFirstStranger, IsFirstStale, IsFirstOther, RefusesCommit, IsUnordered, IsUnsound};
+ghost use Rattle.te_history.specs.Refusals.{AreCallers, AreAllParked, AreParked, IsFirstStranger, IsFirstStale, IsFirstOther, CanPlay, IsPlayed, RefusesMembers, RefusesPlay, RefusesCommit, IsUnordered, IsUnsound};
 
 use crate::entry::StepFault;
 use crate::history::Hist;
@@ -17,7 +18,7 @@ use crate::same::is_same;
 use crate::status::Status;
 use std::alloc::Global;
 use te_cert::{Cert, CertFault, Member, check};
-use te_terms::{Event, NoMemory, Outcome};
+use te_terms::{Event, NoMemory, Outcome, Rows};
 
 fn rises(members: &[Member]) -> bool
     ensures { IsTrue result ↔ ThreadsRise members.now }
@@ -125,6 +126,63 @@ fn unsound(fault: CertFault) -> StepFault
     }
 }
 
+// Whether the members of a certificate can play: whether they are in order, callers, and parked under their tickets.
+fn can_play(hist: &Hist, cert: &Cert) -> Result<(), StepFault>
+    ensures ok { IfOk result (λ _. CanPlay hist.now.callers (now hist.now) cert.now) }
+    ensures few { IfOk result (λ _. hist.now.callers ≤ 64) }
+    ensures refused { IfErr result (λ fault. RefusesMembers hist.now.callers (now hist.now) cert.now fault) }
+{
+    // The checker knows the types within a fault only where the body names them.
+    let _named: Option<(Status, Outcome)> = None;
+    let members = cert.members.as_slice();
+    ordered(members)?;
+    are_callers(members, hist.callers())?;
+    are_parked(hist, members)
+}
+
+/// The outcomes of a commit of this certificate, by one play, in order of the members: a commit by a caller with these
+/// outcomes follows a history, on a running board.
+///
+/// The refusals are those of such a commit but `Result`, in the same order: `Unsound` of `Empty`, then of `Order`;
+/// `Stranger`; `Stale`; `Unsound` of what else the check finds, which is never want of memory. `Memory` is want of
+/// memory, which comes once the members are known to be parked. Nothing is changed. This project's own.
+#[doc(hidden)]
+pub fn play_commit(alloc: Global, hist: &Hist, cert: &Cert) -> Result<Rows<Outcome>, StepFault>
+    ensures ok { IfOk result (λ outcomes. Commits (now hist.now) cert.now outcomes) }
+    ensures played { IfOk result (λ outcomes. IsPlayed (now hist.now) cert.now outcomes) }
+    ensures few { IfOk result (λ outcomes. length outcomes ≤ 64) }
+    ensures refused { IfErr result (λ fault. RefusesPlay hist.now.callers (now hist.now) cert.now fault) }
+{
+    match can_play(hist, cert) {
+        Ok(()) => {}
+        Err(fault) => return Err(fault),
+    }
+    let Ok(events) = events_of(alloc, hist, cert.members.as_slice()) else {
+        return Err(StepFault::Memory);
+    };
+    match check(alloc, cert, &events) {
+        Ok(played) => Ok(played),
+        Err(fault) => Err(unsound(fault)),
+    }
+}
+
+/// Whether a commit by a caller of this certificate with these outcomes follows a history, on a running board, where the
+/// outcomes are known to be those of its play. It plays nothing and takes no memory. Condition: the play of the
+/// certificate on the events that its members are parked with gives the outcomes.
+///
+/// The refusals are those of such a commit that come before its play, in the same order: `Unsound` of `Empty`, then of
+/// `Order`; `Stranger`; `Stale`. Nothing is changed. This project's own.
+#[doc(hidden)]
+pub fn may_commit_played(hist: &Hist, cert: &Cert, outcomes: &[Outcome]) -> Result<(), StepFault>
+    requires plays { (events : List Term) → AreParked (now hist.now) cert.now.members events → Gives cert.now events outcomes.now }
+    ensures ok { IfOk result (λ _. Commits (now hist.now) cert.now outcomes.now) }
+    ensures refused { IfErr result (λ fault. RefusesMembers hist.now.callers (now hist.now) cert.now fault) }
+{
+    // The outcomes are read by the contract alone.
+    let _ = outcomes;
+    can_play(hist, cert)
+}
+
 /// Whether a commit of this certificate with these outcomes follows a history, on a running board.
 pub(crate) fn may_commit(
     alloc: Global,
@@ -133,19 +191,9 @@ pub(crate) fn may_commit(
     outcomes: &[Outcome],
 ) -> Result<(), StepFault>
     ensures ok { IfOk result (λ _. Commits (now hist.now) cert.now outcomes.now) }
-    ensures refused { IfErr result (λ fault. (fault ≡ faults.Memory) ⊎ RefusesCommit hist.now.callers (now hist.now) cert.now outcomes.now fault) }
+    ensures refused { IfErr result (λ fault. RefusesCommit hist.now.callers (now hist.now) cert.now outcomes.now fault) }
 {
-    let members = cert.members.as_slice();
-    ordered(members)?;
-    are_callers(members, hist.callers())?;
-    are_parked(hist, members)?;
-    let Ok(events) = events_of(alloc, hist, members) else {
-        return Err(StepFault::Memory);
-    };
-    let played = match check(alloc, cert, &events) {
-        Ok(played) => played,
-        Err(fault) => return Err(unsound(fault)),
-    };
+    let played = play_commit(alloc, hist, cert)?;
     match first_other(outcomes, played.as_slice()) {
         Some(i) => Err(StepFault::Result(i as u32)),
         None => Ok(()),

@@ -1,10 +1,12 @@
-ghost use Rattle.std.specs.Prelude.{◌≡◌, ◌↔◌, IsTrue};
+ghost use Rattle.std.specs.Prelude.{◌≡◌, ◌↔◌, IfOk, IsTrue};
 ghost use Rattle.te_history.specs.Follows.{caller_of};
 ghost use Rattle.te_history.specs.Refusals.{IsEnd};
 
+use crate::copying::{copy_cert, copy_rows};
 use crate::status::{How, Status};
+use std::alloc::Global;
 use te_cert::{Cert, CertFault};
-use te_terms::{Event, Outcome, Rows};
+use te_terms::{Event, NoMemory, Outcome, Rows};
 
 /// One entry of a history; `by` is the thread that appends it, from 0, and a ticket is the number of a thread's earlier
 /// posts. Entries are this project's own.
@@ -49,6 +51,44 @@ pub enum Entry {
 }
 
 impl Entry {
+    /// The same entry once more; an event's code is shared. The one refusal is want of memory.
+    pub fn copy(&self, alloc: Global) -> Result<Entry, NoMemory>
+        ensures { IfOk result (λ entry. entry ≡ self.now) }
+    {
+        let entry = match self {
+            Entry::Post { by, ticket, event } => Entry::Post {
+                by: *by,
+                ticket: *ticket,
+                event: event.copy()?,
+            },
+            Entry::Commit { by, cert, outcomes } => Entry::Commit {
+                by: *by,
+                cert: copy_cert(alloc, cert)?,
+                outcomes: copy_rows(alloc, outcomes.as_slice())?,
+            },
+            Entry::Withdraw { by, ticket } => Entry::Withdraw {
+                by: *by,
+                ticket: *ticket,
+            },
+            Entry::Take {
+                by,
+                ticket,
+                outcome,
+            } => Entry::Take {
+                by: *by,
+                ticket: *ticket,
+                outcome: *outcome,
+            },
+            Entry::Rest { by } => Entry::Rest { by: *by },
+            Entry::Stuck { by } => Entry::Stuck { by: *by },
+            Entry::End { by, how } => Entry::End {
+                by: *by,
+                how: how.copy(alloc)?,
+            },
+        };
+        Ok(entry)
+    }
+
     /// The thread that appends it.
     pub(crate) fn caller(&self) -> u32
         ensures { result ≡ caller_of self.now }

@@ -111,8 +111,10 @@ fn may_end(hist: &Hist, by: u32, how: &How) -> Result<(), StepFault>
     }
 }
 
-// The lowest caller that is neither parked nor ended, and its status.
-fn first_live(hist: &Hist) -> Option<(u32, Status)>
+/// The lowest caller that is neither parked nor ended, and its status; `None` where there is none. A declaration that the
+/// board is stuck asks for none. It takes no memory. This project's own.
+#[doc(hidden)]
+pub fn first_live(hist: &Hist) -> Option<(u32, Status)>
     ensures some { IfSome result (λ found. IsFirstLive (now hist.now) found.0 found.1) }
     ensures none { IfNone result (AllByRecursion IsParkedOrEnded (now hist.now).callers) }
 {

@@ -118,16 +118,20 @@ impl Hist {
         self.seats[t as usize].status
     }
 
-    /// How often a caller has posted.
-    pub(crate) fn posts(&self, t: u32) -> u32
+    /// The ticket of a caller's next post, which is how often it has posted. Condition: `t` is below the number of callers.
+    /// It takes constant time.
+    #[doc(hidden)]
+    pub fn posts(&self, t: u32) -> u32
         requires { t < self.now.callers }
         ensures { result ≡ posts_by t self.now.entries }
     {
         self.seats[t as usize].posts
     }
 
-    /// The event that a caller is parked with.
-    pub(crate) fn parked_event(&self, t: u32) -> &Event
+    /// The event that a caller is parked with, where it lies among the entries. Condition: the caller is parked. It takes
+    /// constant time.
+    #[doc(hidden)]
+    pub fn parked_event(&self, t: u32) -> &Event
         requires { (ticket : ℕ) × HasStatus (now self.now) t (Parked ticket) }
         ensures { (ticket : ℕ) → HasStatus (now self.now) t (Parked ticket) → Stands (now self.now) t (parked ticket result.now) }
     {

@@ -1,4 +1,8 @@
-use te_terms::{Outcome, Rows, Value};
+ghost use Rattle.std.specs.Prelude.{◌≡◌, IfOk};
+
+use crate::copying::copy_rows;
+use std::alloc::Global;
+use te_terms::{NoMemory, Outcome, Rows, Value};
 
 /// How a thread ends. This project's own.
 #[derive(Drop)]
@@ -9,6 +13,19 @@ pub enum How {
     Raised(Value),
     /// In a synchronisation that no group can complete.
     Stuck,
+}
+
+impl How {
+    // The same way once more.
+    pub(crate) fn copy(&self, alloc: Global) -> Result<How, NoMemory>
+        ensures { IfOk result (λ how. how ≡ self.now) }
+    {
+        match self {
+            How::Done(values) => Ok(How::Done(copy_rows(alloc, values.as_slice())?)),
+            How::Raised(value) => Ok(How::Raised(*value)),
+            How::Stuck => Ok(How::Stuck),
+        }
+    }
 }
 
 /// Where a caller stands. This project's own.

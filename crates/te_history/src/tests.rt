@@ -191,6 +191,82 @@ fn an_exchange_follows(rt: HostRuntime) -> Result<(), Fail> {
     Ok(())
 }
 
+// The ticket of a caller's next post.
+fn next_ticket(hist: &Hist, t: u32) -> Option<u32> {
+    if t < hist.callers() {
+        Some(hist.posts(t))
+    } else {
+        None
+    }
+}
+
+// Whether a caller is parked with this event.
+fn is_parked_with(hist: &Hist, t: u32, event: &Event) -> bool {
+    if t >= hist.callers() {
+        return false;
+    }
+    match hist.status(t) {
+        Status::Parked(_) => hist.parked_event(t).same(event),
+        _ => false,
+    }
+}
+
+// A copy of the entry follows where the entry does, and is appended.
+fn append_copy(alloc: Global, hist: &mut Hist, entry: Entry) -> Result<(), Fail> {
+    let copy = entry.copy(alloc)?;
+    append(alloc, hist, copy)
+}
+
+#[test]
+fn copies_of_entries_make_the_same_history(rt: HostRuntime) -> Result<(), Fail> {
+    let alloc = rt.alloc();
+    let mut hist = Hist::new(alloc, 2)?;
+    append_copy(alloc, &mut hist, post(0, 0, sends(alloc)?))?;
+    append_copy(alloc, &mut hist, post(1, 0, receives(alloc)?))?;
+    append_copy(alloc, &mut hist, Entry::Withdraw { by: 1, ticket: 0 })?;
+    append_copy(alloc, &mut hist, post(1, 1, receives(alloc)?))?;
+    let met = Meeting {
+        sender: 0,
+        receiver: 1,
+    };
+    let outcomes = [gives_nothing(), gives_seven()];
+    let entry = commit(alloc, &[(0, 0), (1, 1)], Some(met), &outcomes)?;
+    append_copy(alloc, &mut hist, entry)?;
+    append_copy(alloc, &mut hist, take(0, 0, gives_nothing()))?;
+    append_copy(alloc, &mut hist, take(1, 1, gives_seven()))?;
+    append_copy(alloc, &mut hist, Entry::Rest { by: 0 })?;
+    append_copy(alloc, &mut hist, done(alloc, 0))?;
+    append_copy(alloc, &mut hist, raised(1))?;
+    assert_eq!(rt; hist.len(), 10);
+    assert!(rt; hist.resting());
+    assert_eq!(rt; status(&hist, 1), Some(Status::Ended));
+    let mut hist = stuck(alloc)?;
+    append_copy(alloc, &mut hist, ends_stuck(0))?;
+    assert_eq!(rt; hist.phase(), Phase::Stuck);
+    Ok(())
+}
+
+#[test]
+fn a_commit_is_played_once(rt: HostRuntime) -> Result<(), Fail> {
+    let alloc = rt.alloc();
+    let mut hist = posted(alloc)?;
+    assert_eq!(rt; next_ticket(&hist, 1), Some(1));
+    assert!(rt; is_parked_with(&hist, 1, &receives(alloc)?));
+    assert!(rt; !is_parked_with(&hist, 1, &sends(alloc)?));
+    let Entry::Commit { cert, .. } = exchange(alloc, gives_nothing())? else {
+        return Err("a commit".into());
+    };
+    let Ok(outcomes) = play_commit(alloc, &hist, &cert) else {
+        return Err("a play".into());
+    };
+    let want = [gives_nothing(), gives_seven()];
+    assert!(rt; outcomes.as_slice() == want.as_slice());
+    append(alloc, &mut hist, Entry::Withdraw { by: 1, ticket: 0 })?;
+    let stale = StepFault::Stale(1, Status::Idle);
+    assert_eq!(rt; play_commit(alloc, &hist, &cert).err(), Some(stale));
+    Ok(())
+}
+
 #[test]
 fn a_caller_stands_as_its_entries_say(rt: HostRuntime) -> Result<(), Fail> {
     let alloc = rt.alloc();

@@ -8,6 +8,7 @@ use lib.ListN.{get_elem?}
 use Rattle.atomic_table.specs.Table.{State, Me, Act, keeps, takes, Allows, Valid, stepped, carried_after}
 use Rattle.te_lock.specs.declared.view.View.{View}
 use Rattle.te_lock.specs.declared.view.Role.TheVariants.{Caller, Spent}
+use Rattle.te_lock.specs.Entries.{entries_by}
 use Rattle.te_lock.specs.Rule.{Sees, IsSo, IsFree, IsHeld, IsKept, taken, looked, Asked}
 use Rattle.te_lock.proofs.Bits.{or_one-even, or_one-odd}
 use Rattle.te_lock.proofs.Beginnings.{prefix_self}
@@ -86,6 +87,10 @@ module _ {V E : Type 0} (entries : V → List E) (members : V → ℕ) (author :
           law = subst (λ n. lawful n list) (sym (mine.number live)) (subst (lawful callers) (sym f.list) h.law);
           sees = subst (λ l. Sees author l me.0) (sym f.list) mine.sees;
           looks = subst (λ l. All (λ word. word / 2 ≤ length l) me.0.looks) (sym f.list) mine.looks;
+          unmade = λ j above.
+              let most = h.most in
+              let number = mine.number live in
+              subst (λ l. entries_by author j l ≡ []) (sym f.list) (h.unmade j (omega arith));
         },
       )
 

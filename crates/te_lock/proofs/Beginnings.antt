@@ -1,11 +1,22 @@
 -- Lists that begin with one another, and the entries of one caller in them.
-use Rattle.std.proofs.Common.{◌≡◌, ◌≢◌, ◌⊎◌, ℕ, ◌<◌, ◌≤◌, eqb, cond, List, [], ◌∷◌, ◌++◌, length, drop, refl, sym, ap, ◌∙◌, ⊎_elim, inl, inr, arith, append_assoc, length-append, ne_eqb, eq-eqb}
+use Rattle.std.proofs.Common.{◌≡◌, ◌≢◌, ◌⊎◌, ℕ, ◌<◌, ◌≤◌, eqb, cond, Bool, true, false, List, [], ◌∷◌, ◌++◌, length, drop, refl, sym, ap, ◌∙◌, subst, ⊎_elim, inl, inr, arith, append_assoc, length-append, ne_eqb, eq-eqb}
 use Rattle.std.specs.Prelude.{All}
 use Rattle.std.proofs.lemmas.List.{append-nil}
 use Rattle.std.proofs.lemmas.Bool.{cases_lt, lt-ltb, le-ltb}
-use Rattle.std.proofs.lemmas.List.Elements.{All-head, All-tail, filter-append}
+use Rattle.std.proofs.lemmas.List.Elements.{All-nil, All-cons, All-head, All-tail, filter-append}
 use mathlib.Core.List.{IsPrefix}
 use Rattle.te_lock.specs.Entries.{entries_by, longer}
+use Rattle.te_lock.specs.Rule.{read_after}
+
+-- a fact of all elements of two lists, one after the other
+module _ {A : Type 0} (P : A → Type 0) where
+  pub all_front : (xs ys : List A) → All P (xs ++ ys) → All P xs
+  all_front [] ys h = All-nil P
+  all_front (x ∷ xs) ys h = All-cons P x xs (All-head P x (xs ++ ys) h) (all_front xs ys (All-tail P x (xs ++ ys) h))
+
+  pub all_back : (xs ys : List A) → All P (xs ++ ys) → All P ys
+  all_back [] ys h = h
+  all_back (x ∷ xs) ys h = all_back xs ys (All-tail P x (xs ++ ys) h)
 
 module _ {E : Type 0} where
   pub prefix_self : (xs : List E) → IsPrefix xs xs
@@ -52,3 +63,16 @@ longer_cases xs ys =
     (λ (t : length xs < length ys). inr (ap (λ b. cond b ys xs) (lt-ltb (length xs) (length ys) t), t))
     (λ (t : length ys ≤ length xs). inl (ap (λ b. cond b ys xs) (le-ltb (length xs) (length ys) t), t))
     (cases_lt (length xs) (length ys))
+
+-- a list that is no shorter than the other is the longer
+pub longer_first : {E : Type 0} (xs ys : List E) → length ys ≤ length xs → longer xs ys ≡ xs
+longer_first xs ys le = ap (λ b. cond b ys xs) (le-ltb (length xs) (length ys) le)
+
+-- what is read after a join is one of the two lists
+pub read_by : {E : Type 0} (P : List E → Type 0) (turn : Bool) (xs ys : List E) → P xs → P ys → P (read_after turn xs ys)
+read_by P true xs ys p q = p
+read_by P false xs ys p q =
+    ⊎_elim
+    (λ (t : (longer xs ys ≡ xs) × (length ys ≤ length xs)). subst P (sym t.0) p)
+    (λ (t : (longer xs ys ≡ ys) × (length xs < length ys)). subst P (sym t.0) q)
+    (longer_cases xs ys)

@@ -1,8 +1,8 @@
 -- What a view has of the passes that were joined into it, and what the value is in the end.
-use Rattle.std.proofs.Common.{◌≡◌, ℕ, ◌<◌, false, true≢false, List, [], ◌∷◌, ◌++◌, length, map, Option, Some, sym, ap, ◌∙◌, subst, ⊎_elim, inl, append_assoc, arith}
+use Rattle.std.proofs.Common.{◌≡◌, ℕ, ◌<◌, ◌≤◌, false, true≢false, List, [], ◌∷◌, ◌++◌, length, map, Option, Some, sym, ap, ◌∙◌, subst, ⊎_elim, inl, append_assoc, arith}
 use Rattle.std.specs.Prelude.{All, Contains}
 use Rattle.std.proofs.lemmas.List.{length-map}
-use Rattle.std.proofs.lemmas.List.Elements.{All-nil, All-cons, All-head, All-tail, All-map, All-contains}
+use Rattle.std.proofs.lemmas.List.Elements.{All-head, All-tail, All-map, All-contains}
 use mathlib.Core.Option.{some, some-injective}
 use mathlib.Core.List.{IsPrefix}
 use lib.ListN.{get_elem?}
@@ -15,17 +15,9 @@ use Rattle.te_lock.specs.Gathered.{HasAllOf}
 use Rattle.te_lock.specs.Lock.{Knowledge}
 use Rattle.te_lock.specs.Passes.{knowledge}
 use Rattle.te_lock.specs.Rule.{Stands, Sees, IsFree, IsHeld, IsKept, closes_of, joined}
+use Rattle.te_lock.proofs.Beginnings.{all_front, all_back}
 use Rattle.te_lock.proofs.Numbers.{all_closes_of_back, stays_joined, taken_in}
 use Rattle.te_lock.proofs.OneView.{one_at}
-
-module _ {A : Type 0} (P : A → Type 0) where
-  pub all_front : (xs ys : List A) → All P (xs ++ ys) → All P xs
-  all_front [] ys h = All-nil P
-  all_front (x ∷ xs) ys h = All-cons P x xs (All-head P x (xs ++ ys) h) (all_front xs ys (All-tail P x (xs ++ ys) h))
-
-  pub all_back : (xs ys : List A) → All P (xs ++ ys) → All P ys
-  all_back [] ys h = h
-  all_back (x ∷ xs) ys h = all_back xs ys (All-tail P x (xs ++ ys) h)
 
 module _ {E : Type 0} (author : E → ℕ) where
   -- the view of a pass has all that the pass knows
@@ -77,6 +69,7 @@ module _ {V E : Type 0} (entries : V → List E) (members : V → ℕ) (author :
   -- where every caller number stands in one view without the turn, the value is at home, and all that the view says is so of its list
   pub ends : (callers id : ℕ) (v : View E) (s : State (Option V) (View E)) → IsKept entries members author lawful callers s → get_elem? s.views id ≡ some v → v.has_turn ≡ false → ((k : ℕ) → k < callers → Stands k v)
       → (value : V) × (get_elem? s.homes 0 ≡ some (some (Some value))) × (members value ≡ callers) × lawful callers (entries value) × Sees author (entries value) v
+      × ((k : ℕ) → callers ≤ k → entries_by author k (entries value) ≡ [])
   ends callers id v s h at idle everyone =
       ⊎_elim
       (λ (f : IsFree entries members callers h.log s). (
@@ -85,6 +78,7 @@ module _ {V E : Type 0} (entries : V → List E) (members : V → ℕ) (author :
         f.number,
         subst (lawful callers) (sym f.list) h.law,
         subst (λ l. Sees author l v) (sym f.list) (h.views id v at).sees,
+        λ k above. let most = h.most in subst (λ l. entries_by author k l ≡ []) (sym f.list) (h.unmade k (omega arith)),
       ))
       (λ (f : IsHeld h.log s).
       let holder = h.views f.one.seat f.one.holder f.one.there in
@@ -103,6 +97,7 @@ pub record IsLast {V E : Type 0} (entries : V → List E) (members : V → ℕ) 
   pub number : members value ≡ callers
   pub law : lawful callers (entries value)
   pub sees : Sees author (entries value) v
+  pub unmade : (k : ℕ) → callers ≤ k → entries_by author k (entries value) ≡ []
 
 module _ {V E : Type 0} (entries : V → List E) (members : V → ℕ) (author : E → ℕ) (lawful : ℕ → List E → Type 0) where
   pub last_slot : (callers id : ℕ) (v : View E) (words : List ℕ) (slots : List (Option V)) (slot : Option V) → Final (Seen (IsKept entries members author lawful callers) id v) words slots → v.has_turn ≡ false → ((k : ℕ) → k < callers → Stands k v)
@@ -114,6 +109,7 @@ module _ {V E : Type 0} (entries : V → List E) (members : V → ℕ) (author :
         number = e.2;
         law = e.3;
         sees = e.4;
+        unmade = e.5;
       }
 
 -- passes that are taken from the end of a list

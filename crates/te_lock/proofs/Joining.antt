@@ -1,5 +1,5 @@
 -- The step that joins two views keeps the rule.
-use Rattle.std.proofs.Common.{◌≡◌, ◌≢◌, ◌⊎◌, ℕ, ◌/◌, ◌<◌, ◌≤◌, true, false, true≢false, List, [], ◌∷◌, ◌++◌, length, set, refl, sym, ap, ◌∙◌, subst, ⊎_elim, inl, inr, arith}
+use Rattle.std.proofs.Common.{◌≡◌, ◌≢◌, ◌⊎◌, ℕ, ◌/◌, ◌<◌, ◌≤◌, true, false, true≢false, List, [], ◌∷◌, ◌++◌, length, max, set, refl, sym, ap, ◌∙◌, subst, ⊎_elim, inl, inr, arith}
 use Rattle.std.proofs.lemmas.List.Elements.{All-nil, All-cons, All-append}
 use mathlib.Core.Option.{some}
 use mathlib.Core.List.{IsPrefix}
@@ -10,9 +10,9 @@ use Rattle.atomic_table.specs.Table.{Joins}
 use Rattle.atomic_table.proofs.Lists.{set_else}
 use Rattle.te_lock.specs.declared.view.View.{View}
 use Rattle.te_lock.specs.declared.view.Role.TheVariants.{Maker, Caller, Spent}
-use Rattle.te_lock.specs.Entries.{entries_by, longer}
-use Rattle.te_lock.specs.Rule.{Stands, Closes, StandOnce, Sees, IsSo, IsKept, joined, spent}
-use Rattle.te_lock.proofs.Beginnings.{prefix_nil, prefix_length, longer_cases}
+use Rattle.te_lock.specs.Entries.{entries_by}
+use Rattle.te_lock.specs.Rule.{Stands, Closes, StandOnce, Sees, IsSo, IsKept, joined, read_after, spent}
+use Rattle.te_lock.proofs.Beginnings.{prefix_nil, read_by}
 use Rattle.te_lock.proofs.Numbers.{closes_none, all_closes_of, stays_joined, taken_in, joined_cases}
 use Rattle.te_lock.proofs.OneView.{set_at, one_at, each_set, still_there}
 use Rattle.te_lock.proofs.Changing.{turn_stays, maker_stays, holder_stays, nobody_stays}
@@ -90,10 +90,7 @@ module _ {E : Type 0} (views : List (View E)) (id other : ℕ) (v u : View E) (a
 module _ {E : Type 0} (author : E → ℕ) (log : List E) (v u : View E) where
   pub sees_joined : Sees author log v → Sees author log u → Sees author log (joined v u)
   sees_joined a b = record {
-    read = ⊎_elim
-        (λ (t : (longer v.read u.read ≡ v.read) × (length u.read ≤ length v.read)). subst (λ l. IsPrefix l log) (sym t.0) a.read)
-        (λ (t : (longer v.read u.read ≡ u.read) × (length v.read < length u.read)). subst (λ l. IsPrefix l log) (sym t.0) b.read)
-        (longer_cases v.read u.read);
+    read = read_by (λ l. IsPrefix l log) v.has_turn v.read u.read a.read b.read;
     known =
         let P : List E → Type 0 = λ l. IsPrefix l log in
         All-append P (v.known ++ u.known) (v.read ∷ u.read ∷ []) (All-append P v.known u.known a.known b.known) (All-cons P v.read (u.read ∷ []) a.read (All-cons P u.read [] b.read (All-nil P)));
@@ -114,13 +111,7 @@ module _ {V E : Type 0} (entries : V → List E) (members : V → ℕ) (author :
       let its : IsSo author callers h.count h.log u = h.views other u there in
       let mid = set s.views id w in
       let whole : v.has_turn ≡ true → v.read ≡ h.log → w.read ≡ h.log =
-      λ _ all.
-      let short = prefix_length u.read h.log its.sees.read in
-      let size = ap length all in
-      ⊎_elim
-      (λ (t : (longer v.read u.read ≡ v.read) × (length u.read ≤ length v.read)). t.0 ∙ all)
-      (λ (t : (longer v.read u.read ≡ u.read) × (length v.read < length u.read)). absurd (let less = t.1 in omega arith))
-      (longer_cases v.read u.read) in
+      λ turn all. ap (λ b. read_after b v.read u.read) turn ∙ all in
       let spent_idle : (spent {E = E}).has_turn ≡ u.has_turn = sym idle in
       record {
         log = h.log;
@@ -151,10 +142,7 @@ module _ {V E : Type 0} (entries : V → List E) (members : V → ℕ) (author :
               behind =
                   let m = mine.behind in
                   let n = its.behind in
-                  ⊎_elim
-                  (λ (t : (longer v.read u.read ≡ v.read) × (length u.read ≤ length v.read)). let size = ap length t.0 in omega arith)
-                  (λ (t : (longer v.read u.read ≡ u.read) × (length v.read < length u.read)). let size = ap length t.0 in omega arith)
-                  (longer_cases v.read u.read);
+                  read_by (λ l. length l ≤ max v.front u.front) v.has_turn v.read u.read (omega arith) (omega arith);
               made = λ j r. ⊎_elim (λ a. mine.made j a) (λ b. its.made j b) (joined_cases j v u r);
               number = mine.number;
               turn = mine.turn;

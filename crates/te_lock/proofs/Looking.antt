@@ -1,13 +1,15 @@
 -- A look at the word keeps the rule.
-use Rattle.std.proofs.Common.{◌≡◌, ℕ, ◌/◌, ◌≤◌, false, List, ◌∷◌, [], length, set, Option, refl, sym, ap, ◌∙◌, subst, ⊎_elim, arith}
-use Rattle.std.specs.Prelude.{slice_index, slice_set}
+use Rattle.std.proofs.Common.{◌≡◌, ℕ, ◌/◌, ◌≤◌, true, false, true≢false, List, ◌∷◌, [], length, set, Option, refl, sym, ap, ◌∙◌, subst, ⊎_elim, arith}
+use Rattle.std.specs.Prelude.{All, slice_index, slice_set}
 use Rattle.std.proofs.lemmas.List.Elements.{All-push, All-weaker}
 use mathlib.Core.Option.{some}
+use mathlib.Core.List.{IsPrefix}
 use lib.ListN.{get_elem?}
 use Rattle.atomic_table.specs.Table.{State, Me, keeps, Allows, stepped}
+use Rattle.atomic_table.proofs.Lists.{set_again}
 use Rattle.te_lock.specs.declared.view.View.{View}
-use Rattle.te_lock.specs.Rule.{IsSo, IsFree, IsHeld, IsKept, looked, Looks}
-use Rattle.te_lock.proofs.OneView.{each_set}
+use Rattle.te_lock.specs.Rule.{IsSo, IsFree, IsHeld, IsKept, looked, Looks, Confirms}
+use Rattle.te_lock.proofs.OneView.{one_at, each_set}
 use Rattle.te_lock.proofs.Changing.{turn_stays, maker_stays, numbers_stay, holder_stays, nobody_stays}
 
 module _ {V E : Type 0} (entries : V → List E) (members : V → ℕ) (author : E → ℕ) (lawful : ℕ → List E → Type 0) where
@@ -82,3 +84,32 @@ module _ {V E : Type 0} (entries : V → List E) (members : V → ℕ) (author :
       let stays : slice_set s.words 0 found ≡ s.words = ⊎_elim (λ (f : IsFree entries members callers h.log s). word_stays s.words _ f.word) (λ (f : IsHeld h.log s). word_stays s.words _ f.word) h.turn in
       let step = looks_at callers id me idle s h at found found half stays in
       (looked found me.0, keeps, tt, step.0, step.1)
+
+  -- a look that changes nothing: the holder has read the whole history, which every list that it knows begins
+  pub confirms : (callers slots id : ℕ) (me : Me (Option V) (View E))
+      → Allows (IsKept entries members author lawful callers) slots id me 0 (λ n. n) (λ _ after. Confirms me after)
+  confirms callers slots id me s h _ at _ =
+      let found = slice_index s.words 0 in
+      let stays : slice_set s.words 0 found ≡ s.words =
+      ⊎_elim (λ (f : IsFree entries members callers h.log s). word_stays s.words _ f.word) (λ (f : IsHeld h.log s). word_stays s.words _ f.word) h.turn in
+      let mine : IsSo author callers h.count h.log me.0 = h.views id me.0 at in
+      let whole : me.0.has_turn ≡ true → me.0.read ≡ h.log = λ turn.
+      ⊎_elim
+      (λ (f : IsFree entries members callers h.log s). absurd (true≢false (sym turn ∙ f.nobody id me.0 at)))
+      (λ (f : IsHeld h.log s).
+      let here : id ≡ f.one.seat = f.one.alone id me.0 at turn in
+      let same : f.one.holder ≡ me.0 = one_at s.views f.one.seat f.one.holder me.0 f.one.there (ap (λ i. get_elem? s.views i) (sym here) ∙ at) in
+      ap (λ v. v.read) (sym same) ∙ f.one.whole)
+      h.turn in (
+        me.0,
+        keeps,
+        tt,
+        subst
+            (λ words. IsKept entries members author lawful callers (record { words = words; homes = s.homes; views = set s.views id me.0 }))
+            (sym stays)
+            (subst
+            (λ views. IsKept entries members author lawful callers (record { words = s.words; homes = s.homes; views = views }))
+            (sym (set_again s.views id me.0 at))
+            h),
+        record { same = refl; whole = λ turn. subst (λ l. All (λ list. IsPrefix list l) me.0.known) (sym (whole turn)) mine.sees.known },
+      )

@@ -1,8 +1,9 @@
 -- The rule that every step at the lock's table keeps, and the steps by name.
 -- The table has one word, which is twice the length of the history, plus 1 while the turn is held, and one slot, which has
 -- the value. A view changes only at a step on the word.
--- There are nine kinds of step:
---     a load                                Looks
+-- There are ten kinds of step:
+--     a load without the turn               Looks
+--     a load that changes nothing           Confirms
 --     a fetch_or of 1 at an even word       Takes
 --     a fetch_or of 1 at an odd word        FindsHeld
 --     an exchange that empties the slot     Empties
@@ -11,7 +12,7 @@
 --     a pass is made                        counted, next_pass
 --     a note is made                        noted
 --     two views are joined                  joined, spent
-use Rattle.std.specs.Prelude.{◌≡◌, ◌≢◌, ◌⊎◌, ℕ, ◌+◌, ◌*◌, ◌/◌, ◌%◌, ◌<◌, ◌≤◌, true, false, List, [], ◌∷◌, ◌++◌, length, drop, max, All, Contains, Option, Some, None}
+use Rattle.std.specs.Prelude.{◌≡◌, ◌≢◌, ◌⊎◌, ℕ, ◌+◌, ◌*◌, ◌/◌, ◌%◌, ◌<◌, ◌≤◌, Bool, true, false, List, [], ◌∷◌, ◌++◌, length, drop, max, All, Contains, Option, Some, None}
 use mathlib.Core.Option.{none, some}
 use mathlib.Core.List.{IsPrefix}
 use lib.ListN.{get_elem?}
@@ -129,12 +130,18 @@ pub record Takes {V E : Type 0} (entries : V → List E) (members : V → ℕ) (
   pub law : lawful me.0.callers (entries value)
   pub sees : Sees author (entries value) me.0
   pub looks : All (λ word. word / 2 ≤ length (entries value)) me.0.looks
+  pub unmade : (k : ℕ) → me.0.callers ≤ k → entries_by author k (entries value) ≡ []
 
 -- a seat without the turn looks at the word: half of it is no less than all that was seen
 pub record Looks {V E : Type 0} (me : Me (Option V) (View E)) (found : ℕ) (after : Me (Option V) (View E)) : Type 0 where
   pub same : after ≡ (looked found me.0, me.1)
   pub reaches : me.0.front ≤ found / 2
   pub looks : All (λ word. word / 2 ≤ found / 2) me.0.looks
+
+-- a seat looks at the word, and its view stays: where it has the turn, it has read all that it knows of the history
+pub record Confirms {V E : Type 0} (me after : Me (Option V) (View E)) : Type 0 where
+  pub same : after ≡ me
+  pub whole : me.0.has_turn ≡ true → All (λ list. IsPrefix list me.0.read) me.0.known
 
 module _ {V E : Type 0} where
   -- an odd word was found, and nothing is taken
@@ -205,10 +212,15 @@ module _ {E : Type 0} where
   abbrev pub noted : View E → View E
   noted v = record v { role = Note; own = []; looks = []; closed = []; has_turn = false }
 
+  -- what is read after a join: who has the turn has read the whole history, and else it is the longer list
+  abbrev pub read_after : Bool → List E → List E → List E
+  read_after true xs ys = xs
+  read_after false xs ys = longer xs ys
+
   -- the view after it took in the other
   abbrev pub joined : View E → View E → View E
   joined v u = record v {
-    read = longer v.read u.read;
+    read = read_after v.has_turn v.read u.read;
     front = max v.front u.front;
     known = (v.known ++ u.known) ++ v.read ∷ u.read ∷ [];
     closed = v.closed ++ closes_of u.role u.own u.closed;

@@ -24,6 +24,7 @@ impl<V: Kept> Turn<V> {
         requires everyone { (k : ℕ) → k < self.callers → Contains (map (λ p. p.caller) passes.items) k }
         ensures number { V.members result ≡ self.callers }
         ensures law { V.lawful self.callers (V.entries result) }
+        ensures unmade { (k : ℕ) → self.callers ≤ k → entries_by V.author k (V.entries result) ≡ [] }
 
         // all that the passes knew is so of the list
         ensures begins { All (λ p. IsPrefix p.read (V.entries result)) passes.items }
@@ -98,6 +99,7 @@ fn take_last<V: Kept>(
     ensures number { V.members result ≡ table.shared.key }
     ensures law { V.lawful table.shared.key (V.entries result) }
     ensures sees { Sees V.author (V.entries result) seat.me.0 }
+    ensures unmade { (k : ℕ) → table.shared.key ≤ k → entries_by V.author k (V.entries result) ≡ [] }
 {
     let mut closed = table.close_with(seat);
     let slot = closed.take(0);

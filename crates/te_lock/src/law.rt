@@ -32,6 +32,15 @@ impl<V: Kept> Play<Option<V>, View<V::Entry>> for Loads {
     ghost then = { λ _ me found after. Looks me found after };
 }
 
+/// The step that looks at the word and changes nothing.
+pub struct Checks;
+
+impl<V: Kept> Play<Option<V>, View<V::Entry>> for Checks {
+    ghost use Rattle.te_lock.specs.Rule.{Confirms};
+
+    ghost then = { λ _ me _ after. Confirms me after };
+}
+
 /// The step that gives the turn back.
 pub struct Releases;
 

@@ -1,12 +1,12 @@
 // Callers tell each other what they have seen.
-ghost use Rattle.std.specs.Prelude.{◌≡◌, max, [], ◌∷◌, ◌++◌};
+ghost use Rattle.std.specs.Prelude.{◌≡◌, true, max, [], ◌∷◌, ◌++◌};
 ghost use Rattle.te_lock.specs.Entries.{longer};
 ghost use Rattle.te_lock.specs.Lock.{note_of, IsSamePass};
 
 use crate::kept::Kept;
 use crate::note::Note;
 use crate::pass::Pass;
-use crate::steps::{join, note};
+use crate::steps::{confirm, join, note};
 use crate::turn::Turn;
 
 impl<V: Kept> Turn<V> {
@@ -21,7 +21,8 @@ impl<V: Kept> Turn<V> {
         }
     }
 
-    /// Takes in what the note's pass had seen: what is read from now on begins with that too.
+    /// Takes in what the note's pass had seen: what is read from now on begins with that too. A pass that has the turn has
+    /// read all of it already, so what it has read stays, and it can leave. It waits for nobody.
     pub fn meet(&self, pass: &mut Pass<V>, note: Note<V>)
         requires here { pass.old.lock ≡ self.now }
         requires there { note.lock ≡ self.now }
@@ -29,6 +30,7 @@ impl<V: Kept> Turn<V> {
 
         // what is known of the history
         ensures read { pass.new.read ≡ longer pass.old.read note.read }
+        ensures read_stays { pass.old.has_turn ≡ true → pass.new.read ≡ pass.old.read }
         ensures known { pass.new.known ≡ (pass.old.known ++ note.known) ++ pass.old.read ∷ note.read ∷ [] }
         ensures front { pass.new.front ≡ max pass.old.front note.front }
         ensures law { V.lawful pass.new.lock.callers pass.new.read }
@@ -40,5 +42,6 @@ impl<V: Kept> Turn<V> {
         ensures looks { pass.new.looks ≡ pass.old.looks }
     {
         join(&self.table.shared, &mut pass.seat, note.seat);
+        confirm(&self.table.shared, &mut pass.seat);
     }
 }

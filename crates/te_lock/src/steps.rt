@@ -1,10 +1,10 @@
 // The steps at the lock's table, each by its name in the rule.
 ghost use Rattle.std.specs.Prelude.{◌≡◌, ◌≢◌, ℕ, ◌<◌, [], ◌∷◌, Some, None, true, false};
 ghost use Rattle.te_lock.specs.declared.view.Role.TheVariants.{Maker, Caller, Spent};
-ghost use Rattle.te_lock.specs.Rule.{Asked, Empties, Fills, Looks, Released, Ready, counted, joined, next_pass, noted};
+ghost use Rattle.te_lock.specs.Rule.{Asked, Confirms, Empties, Fills, Looks, Released, Ready, counted, joined, next_pass, noted};
 
 use crate::kept::Kept;
-use crate::law::{Asks, Law, Loads, Makes, Meets, Notes, Releases};
+use crate::law::{Asks, Checks, Law, Loads, Makes, Meets, Notes, Releases};
 use crate::view::View;
 use atomic_table::{Seat, Shared};
 
@@ -34,6 +34,15 @@ pub fn load<V: Kept>(table: &Shelf<V>, seat: &mut Place<V>) -> u64
     ensures looks { Looks seat.old.me result seat.new.me }
 {
     table.load::<Loads>(seat, 0)
+}
+
+/// Loads the word, and leaves the seat as it is.
+pub fn confirm<V: Kept>(table: &Shelf<V>, seat: &mut Place<V>)
+    requires here { (seat.old.table_id ≡ table.now.table_id) × (table.now.table_id.words ≡ 1) }
+    ensures here { seat.new.table_id ≡ seat.old.table_id }
+    ensures confirms { Confirms seat.old.me seat.new.me }
+{
+    table.load::<Checks>(seat, 0);
 }
 
 /// Takes the value out of the slot, which is then empty.

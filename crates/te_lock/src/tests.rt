@@ -136,6 +136,23 @@ fn a_note_is_met(rt: HostRuntime) -> Result<(), Fail> {
 }
 
 #[test]
+fn a_note_is_met_with_the_turn(rt: HostRuntime) -> Result<(), Fail> {
+    let (turn, mut first, mut second) = two(rt.alloc())?;
+    add(&rt, &turn, &mut first, 5).ok_or("a pair")?;
+    let note = turn.split(&mut first);
+    let mut slip = turn.turn(&rt, &mut second);
+    turn.meet(&mut second, note);
+    slip.pairs.push((Turn::caller(&second), 6))?;
+    if slip.pairs.len() > 1000 {
+        return Err("two pairs".into());
+    }
+    turn.leave(&mut second, slip);
+    let slip = ended(rt.alloc(), turn, first, second)?;
+    assert!(rt; slip.pairs.as_slice() == [(0, 5), (1, 6)].as_slice());
+    Ok(())
+}
+
+#[test]
 fn two_threads_add_a_hundred_each(rt: HostRuntime) -> Result<(), Fail> {
     let alloc: Global = rt.alloc();
     let (turn, first, second) = two(alloc)?;

@@ -80,6 +80,7 @@ impl<V: Kept> Turn<V> {
         ensures reaches { OnOk result (pass.old.front ≤ length pass.new.read) }
         ensures front { OnOk result (pass.new.front ≡ length pass.new.read) }
         ensures own { OnOk result (entries_by V.author pass.new.caller pass.new.read ≡ pass.new.own) }
+        ensures unmade { OnOk result ((k : ℕ) → pass.new.lock.callers ≤ k → entries_by V.author k pass.new.read ≡ []) }
         ensures kept { (pass.new.own ≡ pass.old.own) × (pass.new.known ≡ pass.old.known) }
 
         // what was looked at
@@ -116,6 +117,7 @@ impl<V: Kept> Turn<V> {
         ensures reaches { pass.old.front ≤ length pass.new.read }
         ensures front { pass.new.front ≡ length pass.new.read }
         ensures own { entries_by V.author pass.new.caller pass.new.read ≡ pass.new.own }
+        ensures unmade { (k : ℕ) → pass.new.lock.callers ≤ k → entries_by V.author k pass.new.read ≡ [] }
         ensures kept { (pass.new.own ≡ pass.old.own) × (pass.new.known ≡ pass.old.known) }
 
         // what was looked at

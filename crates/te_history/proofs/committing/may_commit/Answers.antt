@@ -1,44 +1,24 @@
-use Rattle.std.proofs.Common.{◌≡◌, List, length, map, sym, ap, subst, ◌∙◌, arith}
-use Rattle.te_cert.specs.declared.cert.Member.{Member}
-use Rattle.te_cert.specs.Certificates.{Certificate}
-use Rattle.te_cert.specs.Checks.{group_of}
+use Rattle.std.proofs.Common.{◌≡◌, List, sym, subst, ◌∙◌}
+use Rattle.std.proofs.lemmas.Result.{err_from_is_err_and}
+use Rattle.te_terms.specs.declared.event.Outcome.{Outcome}
 use Rattle.te_history.specs.Histories.{now}
 use Rattle.te_history.specs.Follows.{Commits}
-use Rattle.te_history.specs.Refusals.{AreParked}
-use Rattle.te_history.proofs.Rising.{few_members}
-use Rattle.te_history.proofs.Events.{length-parked, length-group, commits_by}
-use Rattle.te_history.proofs.PlayLengths.{length-play}
+use Rattle.te_history.specs.Refusals.{IsFirstOther}
+use Rattle.te_history.proofs.CanPlay.{play_refused}
 use Rattle.te_history.proofs.committing.may_commit.Goals as goal
-
-pub check-requires : goal.check-requires
-check-requires c =
-    let members : c.as_slice-members.result.now ≡ c.args.cert.now.members = c.as_slice-members.ensures ∙ ap (λ (x : Certificate). x.members) c.cert.view_is in
-    sym (ap length c.deref.ensures.value ∙ length-parked (now c.args.hist.now) c.as_slice-members.result.now c.in-Ok.events.items c.in-Ok.ensures
-    ∙ ap length members)
-
-pub overflow_cast-result : goal.overflow_cast-result
-overflow_cast-result c =
-    let members : c.as_slice-members.result.now ≡ c.args.cert.now.members = c.as_slice-members.ensures ∙ ap (λ (x : Certificate). x.members) c.cert.view_is in
-    let parked : AreParked (now c.args.hist.now) c.args.cert.now.members c.deref.result.now =
-    subst (λ (ms : List Member). AreParked (now c.args.hist.now) ms c.deref.result.now) members
-    (subst (AreParked (now c.args.hist.now) c.as_slice-members.result.now) (sym c.deref.ensures.value) c.in-Ok.ensures) in
-    let gives = c.in-Ok-check.ensures.checked.1 in
-    let played : length c.in-Ok-check.played ≡ length c.args.cert.now.members =
-    length-play (group_of c.args.cert.now.members c.deref.result.now)
-    (map (λ (m : Member). m.choices) c.args.cert.now.members) c.args.cert.now.meets _ gives.plays ∙ length-group
-    (now c.args.hist.now) c.args.cert.now.members c.deref.result.now parked in
-    let few = few_members c.as_slice-members.result.now c.callers.result c.in_ok-ordered.ensures.ok.1 c.in_ok-are_callers.ensures.ok in
-    let within = c.in-Some.ensures.within in
-    let callers = c.callers.ensures in
-    omega (arith, played, few, within, callers.value, callers.few, ap length members, ap length c.as_slice.ensures)
 
 pub returns-clause-ok : goal.returns-clause-ok
 returns-clause-ok c =
-    let members : c.as_slice-members.result.now ≡ c.args.cert.now.members = c.as_slice-members.ensures ∙ ap (λ (x : Certificate). x.members) c.cert.view_is in
-    let parked : AreParked (now c.args.hist.now) c.args.cert.now.members c.deref.result.now =
-    subst (λ (ms : List Member). AreParked (now c.args.hist.now) ms c.deref.result.now) members
-    (subst (AreParked (now c.args.hist.now) c.as_slice-members.result.now) (sym c.deref.ensures.value) c.in-Ok.ensures) in
-    let checked = c.in-Ok-check.ensures.checked in
-    let same : c.in-Ok-check.played ≡ c.args.outcomes.now = sym c.as_slice.ensures ∙ sym c.in-None.ensures.none in
-    subst (Commits (now c.args.hist.now) c.args.cert.now) same
-    (commits_by (now c.args.hist.now) c.args.cert.now c.deref.result.now c.in-Ok-check.played checked.0.order parked checked.1)
+    let same : c.in_ok-played.played ≡ c.args.outcomes.now = sym c.as_slice.ensures ∙ sym c.in-None.ensures.none in
+    subst (Commits (now c.args.hist.now) c.args.cert.now) same c.in_ok-played.ensures.ok
+
+pub returns-in-Some-clause-refused : goal.returns-in-Some-clause-refused
+returns-in-Some-clause-refused c =
+    let p = c.in_ok-played.ensures.played in
+    let first = subst (λ (os : List Outcome). IsFirstOther c.args.outcomes.now os c.in-Some.i) c.as_slice.ensures c.in-Some.ensures.some in
+    (p.order, (p.events, c.in_ok-played.played, p.parked_all, p.gives, first))
+
+pub returns-in_err-played-clause-refused : goal.returns-in_err-played-clause-refused
+returns-in_err-played-clause-refused c =
+    let p = err_from_is_err_and c.from_residual.result c.from_residual.ensures.1 in
+    rw (p.1, p.2) (play_refused c.args.hist.now.callers (now c.args.hist.now) c.args.cert.now c.args.outcomes.now c.in_err-played.field-0.0 c.in_err-played.ensures.refused)

@@ -7,6 +7,7 @@ use Rattle.te_history.specs.declared.entry.StepFault.{StepFault}
 use Rattle.te_history.specs.Follows.{LooselyFollows}
 use Rattle.te_history.specs.Histories.{now}
 use Rattle.te_history.specs.Refusals.{RefusesCommit}
+use Rattle.te_history.proofs.CanPlay.{is_memory}
 use Rattle.te_history.proofs.RefusedDontFollow.{not_entry, by_caller}
 use Rattle.te_history.proofs.following.may_follow.Goals as goal
 
@@ -26,11 +27,11 @@ pub returns-in-Commit-clause-exact : goal.returns-in-Commit-clause-exact
 returns-in-Commit-clause-exact c =
     let h = c.args.hist.now in
     along c.may_commit.result
-    (λ fault refused. elim refused [
+    (λ fault refused. elim (is_memory fault) [
       | inl none ↦ inl none
       | inr found ↦
           inr (λ follows. not_entry h (entries.Commit c.in-Commit.by c.in-Commit.cert c.in-Commit.outcomes) fault
-          (subst (λ (os : List Outcome). RefusesCommit h.callers (now h) c.in-Commit.cert os fault) c.as_slice.ensures found)
+          (subst (λ (os : List Outcome). RefusesCommit h.callers (now h) c.in-Commit.cert os fault) c.as_slice.ensures refused) found
           (subst (λ (e : Entry). LooselyFollows h.callers h.entries e) c.in-Commit.is follows))
     ]) c.may_commit.ensures.refused
 
@@ -38,6 +39,10 @@ pub returns-in-Stuck-clause-exact : goal.returns-in-Stuck-clause-exact
 returns-in-Stuck-clause-exact c =
     let h = c.args.hist.now in
     along c.may_be_stuck.result
-    (λ fault refused. inr (λ follows. not_entry h (entries.Stuck c.in-Stuck.by) fault refused
-    (subst (λ (e : Entry). LooselyFollows h.callers h.entries e) c.in-Stuck.is follows)))
+    (λ fault refused. elim (is_memory fault) [
+      | inl none ↦ inl none
+      | inr found ↦
+          inr (λ follows. not_entry h (entries.Stuck c.in-Stuck.by) fault refused found
+          (subst (λ (e : Entry). LooselyFollows h.callers h.entries e) c.in-Stuck.is follows))
+    ])
     c.may_be_stuck.ensures.refused

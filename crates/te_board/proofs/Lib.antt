@@ -1,0 +1,3 @@
+pub mod Reserving
+pub mod ParkedLists
+pub mod TakesFollow
