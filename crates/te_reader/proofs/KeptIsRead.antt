@@ -6,7 +6,7 @@ use Rattle.std.proofs.lemmas.List.{append-nil}
 use Rattle.std.proofs.lemmas.Bool.Decides.{nat_tests}
 use Rattle.te_terms.specs.Expressions.{Expression}
 use Rattle.te_terms.specs.Terms.{Term}
-use Rattle.te_script.specs.Scripts.{Scope, IsExpression, IsEvent, IsWithin, Statement, sync, emit, Thread, Program, with_register, AreStatements, AreDistinct, AreApart, IsThread, thread_names, IsProgram}
+use Rattle.te_script.specs.Scripts.{Scope, IsExpression, IsEvent, IsWithin, Statement, sync, emit, repeat, Thread, Program, with_register, AreStatements, AreDistinct, AreApart, IsThread, thread_names, IsProgram}
 use Rattle.te_reader.specs.declared.token.Word.TheVariants as words
 use Rattle.te_reader.specs.declared.token.Sign.TheVariants as signs
 use Rattle.te_reader.specs.Tokens as tokens
@@ -160,6 +160,7 @@ module _ (m : ℕ) (channels registers : List (List ℕ)) (keeps : Registers cha
       → middle ≡ sign signs.CloseBrace ∷ rest → read_body left channels (take w registers) ts ≡ Some (record { statements = stmts; registers = registers }, rest)
   body_is_read [] w left ts middle rest written most order h close = body_ended w left ts rest order (h ∙ close)
   body_is_read (s ∷ stmts) w zero ts middle rest written most order h close = absurd (omega arith)
+  body_is_read (repeat times count ∷ stmts) w (suc left) ts middle rest written most order h close = absurd h
   body_is_read (emit x ∷ stmts) w (suc left) ts middle rest written most order h close =
       let inside = h.0 in
       let a = h.2 in
