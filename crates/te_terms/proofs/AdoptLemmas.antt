@@ -1,12 +1,12 @@
 -- What the marks say after children have got their parent.
-use Rattle.std.proofs.Common.{◌≡◌, ◌≢◌, ◌↔◌, ◌⊎◌, inl, inr, ℕ, zero, suc, ◌+◌, ◌<◌, true, cond, eqb, List, [], ◌∷◌, length, set, get_or, IsTrue, refl, sym, ap, ◌∙◌, subst, arith}
+use Rattle.std.proofs.Common.{◌≡◌, ◌≢◌, ◌↔◌, ◌⊎◌, inl, inr, ℕ, zero, suc, ◌+◌, ◌<◌, true, false, cond, eqb, List, [], ◌∷◌, ◌++◌, length, set, get_or, IsTrue, refl, sym, ap, ◌∙◌, subst, arith}
 use Rattle.std.specs.Prelude.{◌==◌}
-use Rattle.std.specs.List.{count_by, AllByRecursion}
+use Rattle.std.specs.List.{sum_by, count_by, AllByRecursion}
 use Rattle.std.proofs.lemmas.List.Sums.{sum_by-cons}
 use Rattle.std.proofs.lemmas.Bool.{cases_eq}
 use Rattle.std.proofs.lemmas.Bool.Decides.{nat_tests}
 use Rattle.te_terms.specs.declared.code.Mark.{Mark}
-use Rattle.te_terms.specs.Kept.{as_child, adopt, adopted}
+use Rattle.te_terms.specs.Kept.{open_count, as_child, adopt, adopted}
 
 pub length-adopt : (i : ℕ) (ms : List Mark) → length (adopt i ms) ≡ length ms
 length-adopt i [] = refl
@@ -18,19 +18,13 @@ adopt_is_set i [] d h = absurd (omega arith)
 adopt_is_set zero (m ∷ ms) d h = refl
 adopt_is_set (suc i) (m ∷ ms) d h = ap (λ xs. m ∷ xs) (adopt_is_set i ms d (omega arith))
 
-height_stays : (i : ℕ) (ms : List Mark) (j : ℕ) (d : Mark) → (get_or (adopt i ms) j d).height ≡ (get_or ms j d).height
-height_stays i [] j d = refl
-height_stays zero (m ∷ ms) zero d = refl
-height_stays zero (m ∷ ms) (suc j) d = refl
-height_stays (suc i) (m ∷ ms) zero d = refl
-height_stays (suc i) (m ∷ ms) (suc j) d = height_stays i ms j d
-
-weight_stays : (i : ℕ) (ms : List Mark) (j : ℕ) (d : Mark) → (get_or (adopt i ms) j d).weight ≡ (get_or ms j d).weight
-weight_stays i [] j d = refl
-weight_stays zero (m ∷ ms) zero d = refl
-weight_stays zero (m ∷ ms) (suc j) d = refl
-weight_stays (suc i) (m ∷ ms) zero d = refl
-weight_stays (suc i) (m ∷ ms) (suc j) d = weight_stays i ms j d
+-- what isn't about parents stays
+stays : {A : Type 0} (of : Mark → A) → ((m : Mark) → of (as_child m) ≡ of m) → (i : ℕ) (ms : List Mark) (j : ℕ) (d : Mark) → of (get_or (adopt i ms) j d) ≡ of (get_or ms j d)
+stays of same i [] j d = refl
+stays of same zero (m ∷ ms) zero d = same m
+stays of same zero (m ∷ ms) (suc j) d = refl
+stays of same (suc i) (m ∷ ms) zero d = refl
+stays of same (suc i) (m ∷ ms) (suc j) d = stays of same i ms j d
 
 others_stay : (i : ℕ) (ms : List Mark) (j : ℕ) (d : Mark) → i ≢ j → get_or (adopt i ms) j d ≡ get_or ms j d
 others_stay i [] j d h = refl
@@ -50,13 +44,9 @@ pub length-adopted : (cs : List ℕ) (ms : List Mark) → length (adopted cs ms)
 length-adopted [] ms = refl
 length-adopted (c ∷ cs) ms = length-adopted cs (adopt c ms) ∙ length-adopt c ms
 
-pub height-adopted : (cs : List ℕ) (ms : List Mark) (j : ℕ) (d : Mark) → (get_or (adopted cs ms) j d).height ≡ (get_or ms j d).height
-height-adopted [] ms j d = refl
-height-adopted (c ∷ cs) ms j d = height-adopted cs (adopt c ms) j d ∙ height_stays c ms j d
-
-pub weight-adopted : (cs : List ℕ) (ms : List Mark) (j : ℕ) (d : Mark) → (get_or (adopted cs ms) j d).weight ≡ (get_or ms j d).weight
-weight-adopted [] ms j d = refl
-weight-adopted (c ∷ cs) ms j d = weight-adopted cs (adopt c ms) j d ∙ weight_stays c ms j d
+pub kept-adopted : {A : Type 0} (of : Mark → A) → ((m : Mark) → of (as_child m) ≡ of m) → (cs : List ℕ) (ms : List Mark) (j : ℕ) (d : Mark) → of (get_or (adopted cs ms) j d) ≡ of (get_or ms j d)
+kept-adopted of same [] ms j d = refl
+kept-adopted of same (c ∷ cs) ms j d = kept-adopted of same cs (adopt c ms) j d ∙ stays of same c ms j d
 
 listed_more : (c j : ℕ) (cs : List ℕ) → count_by (λ x. x == j) (c ∷ cs) ≡ cond (eqb c j) 1 0 + count_by (λ x. x == j) cs
 listed_more c j cs = sum_by-cons (λ x. cond (x == j) 1 0) c cs
@@ -100,3 +90,34 @@ adopt_two a b ms m n e e' h k =
     let first : set ms a (as_child m) ≡ adopt a ms = adopt_at a ms m e h in
     let P : List Mark → Type 0 = λ xs. n ≡ get_or xs b n in
     rw first (adopt_at b (adopt a ms) n (subst P first e') (omega (arith, k, length-adopt a ms)))
+
+-- ---- counts of the marks
+
+-- one that gets a parent counts no more
+open_less : (of : Mark → ℕ) (i : ℕ) (ms : List Mark) (d : Mark) → i < length ms → (get_or ms i d).is_child ≡ false →
+    sum_by (open_count of) (adopt i ms) + of (get_or ms i d) ≡ sum_by (open_count of) ms
+open_less of i [] d h free = absurd (omega arith)
+open_less of zero (m ∷ ms) d h free =
+    let counts : open_count of m ≡ of m = ap (λ b. cond b 0 (of m)) free in
+    omega (arith, counts, sum_by-cons (open_count of) m ms, sum_by-cons (open_count of) (as_child m) ms)
+open_less of (suc i) (m ∷ ms) d h free =
+    omega (arith, open_less of i ms d (omega arith) free, sum_by-cons (open_count of) m ms, sum_by-cons (open_count of) m (adopt i ms))
+
+-- nor do two
+pub open_two_less : (of : Mark → ℕ) → ((m : Mark) → of (as_child m) ≡ of m) → (a b : ℕ) (ms : List Mark) (d : Mark) → a ≢ b → a < length ms → b < length ms →
+    (get_or ms a d).is_child ≡ false → (get_or ms b d).is_child ≡ false →
+    sum_by (open_count of) (adopted (a ∷ b ∷ []) ms) + (of (get_or ms a d) + of (get_or ms b d)) ≡ sum_by (open_count of) ms
+open_two_less of same a b ms d differ ha hb free_a free_b =
+    let still : get_or (adopt a ms) b d ≡ get_or ms b d = others_stay a ms b d differ in
+    omega (arith, open_less of a ms d ha free_a, open_less of b (adopt a ms) d (omega (arith, hb, length-adopt a ms)) (ap (λ m. m.is_child) still ∙ free_b), ap of still)
+
+adopt_front : (i : ℕ) (ms : List Mark) (m : Mark) → i < length ms → adopt i (ms ++ m ∷ []) ≡ adopt i ms ++ m ∷ []
+adopt_front i [] m h = absurd (omega arith)
+adopt_front zero (n ∷ ms) m h = refl
+adopt_front (suc i) (n ∷ ms) m h = ap (λ xs. n ∷ xs) (adopt_front i ms m (omega arith))
+
+-- parents of the others leave the last mark
+pub adopted_front : (cs : List ℕ) (ms : List Mark) (m : Mark) → AllByRecursion (λ c. c < length ms) cs → adopted cs (ms ++ m ∷ []) ≡ adopted cs ms ++ m ∷ []
+adopted_front [] ms m h = refl
+adopted_front (c ∷ cs) ms m h =
+    ap (adopted cs) (adopt_front c ms m h.0) ∙ adopted_front cs (adopt c ms) m (subst (λ n. AllByRecursion (λ x. x < n) cs) (sym (length-adopt c ms)) h.1)

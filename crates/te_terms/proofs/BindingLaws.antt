@@ -6,7 +6,7 @@ use Rattle.std.proofs.lemmas.Bool.{cases_order}
 use Rattle.std.proofs.lemmas.Bool.Decides.{nat_tests}
 use Rattle.te_terms.specs.declared.value.Atom.{Atom}
 use Rattle.te_terms.specs.Expressions.{Variable, register, name, known, Primitive, int, chan, part, Calculation, one, both, Expression, whole, tuple, in_primitive, in_calculation, in_expression}
-use Rattle.te_terms.specs.Terms.{Term, always, never, throw, send, recv, and_then, choose, catch, when, replaced, bound, name_to, or_register, or_name, registers_to, closed, scoped}
+use Rattle.te_terms.specs.Terms.{Term, always, never, fresh, throw, send, recv, and_then, choose, catch, when, replaced, bound, name_to, or_register, or_name, registers_to, closed, scoped}
 use Rattle.te_terms.proofs.TermLemmas.{slice_get_front, slice_get_seam}
 
 primitive_twice : (f g : Variable → Variable) (p : Primitive) → in_primitive f (in_primitive g p) ≡ in_primitive (λ x. f (g x)) p
@@ -30,6 +30,7 @@ expression_twice f g (tuple cs) = ap tuple (calculations_twice f g cs)
 pub replaced_twice : (f g : Variable → Variable) (t : Term) → replaced f (replaced g t) ≡ replaced (λ x. f (g x)) t
 replaced_twice f g (always e) = ap always (expression_twice f g e)
 replaced_twice f g never = refl
+replaced_twice f g fresh = refl
 replaced_twice f g (throw e) = ap throw (expression_twice f g e)
 replaced_twice f g (send p e) = rw (primitive_twice f g p, expression_twice f g e) refl
 replaced_twice f g (recv p) = ap recv (primitive_twice f g p)

@@ -5,6 +5,7 @@ use Rattle.std.specs.List.{count_by}
 use Rattle.std.proofs.lemmas.List.Sums.{sum_by_push}
 use Rattle.std.proofs.lemmas.Bool.Decides.{nat_tests}
 use Rattle.te_terms.specs.declared.code.Node.{Node}
+use Rattle.te_terms.specs.declared.code.Node.TheVariants as nodes
 use Rattle.te_terms.specs.Shape.{children, times_in, times_named, HasFreeChildren}
 use Rattle.te_terms.specs.Kept.{IsFree, listed}
 
@@ -73,3 +74,16 @@ pub free_within : (code : List Node) (node : Node) (two : Option (ℕ × ℕ)) �
 free_within code node two free e x some =
     let are : children node ≡ x.0 ∷ x.1 ∷ [] = sym e ∙ ap listed some in
     ((first_free code node x.0 x.1 are free).0, (second_free code node x.0 x.1 are free).0)
+
+-- a node has no child, or two
+pub no_or_two_children : (node : Node) → (children node ≡ []) ⊎ ((a : ℕ) × ((b : ℕ) × (children node ≡ a ∷ b ∷ [])))
+no_or_two_children (nodes.Always x) = inl refl
+no_or_two_children nodes.Never = inl refl
+no_or_two_children nodes.Fresh = inl refl
+no_or_two_children (nodes.Throw x) = inl refl
+no_or_two_children (nodes.Send p x) = inl refl
+no_or_two_children (nodes.Recv p) = inl refl
+no_or_two_children (nodes.Then a b) = inr (a, (b, refl))
+no_or_two_children (nodes.Choose a b) = inr (a, (b, refl))
+no_or_two_children (nodes.Catch a b) = inr (a, (b, refl))
+no_or_two_children (nodes.If c a b) = inr (a, (b, refl))

@@ -28,6 +28,7 @@ second_part g _ = never
 pub over_formed : (g : ℕ → ℕ → Term) (level : ℕ) (m : Node) → over g level (Some m) ≡ formed m level (first_part (g level) (children m)) (second_part (g (second_level m level)) (children m))
 over_formed g level (nodes.Always v) = refl
 over_formed g level nodes.Never = refl
+over_formed g level nodes.Fresh = refl
 over_formed g level (nodes.Throw v) = refl
 over_formed g level (nodes.Send o v) = refl
 over_formed g level (nodes.Recv o) = refl
@@ -40,6 +41,7 @@ over_formed g level (nodes.If t a b) = refl
 pub joined : (A B : Variable → Variable) (m n : Node) (l : ℕ) (e f e' f' : Term) → replaced A (formed m l never never) ≡ replaced B (formed n l never never) → replaced A e ≡ replaced B e' → replaced A f ≡ replaced B f' → replaced A (formed m l e f) ≡ replaced B (formed n l e' f')
 joined A B (nodes.Always v) (nodes.Always v') l e f e' f' p q r = p
 joined A B nodes.Never nodes.Never l e f e' f' p q r = p
+joined A B nodes.Fresh nodes.Fresh l e f e' f' p q r = p
 joined A B (nodes.Throw v) (nodes.Throw v') l e f e' f' p q r = p
 joined A B (nodes.Send o v) (nodes.Send o' v') l e f e' f' p q r = p
 joined A B (nodes.Recv o) (nodes.Recv o') l e f e' f' p q r = p
@@ -52,6 +54,7 @@ joined A B _ _ l e f e' f' p q r = absurd cc
 pub heads_of : (A B : Variable → Variable) (m n : Node) (l : ℕ) (e f e' f' : Term) → replaced A (formed m l e f) ≡ replaced B (formed n l e' f') → replaced A (formed m l never never) ≡ replaced B (formed n l never never)
 heads_of A B (nodes.Always v) (nodes.Always v') l e f e' f' p = p
 heads_of A B nodes.Never nodes.Never l e f e' f' p = p
+heads_of A B nodes.Fresh nodes.Fresh l e f e' f' p = p
 heads_of A B (nodes.Throw v) (nodes.Throw v') l e f e' f' p = p
 heads_of A B (nodes.Send o v) (nodes.Send o' v') l e f e' f' p = p
 heads_of A B (nodes.Recv o) (nodes.Recv o') l e f e' f' p = p
@@ -64,6 +67,7 @@ heads_of A B _ _ l e f e' f' p = absurd cc
 pub first_of : (A B : Variable → Variable) (m n : Node) (l x y : ℕ) (e f e' f' : Term) → children m ≡ x ∷ y ∷ [] → replaced A (formed m l e f) ≡ replaced B (formed n l e' f') → replaced A e ≡ replaced B e'
 first_of A B (nodes.Always v) (nodes.Always v') l x y e f e' f' two p = absurd cc
 first_of A B nodes.Never nodes.Never l x y e f e' f' two p = absurd cc
+first_of A B nodes.Fresh nodes.Fresh l x y e f e' f' two p = absurd cc
 first_of A B (nodes.Throw v) (nodes.Throw v') l x y e f e' f' two p = absurd cc
 first_of A B (nodes.Send o v) (nodes.Send o' v') l x y e f e' f' two p = absurd cc
 first_of A B (nodes.Recv o) (nodes.Recv o') l x y e f e' f' two p = absurd cc
@@ -76,6 +80,7 @@ first_of A B _ _ l x y e f e' f' two p = absurd cc
 pub second_of : (A B : Variable → Variable) (m n : Node) (l x y : ℕ) (e f e' f' : Term) → children m ≡ x ∷ y ∷ [] → replaced A (formed m l e f) ≡ replaced B (formed n l e' f') → replaced A f ≡ replaced B f'
 second_of A B (nodes.Always v) (nodes.Always v') l x y e f e' f' two p = absurd cc
 second_of A B nodes.Never nodes.Never l x y e f e' f' two p = absurd cc
+second_of A B nodes.Fresh nodes.Fresh l x y e f e' f' two p = absurd cc
 second_of A B (nodes.Throw v) (nodes.Throw v') l x y e f e' f' two p = absurd cc
 second_of A B (nodes.Send o v) (nodes.Send o' v') l x y e f e' f' two p = absurd cc
 second_of A B (nodes.Recv o) (nodes.Recv o') l x y e f e' f' two p = absurd cc
@@ -88,6 +93,7 @@ second_of A B _ _ l x y e f e' f' two p = absurd cc
 pub levels_same : (A B : Variable → Variable) (m n : Node) (l : ℕ) → replaced A (formed m l never never) ≡ replaced B (formed n l never never) → second_level m l ≡ second_level n l
 levels_same A B (nodes.Always v) (nodes.Always v') l p = refl
 levels_same A B nodes.Never nodes.Never l p = refl
+levels_same A B nodes.Fresh nodes.Fresh l p = refl
 levels_same A B (nodes.Throw v) (nodes.Throw v') l p = refl
 levels_same A B (nodes.Send o v) (nodes.Send o' v') l p = refl
 levels_same A B (nodes.Recv o) (nodes.Recv o') l p = refl
@@ -100,6 +106,7 @@ levels_same A B _ _ l p = absurd cc
 pub leaf_too : (A B : Variable → Variable) (m n : Node) (l : ℕ) → replaced A (formed m l never never) ≡ replaced B (formed n l never never) → children m ≡ [] → children n ≡ []
 leaf_too A B (nodes.Always v) (nodes.Always v') l p none = refl
 leaf_too A B nodes.Never nodes.Never l p none = refl
+leaf_too A B nodes.Fresh nodes.Fresh l p none = refl
 leaf_too A B (nodes.Throw v) (nodes.Throw v') l p none = refl
 leaf_too A B (nodes.Send o v) (nodes.Send o' v') l p none = refl
 leaf_too A B (nodes.Recv o) (nodes.Recv o') l p none = refl

@@ -1,26 +1,14 @@
 -- A member settles: quiet steps lead to it as it is once they are done, and to nothing else without one.
-use Rattle.std.proofs.Common.{◌≡◌, ℕ, zero, suc, ◌≤◌, Option, Some, None, refl, sym, ap, subst, ◌∙◌, arith}
+use Rattle.std.proofs.Common.{◌≡◌, ℕ, zero, suc, ◌+◌, ◌≤◌, Option, Some, None, refl, sym, subst, ◌∙◌, arith}
 use Rattle.std.specs.Option.{option_map, unwrap_or}
-use Rattle.std.proofs.Math.Nat.{mul-le-mul_left}
 use Rattle.te_terms.specs.Terms.{Term}
-use Rattle.te_terms.specs.Steps.{Member, IsSettled, quiet_step, quiet_of}
-use Rattle.te_terms.specs.Settling.{Falls, Quietly, here, after_one, settled_within, settled, steps_most, node_count}
-use Rattle.te_terms.proofs.QuietStepsEnd.{quiet_falls, steps_fall, some_nodes}
-
--- ---- one step of a member
-
-quiet_is : (m : Member) (o : Option Term) (n : Member) → option_map (λ t. record m { term = t }) o ≡ Some n → (o ≡ Some n.term) × (n.thread ≡ m.thread)
-quiet_is m None n e = absurd cc
-quiet_is m (Some t) n e = let is : record m { term = t } ≡ n = cc in (ap Some (ap (λ x. x.term) is), sym (ap (λ x. x.thread) is))
-
-pub quiet_term : (m n : Member) → quiet_step m ≡ Some n → quiet_of m.thread m.term ≡ Some n.term
-quiet_term m n e = (quiet_is m (quiet_of m.thread m.term) n e).0
-
-pub quiet_thread : (m n : Member) → quiet_step m ≡ Some n → n.thread ≡ m.thread
-quiet_thread m n e = (quiet_is m (quiet_of m.thread m.term) n e).1
-
-pub step_falls : (m n : Member) → quiet_step m ≡ Some n → Falls m.term n.term
-step_falls m n e = quiet_falls m.thread m.term n.term (quiet_term m n e)
+use Rattle.te_terms.specs.Steps.{Member, IsSettled, quiet_step}
+use Rattle.te_terms.specs.Measures.{fresh_count}
+use Rattle.te_terms.specs.Settling.{Quietly, here, after_one, settled_within, settled, steps_most}
+use Rattle.te_terms.proofs.Measured.{some_nodes}
+use Rattle.te_terms.proofs.QuietStepsEnd.{step_stays}
+use Rattle.te_terms.proofs.StepsLower.{quiet_lowers}
+use Rattle.te_terms.proofs.FreshStaysFew.{quiet_makes}
 
 -- ---- chains
 
@@ -33,7 +21,7 @@ within_reached zero m = here m
 within_reached (suc rounds) m = reached_on rounds m (quiet_step m) refl (within_reached rounds)
 
 some_left : (t : Term) → 1 ≤ steps_most t
-some_left t = omega (arith, some_nodes t, mul-le-mul_left (node_count t) (some_nodes t))
+some_left t = omega (arith, some_nodes t)
 
 settled_on : (rounds : ℕ) (m : Member) (o : Option Member) → quiet_step m ≡ o → ((n : Member) → quiet_step m ≡ Some n → IsSettled (settled_within rounds n)) →
     IsSettled (unwrap_or (option_map (settled_within rounds) o) m)
@@ -43,7 +31,7 @@ settled_on rounds m (Some n) e ih = ih n e
 within_settled : (rounds : ℕ) (m : Member) → steps_most m.term ≤ rounds → IsSettled (settled_within rounds m)
 within_settled zero m h = absurd (omega (arith, some_left m.term))
 within_settled (suc rounds) m h =
-    settled_on rounds m (quiet_step m) refl (λ n e. within_settled rounds n (omega (arith, steps_fall m.term n.term (step_falls m n e))))
+    settled_on rounds m (quiet_step m) refl (λ n e. within_settled rounds n (omega (arith, quiet_lowers m n e)))
 
 -- quiet steps lead to the settled member
 pub settled_is_reached : (m : Member) → Quietly m (settled m)
@@ -79,9 +67,28 @@ pub settled_along : (m n : Member) → Quietly m n → settled n ≡ settled m
 settled_along m n (here _) = refl
 settled_along m n (after_one _ q _ e more) = settled_along q n more ∙ settled_after m q e
 
+-- ---- what quiet steps keep
+
 pub quietly_thread : (m n : Member) → Quietly m n → n.thread ≡ m.thread
 quietly_thread m n (here _) = refl
-quietly_thread m n (after_one _ q _ e more) = quietly_thread q n more ∙ quiet_thread m q e
+quietly_thread m n (after_one _ q _ e more) = quietly_thread q n more ∙ (step_stays m q e).0
+
+pub quietly_ticket : (m n : Member) → Quietly m n → n.ticket ≡ m.ticket
+quietly_ticket m n (here _) = refl
+quietly_ticket m n (after_one _ q _ e more) = quietly_ticket q n more ∙ (step_stays m q e).1
+
+pub quietly_makes : (m n : Member) → Quietly m n → (m.count ≤ n.count) × (n.count + fresh_count n.term ≤ m.count + fresh_count m.term)
+quietly_makes m n (here _) = (omega arith, omega arith)
+quietly_makes m n (after_one _ q _ e more) =
+    let first = quiet_makes m q e in
+    let rest = quietly_makes q n more in
+    (omega (arith, first.0, rest.0), omega (arith, first.1, rest.1))
 
 pub settled_thread : (m : Member) → (settled m).thread ≡ m.thread
 settled_thread m = quietly_thread m (settled m) (settled_is_reached m)
+
+pub settled_ticket : (m : Member) → (settled m).ticket ≡ m.ticket
+settled_ticket m = quietly_ticket m (settled m) (settled_is_reached m)
+
+pub settled_makes : (m : Member) → (m.count ≤ (settled m).count) × ((settled m).count + fresh_count (settled m).term ≤ m.count + fresh_count m.term)
+settled_makes m = quietly_makes m (settled m) (settled_is_reached m)

@@ -1,151 +1,76 @@
--- Heights and weights of the terms under nodes.
-use Rattle.std.proofs.Common.{◌≡◌, ℕ, zero, suc, ◌+◌, ◌^◌, ◌<◌, ◌≤◌, max, List, [], ◌∷◌, Option, Some, None, refl, ap, ◌∙◌, lit<, one-add, arith}
-use Rattle.std.specs.Prelude.{slice_get}
-use Rattle.std.proofs.Math.Pow.{pow_mono}
-use Rattle.std.proofs.Math.Nat.{le-max_left, le-max_right, two-pow-succ}
+-- Sizes of a node that is appended, and of terms whose variables are replaced.
+use Rattle.std.proofs.Common.{◌≡◌, ℕ, ◌+◌, max, List, [], ◌∷◌, refl, arith}
 use Rattle.te_terms.specs.declared.code.Node.{Node}
 use Rattle.te_terms.specs.declared.code.Node.TheVariants as nodes
 use Rattle.te_terms.specs.Expressions.{Variable}
-use Rattle.te_terms.specs.Terms.{Term, always, never, throw, send, recv, and_then, choose, catch, when, replaced}
-use Rattle.te_terms.specs.Codes.{over, term_within, term_at, term_under}
-use Rattle.te_terms.specs.Shape.{height, weight, children, term_over}
+use Rattle.te_terms.specs.Terms.{Term, replaced}
+use Rattle.te_terms.specs.Measures.{one_each, one_weighing, one_fresh, height, weight, node_count, fresh_count}
+use Rattle.te_terms.specs.Limits.{IsWithinLimits}
+use Rattle.te_terms.specs.Codes.{term_under}
+use Rattle.te_terms.specs.Shape.{children, one_if_fresh, term_over}
 use Rattle.te_terms.specs.Kept.{own_weight}
+use Rattle.te_terms.proofs.Measured.{each_sees, weighing_sees, fresh_sees, counted-replaced, counted_leaf, counted_two}
 
--- the level leaves the height
-height_over : (f g : ℕ → ℕ → Term) (l m : ℕ) (o : Option Node) → ((l m c : ℕ) → height (f l c) ≡ height (g m c)) → height (over f l o) ≡ height (over g m o)
-height_over f g l m None same = refl
-height_over f g l m (Some (nodes.Always e)) same = refl
-height_over f g l m (Some nodes.Never) same = refl
-height_over f g l m (Some (nodes.Throw e)) same = refl
-height_over f g l m (Some (nodes.Send p e)) same = refl
-height_over f g l m (Some (nodes.Recv p)) same = refl
-height_over f g l m (Some (nodes.Then a b)) same = rw (same l m a, same (suc l) (suc m) b) refl
-height_over f g l m (Some (nodes.Choose a b)) same = rw (same l m a, same l m b) refl
-height_over f g l m (Some (nodes.Catch a b)) same = rw (same l m a, same (suc l) (suc m) b) refl
-height_over f g l m (Some (nodes.If c a b)) same = rw (same l m a, same l m b) refl
+abbrev plus : ℕ → ℕ → ℕ
+plus a b = a + b
 
-height_within : (code : List Node) (n l m i : ℕ) → height (term_within n code l i) ≡ height (term_within n code m i)
-height_within code zero l m i = refl
-height_within code (suc n) l m i = height_over (term_within n code) (term_within n code) l m (slice_get code i) (height_within code n)
+weighed : (code : List Node) (node : Node) → one_weighing (term_over code node) ≡ own_weight node
+weighed code (nodes.Always x) = refl
+weighed code nodes.Never = refl
+weighed code nodes.Fresh = refl
+weighed code (nodes.Throw x) = refl
+weighed code (nodes.Send p x) = refl
+weighed code (nodes.Recv p) = refl
+weighed code (nodes.Then x y) = refl
+weighed code (nodes.Choose x y) = refl
+weighed code (nodes.Catch x y) = refl
+weighed code (nodes.If c x y) = refl
 
-pub height-level : (code : List Node) (level i : ℕ) → height (term_at code level i) ≡ height (term_under code i)
-height-level code level i = height_within code (suc i) level 0 i
+freshened : (code : List Node) (node : Node) → one_fresh (term_over code node) ≡ one_if_fresh node
+freshened code (nodes.Always x) = refl
+freshened code nodes.Never = refl
+freshened code nodes.Fresh = refl
+freshened code (nodes.Throw x) = refl
+freshened code (nodes.Send p x) = refl
+freshened code (nodes.Recv p) = refl
+freshened code (nodes.Then x y) = refl
+freshened code (nodes.Choose x y) = refl
+freshened code (nodes.Catch x y) = refl
+freshened code (nodes.If c x y) = refl
 
-weight_over : (f g : ℕ → ℕ → Term) (l m : ℕ) (o : Option Node) → ((l m c : ℕ) → weight (f l c) ≡ weight (g m c)) → weight (over f l o) ≡ weight (over g m o)
-weight_over f g l m None same = refl
-weight_over f g l m (Some (nodes.Always e)) same = refl
-weight_over f g l m (Some nodes.Never) same = refl
-weight_over f g l m (Some (nodes.Throw e)) same = refl
-weight_over f g l m (Some (nodes.Send p e)) same = refl
-weight_over f g l m (Some (nodes.Recv p)) same = refl
-weight_over f g l m (Some (nodes.Then a b)) same = rw (same l m a, same (suc l) (suc m) b) refl
-weight_over f g l m (Some (nodes.Choose a b)) same = rw (same l m a, same l m b) refl
-weight_over f g l m (Some (nodes.Catch a b)) same = rw (same l m a, same (suc l) (suc m) b) refl
-weight_over f g l m (Some (nodes.If c a b)) same = rw (same l m a, same l m b) refl
+-- the sizes of a node over terms of these sizes
+pub record Sizes (code : List Node) (node : Node) (nodes weights heights news : ℕ) : Type 0 where
+  pub nodes_are : node_count (term_over code node) ≡ 1 + nodes
+  pub weight_is : weight (term_over code node) ≡ own_weight node + weights
+  pub height_is : height (term_over code node) ≡ 1 + heights
+  pub fresh_are : fresh_count (term_over code node) ≡ one_if_fresh node + news
 
-weight_within : (code : List Node) (n l m i : ℕ) → weight (term_within n code l i) ≡ weight (term_within n code m i)
-weight_within code zero l m i = refl
-weight_within code (suc n) l m i = weight_over (term_within n code) (term_within n code) l m (slice_get code i) (weight_within code n)
+pub leaf_sizes : (code : List Node) (node : Node) → children node ≡ [] → Sizes code node 0 0 0 0
+leaf_sizes code node e = record {
+  nodes_are = counted_leaf one_each plus code node e;
+  weight_is = omega (arith, counted_leaf one_weighing plus code node e, weighed code node);
+  height_is = counted_leaf one_each max code node e;
+  fresh_are = omega (arith, counted_leaf one_fresh plus code node e, freshened code node);
+}
 
-pub weight-level : (code : List Node) (level i : ℕ) → weight (term_at code level i) ≡ weight (term_under code i)
-weight-level code level i = weight_within code (suc i) level 0 i
+pub two_sizes : (code : List Node) (node : Node) (a b : ℕ) → children node ≡ a ∷ b ∷ [] →
+    Sizes code node (node_count (term_under code a) + node_count (term_under code b)) (weight (term_under code a) + weight (term_under code b))
+    (max (height (term_under code a)) (height (term_under code b))) (fresh_count (term_under code a) + fresh_count (term_under code b))
+two_sizes code node a b e = record {
+  nodes_are = counted_two one_each plus each_sees code node a b e;
+  weight_is = omega (arith, counted_two one_weighing plus weighing_sees code node a b e, weighed code node);
+  height_is = counted_two one_each max each_sees code node a b e;
+  fresh_are = omega (arith, counted_two one_fresh plus fresh_sees code node a b e, freshened code node);
+}
 
--- two parts of a binary tree
-room : (w v g h : ℕ) → w < 2 ^ g → v < 2 ^ h → 1 + (w + v) < 2 ^ (1 + max g h)
-room w v g h p q =
-    let left : 2 ^ g ≤ 2 ^ max g h = pow_mono (le-max_left g h) in
-    let right : 2 ^ h ≤ 2 ^ max g h = pow_mono (le-max_right g h) in
-    let twice : 2 ^ (1 + max g h) ≡ 2 ^ max g h + 2 ^ max g h = ap (λ k. 2 ^ k) (one-add (max g h)) ∙ two-pow-succ (max g h) in
-    omega arith
+-- ---- replacing variables leaves the sizes
 
--- a term of height h is lighter than 2 to the power of h
-pub weight_below : (t : Term) → weight t < 2 ^ height t
-weight_below (always e) = lit< tt
-weight_below never = lit< tt
-weight_below (throw e) = lit< tt
-weight_below (send p e) = lit< tt
-weight_below (recv p) = lit< tt
-weight_below (and_then e n f) = omega (arith, room (weight e) (weight f) (height e) (height f) (weight_below e) (weight_below f))
-weight_below (choose e f) = room (weight e) (weight f) (height e) (height f) (weight_below e) (weight_below f)
-weight_below (catch e n h) = omega (arith, room (weight e) (weight h) (height e) (height h) (weight_below e) (weight_below h))
-weight_below (when test p q e f) = omega (arith, room (weight e) (weight f) (height e) (height f) (weight_below e) (weight_below f))
-
--- ---- a node that is appended
-
-pub height_leaf : (code : List Node) (node : Node) → children node ≡ [] → height (term_over code node) ≡ 1
-height_leaf code (nodes.Always x) e = refl
-height_leaf code nodes.Never e = refl
-height_leaf code (nodes.Throw x) e = refl
-height_leaf code (nodes.Send p x) e = refl
-height_leaf code (nodes.Recv p) e = refl
-height_leaf code (nodes.Then x y) e = absurd cc
-height_leaf code (nodes.Choose x y) e = absurd cc
-height_leaf code (nodes.Catch x y) e = absurd cc
-height_leaf code (nodes.If c x y) e = absurd cc
-
-two_heights : (code : List Node) (l m a b x y : ℕ) → x ∷ y ∷ [] ≡ a ∷ b ∷ [] →
-    1 + max (height (term_at code l x)) (height (term_at code m y)) ≡ 1 + max (height (term_under code a)) (height (term_under code b))
-two_heights code l m a b x y e =
-    let p : x ≡ a = cc in
-    let q : y ≡ b = cc in
-    rw (height-level code l x, height-level code m y, p, q) refl
-
-pub height_two : (code : List Node) (node : Node) (a b : ℕ) → children node ≡ a ∷ b ∷ [] → height (term_over code node) ≡ 1 + max (height (term_under code a)) (height (term_under code b))
-height_two code (nodes.Always x) a b e = absurd cc
-height_two code nodes.Never a b e = absurd cc
-height_two code (nodes.Throw x) a b e = absurd cc
-height_two code (nodes.Send p x) a b e = absurd cc
-height_two code (nodes.Recv p) a b e = absurd cc
-height_two code (nodes.Then x y) a b e = two_heights code 0 1 a b x y e
-height_two code (nodes.Choose x y) a b e = two_heights code 0 0 a b x y e
-height_two code (nodes.Catch x y) a b e = two_heights code 0 1 a b x y e
-height_two code (nodes.If c x y) a b e = two_heights code 0 0 a b x y e
-
-pub weight_leaf : (code : List Node) (node : Node) → children node ≡ [] → weight (term_over code node) ≡ own_weight node
-weight_leaf code (nodes.Always x) e = refl
-weight_leaf code nodes.Never e = refl
-weight_leaf code (nodes.Throw x) e = refl
-weight_leaf code (nodes.Send p x) e = refl
-weight_leaf code (nodes.Recv p) e = refl
-weight_leaf code (nodes.Then x y) e = absurd cc
-weight_leaf code (nodes.Choose x y) e = absurd cc
-weight_leaf code (nodes.Catch x y) e = absurd cc
-weight_leaf code (nodes.If c x y) e = absurd cc
-
-two_weights : (code : List Node) (l m a b x y : ℕ) → x ∷ y ∷ [] ≡ a ∷ b ∷ [] →
-    weight (term_at code l x) + weight (term_at code m y) ≡ weight (term_under code a) + weight (term_under code b)
-two_weights code l m a b x y e =
-    let p : x ≡ a = cc in
-    let q : y ≡ b = cc in
-    rw (weight-level code l x, weight-level code m y, p, q) refl
-
-pub weight_two : (code : List Node) (node : Node) (a b : ℕ) → children node ≡ a ∷ b ∷ [] →
-    weight (term_over code node) ≡ own_weight node + (weight (term_under code a) + weight (term_under code b))
-weight_two code (nodes.Always x) a b e = absurd cc
-weight_two code nodes.Never a b e = absurd cc
-weight_two code (nodes.Throw x) a b e = absurd cc
-weight_two code (nodes.Send p x) a b e = absurd cc
-weight_two code (nodes.Recv p) a b e = absurd cc
-weight_two code (nodes.Then x y) a b e = omega (arith, two_weights code 0 1 a b x y e)
-weight_two code (nodes.Choose x y) a b e = omega (arith, two_weights code 0 0 a b x y e)
-weight_two code (nodes.Catch x y) a b e = omega (arith, two_weights code 0 1 a b x y e)
-weight_two code (nodes.If c x y) a b e = omega (arith, two_weights code 0 0 a b x y e)
-
--- a node of height 32 at most is lighter than 2 to the power of 32
-pub weight_fits : (code : List Node) (node : Node) (a b : ℕ) → children node ≡ a ∷ b ∷ [] → height (term_over code node) ≤ 32 →
-    own_weight node + (weight (term_under code a) + weight (term_under code b)) < 2 ^ 32
-weight_fits code node a b e low =
-    let top : 2 ^ height (term_over code node) ≤ 2 ^ 32 = pow_mono low in
-    omega (arith, weight_two code node a b e, weight_below (term_over code node), top)
-
--- replacing variables leaves the weight
 pub weight-replaced : (by : Variable → Variable) (t : Term) → weight (replaced by t) ≡ weight t
-weight-replaced by (always e) = refl
-weight-replaced by never = refl
-weight-replaced by (throw e) = refl
-weight-replaced by (send p e) = refl
-weight-replaced by (recv p) = refl
-weight-replaced by (and_then e n f) = rw (weight-replaced by e, weight-replaced by f) refl
-weight-replaced by (choose e f) = rw (weight-replaced by e, weight-replaced by f) refl
-weight-replaced by (catch e n h) = rw (weight-replaced by e, weight-replaced by h) refl
-weight-replaced by (when test p q e f) = rw (weight-replaced by e, weight-replaced by f) refl
+weight-replaced by t = counted-replaced one_weighing plus weighing_sees by t
+
+pub limits_replaced : (by : Variable → Variable) (t : Term) → IsWithinLimits t → IsWithinLimits (replaced by t)
+limits_replaced by t within = record {
+  low = omega (arith, within.low, counted-replaced one_each max each_sees by t);
+  few = omega (arith, within.few, counted-replaced one_each plus each_sees by t);
+  few_fresh = omega (arith, within.few_fresh, counted-replaced one_fresh plus fresh_sees by t);
+}

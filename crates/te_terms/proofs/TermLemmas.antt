@@ -15,6 +15,7 @@ IsEarlier code = (i : ℕ) (node : Node) → slice_get code i ≡ Some node → 
 over_same : (f g : ℕ → ℕ → Term) (level i : ℕ) (node : Node) → NamesEarlier i node → ((l c : ℕ) → c < i → f l c ≡ g l c) → over f level (Some node) ≡ over g level (Some node)
 over_same f g level i (nodes.Always e) h same = refl
 over_same f g level i nodes.Never h same = refl
+over_same f g level i nodes.Fresh h same = refl
 over_same f g level i (nodes.Throw e) h same = refl
 over_same f g level i (nodes.Send p e) h same = refl
 over_same f g level i (nodes.Recv p) h same = refl

@@ -11,7 +11,7 @@ use Rattle.te_terms.specs.declared.expr.Expr.TheVariants as exprs
 use Rattle.te_terms.specs.declared.code.Node.{Node}
 use Rattle.te_terms.specs.declared.code.Node.TheVariants as nodes
 use Rattle.te_terms.specs.Expressions.{Variable, register, name, Primitive, int, chan, part, Calculation, one, both, Expression, whole, tuple}
-use Rattle.te_terms.specs.Terms.{Term, always, never, throw, send, recv, and_then, choose, catch, when}
+use Rattle.te_terms.specs.Terms.{Term, always, never, fresh, throw, send, recv, and_then, choose, catch, when}
 
 abbrev pub variable_of : Var → Variable
 variable_of (Reg r) = register r
@@ -35,6 +35,7 @@ abbrev pub over : (ℕ → ℕ → Term) → ℕ → Option Node → Term
 over under level None = never
 over under level (Some (nodes.Always e)) = always (expression_of e)
 over under level (Some nodes.Never) = never
+over under level (Some nodes.Fresh) = fresh
 over under level (Some (nodes.Throw e)) = throw (expression_of e)
 over under level (Some (nodes.Send p e)) = send (primitive_of p) (expression_of e)
 over under level (Some (nodes.Recv p)) = recv (primitive_of p)

@@ -8,7 +8,7 @@ use Rattle.te_terms.specs.declared.event.Outcome.{Outcome}
 use Rattle.te_terms.specs.declared.event.Parked.{Parked}
 use Rattle.te_terms.specs.Expressions.{value_of, channel_value}
 use Rattle.te_terms.specs.Terms.{Term, send, recv, choose}
-use Rattle.te_terms.specs.Steps.{Member, giving, quiet_step, outcome_of, head, with_head}
+use Rattle.te_terms.specs.Steps.{Member, come_to, at_term, giving, quiet_step, outcome_of, head, with_head}
 
 -- a choice of a thread, true for the left; or a meeting of a sending and a receiving thread
 pub data Label : Type 0 where
@@ -80,7 +80,7 @@ with_member new [] = []
 with_member new (m ∷ ms) = if m.thread == new.thread then new ∷ ms else m ∷ with_member new ms
 
 abbrev pub with_term : List Member → Member → Term → List Member
-with_term g m t = with_member (record m { term = t }) g
+with_term g m t = with_member (at_term m t) g
 
 -- ---- joint steps
 
@@ -141,8 +141,9 @@ abbrev pub part : (ℕ → Bool) → List Member → List Member
 part side [] = []
 part side (m ∷ ms) = cond (side m.thread) (m ∷ part side ms) (part side ms)
 
+-- a parked event has made no channel yet
 abbrev pub as_member : Parked → Member
-as_member p = record { thread = p.thread; term = p.event }
+as_member p = come_to p.thread p.ticket 0 p.event
 
 abbrev pub as_group : List Parked → List Member
 as_group parked = map as_member parked

@@ -1,23 +1,48 @@
 -- What an event code keeps beside its nodes. No public clause cites this module.
-use Rattle.std.specs.Prelude.{Bool, ◌≡◌, ◌↔◌, ℕ, zero, suc, ◌<◌, true, false, List, [], ◌∷◌, length, Option, Some, None, slice_index_or, IsTrue}
+use Rattle.std.specs.Prelude.{Bool, ◌≡◌, ◌↔◌, ℕ, zero, suc, ◌<◌, ◌≤◌, true, false, cond, List, [], ◌∷◌, length, Option, Some, None, slice_index_or, IsTrue}
+use Rattle.std.specs.List.{sum_by}
 use Rattle.te_terms.specs.declared.value.Atom.{Atom}
 use Rattle.te_terms.specs.declared.code.Node.{Node}
 use Rattle.te_terms.specs.declared.code.Node.TheVariants as nodes
 use Rattle.te_terms.specs.declared.code.Mark.{Mark}
-use Rattle.te_terms.specs.Terms.{Term, always, never, throw, send, recv, and_then, choose, catch, when, replaced, registers_to}
+use Rattle.te_terms.specs.Terms.{Term, always, never, fresh, throw, send, recv, and_then, choose, catch, when, replaced, registers_to}
 use Rattle.te_terms.specs.Codes.{term_at, term_under, primitive_of, expression_of}
-use Rattle.te_terms.specs.Shape.{height, weight, times_named, IsForest, term_over}
+use Rattle.te_terms.specs.Measures.{height, weight, node_count, fresh_count}
+use Rattle.te_terms.specs.Limits.{most_nodes, greatest_height, most_fresh}
+use Rattle.te_terms.specs.Shape.{times_named, fresh_nodes, IsForest, term_over}
 
 -- the mark of node i
 pub record Tells (code : List Node) (i : ℕ) (mark : Mark) : Type 0 where
-  pub height_is : mark.height ≡ height (term_under code i)
+  pub nodes_are : mark.nodes ≡ node_count (term_under code i)
   pub weight_is : mark.weight ≡ weight (term_under code i)
+  pub height_is : mark.height ≡ height (term_under code i)
+  pub fresh_are : mark.fresh ≡ fresh_count (term_under code i)
   pub has_parent : IsTrue mark.is_child ↔ (0 < times_named i code)
 
-pub record IsKept (code : List Node) (marks : List Mark) : Type 0 where
+-- a count of the marks, where a node with a parent counts with that one
+abbrev pub open_count : (Mark → ℕ) → Mark → ℕ
+open_count of m = cond m.is_child 0 (of m)
+
+abbrev pub nodes_of : Mark → ℕ
+nodes_of m = m.nodes
+
+abbrev pub fresh_of : Mark → ℕ
+fresh_of m = m.fresh
+
+pub record IsKept (code : List Node) (marks : List Mark) (fresh : ℕ) : Type 0 where
   pub forest : IsForest code
   pub as_many : length marks ≡ length code
   pub tells : (i : ℕ) (other : Mark) → i < length code → Tells code i (slice_index_or marks i other)
+  pub all_nodes : sum_by (open_count nodes_of) marks ≡ length code
+  pub all_fresh : sum_by (open_count fresh_of) marks ≡ fresh_nodes code
+  pub fresh_are : fresh ≡ fresh_nodes code
+
+-- what a mark can say
+pub record IsLow (mark : Mark) : Type 0 where
+  pub few : mark.nodes ≤ most_nodes
+  pub light : mark.weight ≤ most_nodes
+  pub low : mark.height ≤ greatest_height
+  pub few_fresh : mark.fresh ≤ most_fresh
 
 -- two children as a list
 abbrev pub listed : Option (ℕ × ℕ) → List ℕ
@@ -52,8 +77,10 @@ adopted (c ∷ cs) ms = adopted cs (adopt c ms)
 
 -- the mark of a node that is appended
 pub record TellsNew (code : List Node) (node : Node) (mark : Mark) : Type 0 where
-  pub height_is : mark.height ≡ height (term_over code node)
+  pub nodes_are : mark.nodes ≡ node_count (term_over code node)
   pub weight_is : mark.weight ≡ weight (term_over code node)
+  pub height_is : mark.height ≡ height (term_over code node)
+  pub fresh_are : mark.fresh ≡ fresh_count (term_over code node)
   pub no_parent : mark.is_child ≡ false
 
 -- ---- a node over the terms of its children
@@ -68,6 +95,7 @@ second_level _ level = level
 abbrev pub formed : Node → ℕ → Term → Term → Term
 formed (nodes.Always x) level e f = always (expression_of x)
 formed nodes.Never level e f = never
+formed nodes.Fresh level e f = fresh
 formed (nodes.Throw x) level e f = throw (expression_of x)
 formed (nodes.Send p x) level e f = send (primitive_of p) (expression_of x)
 formed (nodes.Recv p) level e f = recv (primitive_of p)

@@ -2,6 +2,8 @@ pub mod Padding
 pub mod Values
 pub mod Expressions
 pub mod Terms
+pub mod Measures
+pub mod Limits
 pub mod Steps
 pub mod Joint
 pub mod Codes

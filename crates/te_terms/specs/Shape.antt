@@ -1,30 +1,12 @@
--- The shape of a code of nodes, and the sizes of terms. All limits are this project's own.
-use Rattle.std.specs.Prelude.{◌≡◌, ℕ, ◌+◌, ◌<◌, ◌≤◌, max, List, [], ◌∷◌, ◌++◌, length, Some, slice_get, ◌==◌}
+-- The shape of a code of nodes. All of it is this project's own.
+use Rattle.std.specs.Prelude.{◌≡◌, ℕ, ◌<◌, ◌≤◌, List, [], ◌∷◌, ◌++◌, length, Some, slice_get, ◌==◌}
 use Rattle.std.specs.List.{sum_by, count_by, AllByRecursion}
 use Rattle.te_terms.specs.declared.code.Node.{Node}
 use Rattle.te_terms.specs.declared.code.Node.TheVariants as nodes
-use Rattle.te_terms.specs.Terms.{Term, send, recv, and_then, choose, catch, when}
+use Rattle.te_terms.specs.Terms.{Term}
+use Rattle.te_terms.specs.Measures.{height, node_count, fresh_count}
+use Rattle.te_terms.specs.Limits.{most_nodes, greatest_height, most_fresh}
 use Rattle.te_terms.specs.Codes.{over, term_at, term_under}
-
--- ---- sizes of terms
-
--- a leaf has height 1
-abbrev pub height : Term → ℕ
-height (and_then e n f) = 1 + max (height e) (height f)
-height (choose e f) = 1 + max (height e) (height f)
-height (catch e n h) = 1 + max (height e) (height h)
-height (when test p q e f) = 1 + max (height e) (height f)
-height _ = 1
-
--- the number of choose, send and receive nodes
-abbrev pub weight : Term → ℕ
-weight (send p e) = 1
-weight (recv p) = 1
-weight (choose e f) = 1 + (weight e + weight f)
-weight (and_then e n f) = weight e + weight f
-weight (catch e n h) = weight e + weight h
-weight (when test p q e f) = weight e + weight f
-weight _ = 0
 
 -- ---- children
 
@@ -48,12 +30,23 @@ times_named c code = sum_by (times_in c) code
 abbrev pub NamesEarlier : ℕ → Node → Type 0
 NamesEarlier i node = AllByRecursion (λ c. c < i) (children node)
 
+-- the number of `Fresh` nodes
+abbrev pub one_if_fresh : Node → ℕ
+one_if_fresh nodes.Fresh = 1
+one_if_fresh _ = 0
+
+abbrev pub fresh_nodes : List Node → ℕ
+fresh_nodes code = sum_by one_if_fresh code
+
 -- what a code keeps
 pub record IsForest (code : List Node) : Type 0 where
-  pub few : length code ≤ 4096
+  pub few : length code ≤ most_nodes
   pub earlier : (i : ℕ) (node : Node) → slice_get code i ≡ Some node → NamesEarlier i node
   pub one_parent : (c : ℕ) → times_named c code ≤ 1
-  pub low : (i : ℕ) → i < length code → height (term_under code i) ≤ 32
+  pub low : (i : ℕ) → i < length code → height (term_under code i) ≤ greatest_height
+  pub few_under : (i : ℕ) → i < length code → node_count (term_under code i) ≤ length code
+  pub fresh_under : (i : ℕ) → i < length code → fresh_count (term_under code i) ≤ fresh_nodes code
+  pub few_fresh : fresh_nodes code ≤ most_fresh
 
 -- ---- one node more
 

@@ -1,20 +1,31 @@
 -- Quiet steps, heads and endings of terms.
--- `then`, `choose`, `send` and `recv` after Donnelly and Fluet, Transactional Events, JFP 18(5-6), 2008; traps, throw, catch and if are this project's own.
-use Rattle.std.specs.Prelude.{◌≡◌, ℕ, Bool, true, false, List, Option, Some, None, Result, Ok, Err, IsSome}
+-- `then`, `choose`, `send` and `recv` after Donnelly and Fluet, Transactional Events, JFP 18(5-6), 2008; traps, throw, catch, if and fresh are this project's own.
+use Rattle.std.specs.Prelude.{◌≡◌, ℕ, suc, Bool, true, false, List, [], ◌∷◌, Option, Some, None, Result, Ok, Err}
 use Rattle.std.specs.Option.{option_map}
 use Rattle.te_terms.specs.declared.value.Atom.{Atom}
+use Rattle.te_terms.specs.declared.value.Atom.TheVariants.{Chan}
 use Rattle.te_terms.specs.declared.value.Trap.{Trap}
 use Rattle.te_terms.specs.declared.value.Trap.TheVariants.{Kind}
 use Rattle.te_terms.specs.declared.event.Outcome.{Outcome}
 use Rattle.te_terms.specs.declared.event.Outcome.TheVariants.{Gives, Raises}
-use Rattle.te_terms.specs.Values.{trap_value}
+use Rattle.te_terms.specs.Values.{trap_value, fresh_channel}
 use Rattle.te_terms.specs.Expressions.{known, whole, value_of, channel_value, test_value}
-use Rattle.te_terms.specs.Terms.{Term, always, never, throw, send, recv, and_then, choose, catch, when, bound}
+use Rattle.te_terms.specs.Terms.{Term, always, never, fresh, throw, send, recv, and_then, choose, catch, when, bound}
 
--- a thread and the term that it has come to
+-- a thread under a ticket, how many fresh channels it has made, and the term that it has come to
 pub record Member : Type 0 where
   pub thread : ℕ
+  pub ticket : ℕ
+  pub count : ℕ
   pub term : Term
+
+-- the one way in which members are made
+abbrev pub come_to : ℕ → ℕ → ℕ → Term → Member
+come_to thread ticket count t = record { thread = thread; ticket = ticket; count = count; term = t }
+
+-- the member at another term
+abbrev pub at_term : Member → Term → Member
+at_term m t = record m { term = t }
 
 -- the terms that give and raise one value
 abbrev pub giving : List Atom → Term
@@ -39,9 +50,6 @@ outcome_of (always e) = given_by (value_of e)
 outcome_of (throw e) = raised_by (value_of e)
 outcome_of _ = None
 
-abbrev pub IsFinal : Term → Type 0
-IsFinal t = IsSome (outcome_of t)
-
 -- ---- quiet steps
 
 -- a trap becomes a throw
@@ -63,31 +71,43 @@ decided (Ok true) e f = e
 decided (Ok false) e f = f
 decided (Err t) e f = raising (trap_value t)
 
+-- the first part's place in `then` and in `catch`
+abbrev pub under_then : ℕ → Term → Member → Member
+under_then n f m = at_term m (and_then m.term n f)
+
+abbrev pub under_catch : ℕ → Term → Member → Member
+under_catch n h m = at_term m (catch m.term n h)
+
 -- what follows the first part of `then`: its ending, where it has one, else its step in its place
-abbrev pub goes_on : Option Outcome → Option Term → ℕ → Term → Option Term
-goes_on (Some (Gives v)) step n f = Some (bound n v f)
-goes_on (Some (Raises v)) step n f = Some (raising v)
-goes_on None step n f = option_map (λ e. and_then e n f) step
+abbrev pub goes_on : (Term → Member) → Option Outcome → Option Member → ℕ → Term → Option Member
+goes_on to (Some (Gives v)) step n f = Some (to (bound n v f))
+goes_on to (Some (Raises v)) step n f = Some (to (raising v))
+goes_on to None step n f = option_map (under_then n f) step
 
-abbrev pub is_caught : Option Outcome → Option Term → ℕ → Term → Option Term
-is_caught (Some (Gives v)) step n h = Some (giving v)
-is_caught (Some (Raises v)) step n h = Some (bound n v h)
-is_caught None step n h = option_map (λ e. catch e n h) step
+abbrev pub is_caught : (Term → Member) → Option Outcome → Option Member → ℕ → Term → Option Member
+is_caught to (Some (Gives v)) step n h = Some (to (giving v))
+is_caught to (Some (Raises v)) step n h = Some (to (bound n v h))
+is_caught to None step n h = option_map (under_catch n h) step
 
--- the quiet step of a thread's term, where it has one
-abbrev pub quiet_of : ℕ → Term → Option Term
-quiet_of thread (always e) = thrown (value_of e)
-quiet_of thread never = None
-quiet_of thread (throw e) = thrown (value_of e)
-quiet_of thread (send p e) = send_trap (channel_value p) (value_of e)
-quiet_of thread (recv p) = recv_trap (channel_value p)
-quiet_of thread (and_then e n f) = goes_on (outcome_of e) (quiet_of thread e) n f
-quiet_of thread (choose e f) = None
-quiet_of thread (catch e n h) = is_caught (outcome_of e) (quiet_of thread e) n h
-quiet_of thread (when test p q e f) = Some (decided (test_value test p q) e f)
+-- the quiet step of the member that has come to a term, where it has one
+abbrev pub quiet_step_of : ℕ → ℕ → ℕ → Term → Option Member
+quiet_step_of thread ticket count (always e) = option_map (come_to thread ticket count) (thrown (value_of e))
+quiet_step_of thread ticket count never = None
+quiet_step_of thread ticket count fresh = Some (come_to thread ticket (suc count) (giving (Chan (fresh_channel thread ticket count) ∷ [])))
+quiet_step_of thread ticket count (throw e) = option_map (come_to thread ticket count) (thrown (value_of e))
+quiet_step_of thread ticket count (send p e) = option_map (come_to thread ticket count) (send_trap (channel_value p) (value_of e))
+quiet_step_of thread ticket count (recv p) = option_map (come_to thread ticket count) (recv_trap (channel_value p))
+quiet_step_of thread ticket count (and_then e n f) = goes_on (come_to thread ticket count) (outcome_of e) (quiet_step_of thread ticket count e) n f
+quiet_step_of thread ticket count (choose e f) = None
+quiet_step_of thread ticket count (catch e n h) = is_caught (come_to thread ticket count) (outcome_of e) (quiet_step_of thread ticket count e) n h
+quiet_step_of thread ticket count (when test p q e f) = Some (come_to thread ticket count (decided (test_value test p q) e f))
 
 abbrev pub quiet_step : Member → Option Member
-quiet_step m = option_map (λ t. record m { term = t }) (quiet_of m.thread m.term)
+quiet_step m = quiet_step_of m.thread m.ticket m.count m.term
+
+-- no quiet step is left
+abbrev pub IsSettled : Member → Type 0
+IsSettled m = quiet_step m ≡ None
 
 -- ---- the head
 
@@ -102,7 +122,3 @@ abbrev pub with_head : Term → Term → Term
 with_head u (and_then e n f) = and_then (with_head u e) n f
 with_head u (catch e n h) = catch (with_head u e) n h
 with_head u _ = u
-
--- no quiet step is left
-abbrev pub IsSettled : Member → Type 0
-IsSettled m = quiet_step m ≡ None

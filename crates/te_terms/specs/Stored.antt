@@ -8,7 +8,7 @@ use Rattle.te_terms.specs.contracts.value.Atom as atom
 use Rattle.te_terms.specs.contracts.expr.Arith as arith
 use Rattle.te_terms.specs.contracts.expr.Test as test
 use Rattle.te_terms.specs.Expressions.{Variable, register, name, known, Primitive, int, chan, part, Calculation, one, both, Expression, whole, tuple}
-use Rattle.te_terms.specs.Terms.{Term, always, never, throw, send, recv, and_then, choose, catch, when}
+use Rattle.te_terms.specs.Terms.{Term, always, never, fresh, throw, send, recv, and_then, choose, catch, when}
 
 abbrev pub coded_value : Coded (List Atom)
 coded_value = coded_list atom.the_row.coded
@@ -74,6 +74,7 @@ coded_expression = record { code = expression_stored; inj = expression_same }
 abbrev term_stored : Term → Gv
 term_stored (always e) = gcons (gnum 0) (coded_expression.code e)
 term_stored never = gcons (gnum 1) gnil
+term_stored fresh = gcons (gnum 9) gnil
 term_stored (throw e) = gcons (gnum 2) (coded_expression.code e)
 term_stored (send p e) = gcons (gnum 3) (gcons (coded_primitive.code p) (coded_expression.code e))
 term_stored (recv p) = gcons (gnum 4) (coded_primitive.code p)
@@ -85,6 +86,7 @@ term_stored (when t p q e f) = gcons (gnum 8) (gcons (test.the_row.coded.code t)
 pub term_same : (t u : Term) → term_stored t ≡ term_stored u → t ≡ u
 term_same (always e) (always e') p = ap always (coded_expression.inj e e' cc)
 term_same never never p = refl
+term_same fresh fresh p = refl
 term_same (throw e) (throw e') p = ap throw (coded_expression.inj e e' cc)
 term_same (send q e) (send q' e') p =
     let qs : q ≡ q' = coded_primitive.inj q q' cc in

@@ -1,5 +1,5 @@
 -- Events as terms, and the replacing of their variables.
--- Forms and binding after Donnelly and Fluet, Transactional Events, JFP 18(5-6), 2008, made first order; throw, catch and if are this project's own.
+-- Forms and binding after Donnelly and Fluet, Transactional Events, JFP 18(5-6), 2008, made first order; throw, catch, if and fresh are this project's own.
 use Rattle.std.specs.Prelude.{ℕ, List, ◌==◌, Some, None, Option, slice_get, if◌then◌else◌}
 use Rattle.te_terms.specs.declared.value.Atom.{Atom}
 use Rattle.te_terms.specs.declared.expr.Test.{Test}
@@ -9,6 +9,7 @@ use Rattle.te_terms.specs.Expressions.{Variable, register, name, known, Primitiv
 pub data Term : Type 0 where
   always : Expression → Term
   never : Term
+  fresh : Term
   throw : Expression → Term
   send : Primitive → Expression → Term
   recv : Primitive → Term
@@ -21,6 +22,7 @@ pub data Term : Type 0 where
 abbrev pub replaced : (Variable → Variable) → Term → Term
 replaced by (always e) = always (in_expression by e)
 replaced by never = never
+replaced by fresh = fresh
 replaced by (throw e) = throw (in_expression by e)
 replaced by (send p e) = send (in_primitive by p) (in_expression by e)
 replaced by (recv p) = recv (in_primitive by p)

@@ -1,5 +1,5 @@
--- Atoms, and the values that traps raise. A value is the list of its atoms.
-use Rattle.std.specs.Prelude.{Bool, false, ◌==◌, List, [], ◌∷◌, ℤ, negsuc, ◌+ℤ◌, ◌-ℤ◌, ◌*ℤ◌, int_le, pos, ◌&&◌, int_lt}
+-- Atoms, the values that traps raise, and the channels that events make. A value is the list of its atoms.
+use Rattle.std.specs.Prelude.{ℕ, ◌+◌, ◌*◌, ◌%◌, ◌^◌, Bool, false, ◌==◌, List, [], ◌∷◌, ℤ, negsuc, ◌+ℤ◌, ◌-ℤ◌, ◌*ℤ◌, int_le, pos, ◌&&◌, int_lt}
 use Rattle.std.specs.Cmp.Lexicographic.{pointwise}
 use Rattle.std.specs.Ordering.{int_eq}
 use Rattle.te_terms.specs.declared.value.Atom.{Atom}
@@ -13,6 +13,10 @@ use Rattle.te_terms.specs.declared.expr.Arith.TheVariants.{Add, Sub, Mul}
 abbrev pub trap_value : Trap → List Atom
 trap_value Range = Int (negsuc 0) ∷ []
 trap_value Kind = Int (negsuc 1) ∷ []
+
+-- the number of the fresh channel that a thread makes under a ticket after so many others; channels of a script are below 256
+abbrev pub fresh_channel : ℕ → ℕ → ℕ → ℕ
+fresh_channel thread ticket count = 2 ^ 30 + ((thread % 64) * 2 ^ 18 + ticket % 2 ^ 18) * 16 + count
 
 -- atoms of different kinds are unequal
 abbrev pub same_atom : Atom → Atom → Bool

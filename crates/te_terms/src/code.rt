@@ -1,10 +1,13 @@
-ghost use Rattle.std.specs.Prelude.{◌≡◌, ◌≢◌, ◌↔◌, ◌<◌, ◌≤◌, ℕ, List, [], ◌∷◌, ◌++◌, length, slice_get, IfOk, IfErr, OnOk, OnErr, IfSome, IsTrue, Err, vec_len, vec_capacity};
+ghost use Rattle.std.specs.Prelude.{◌≡◌, ◌≢◌, ◌↔◌, ◌+◌, ◌<◌, ◌≤◌, ℕ, List, [], ◌∷◌, ◌++◌, length, slice_get, IfOk, IfErr, OnOk, OnErr, IfSome, IsTrue, Err, vec_len, vec_capacity};
 ghost use Rattle.std.specs.Option.{ForSome};
 ghost use Rattle.te_terms.specs.declared.code.Node.{Node};
+ghost use Rattle.te_terms.specs.declared.code.Node.TheVariants as nodes;
 ghost use Rattle.te_terms.specs.declared.code.CodeFault.TheVariants as faults;
 ghost use Rattle.te_terms.specs.Codes.{term_under};
-ghost use Rattle.te_terms.specs.Shape.{children, height, weight, times_named, NamesEarlier, IsForest, HasFreeChildren, term_over};
-ghost use Rattle.te_terms.specs.Kept.{Tells, TellsNew, IsKept, IsFree, listed, own_weight, adopted};
+ghost use Rattle.te_terms.specs.Measures.{height, weight};
+ghost use Rattle.te_terms.specs.Limits.{most_nodes, greatest_height, most_fresh, IsWithinLimits};
+ghost use Rattle.te_terms.specs.Shape.{children, times_named, one_if_fresh, fresh_nodes, NamesEarlier, IsForest, HasFreeChildren, term_over};
+ghost use Rattle.te_terms.specs.Kept.{Tells, TellsNew, IsLow, IsKept, IsFree, listed, own_weight, adopted};
 
 use crate::expr::{Cond, Expr, Operand};
 use std::alloc::Global;
@@ -33,6 +36,8 @@ pub enum Node {
     Catch(u32, u32),
     /// The first part where the condition holds, else the second.
     If(Cond, u32, u32),
+    /// Gives a new channel, whose number is made of the thread, its ticket and a count.
+    Fresh,
 }
 
 impl Node {
@@ -43,16 +48,30 @@ impl Node {
             Node::Then(a, b) | Node::Choose(a, b) | Node::Catch(a, b) | Node::If(_, a, b) => Some((
                 *a, *b,
             )),
-            Node::Always(_) | Node::Never | Node::Throw(_) | Node::Send(_, _) | Node::Recv(_) =>
-                None,
+            Node::Always(_)
+            | Node::Never
+            | Node::Throw(_)
+            | Node::Send(_, _)
+            | Node::Recv(_)
+            | Node::Fresh => None,
         }
     }
 
-    fn own_weight(&self) -> u32
+    fn own_weight(&self) -> u16
         ensures { result ≡ own_weight self.now }
     {
         match self {
             Node::Choose(_, _) | Node::Send(_, _) | Node::Recv(_) => 1,
+            _ => 0,
+        }
+    }
+
+    // 1 for a node that makes a channel, else 0.
+    fn own_fresh(&self) -> u8
+        ensures { result ≡ one_if_fresh self.now }
+    {
+        match self {
+            Node::Fresh => 1,
             _ => 0,
         }
     }
@@ -73,22 +92,29 @@ pub enum CodeFault {
     /// There was no memory.
     #[error("out of memory")]
     Memory,
+    /// There are 16 nodes that make a channel.
+    #[error("there are 16 fresh nodes already")]
+    Fresh,
 }
 
-// What is kept of a node: the height and the weight of the term under it, and whether it has a parent.
+// What is kept of a node: the sizes of the term under it, and whether it has a parent.
 #[derive(Clone, Copy, Drop)]
 struct Mark {
-    height: u32,
-    weight: u32,
+    nodes: u16,
+    weight: u16,
+    height: u8,
+    fresh: u8,
     is_child: bool,
 }
 
 /// The nodes of events, seen as the list of them. Children are earlier nodes, each the child of at most
-/// one; heights are at most 32, and there are at most 4,096 nodes. The limits are this project's own.
+/// one; heights are at most 32, and there are at most 4,096 nodes, 16 of which make a channel. The limits
+/// are this project's own.
 #[derive(Drop)]
 pub struct EventCode {
     nodes: Vec<Node>,
     marks: Vec<Mark>,
+    fresh: u8,
 }
 
 impl Model for EventCode {
@@ -100,7 +126,7 @@ impl Model for EventCode {
 
     ghost view = { λ c. c.nodes.items };
 
-    ghost invariant = { λ c. IsKept c.nodes.items c.marks.items };
+    ghost invariant = { λ c. IsKept c.nodes.items c.marks.items c.fresh };
 }
 
 impl EventCode {
@@ -111,6 +137,7 @@ impl EventCode {
         EventCode {
             nodes: Vec::new(alloc),
             marks: Vec::new(alloc),
+            fresh: 0,
         }
     }
 
@@ -165,12 +192,13 @@ impl EventCode {
         }
     }
 
-    // The weight of the term under node `i`.
+    // The weight of the term under node `i`, which keeps the limits of an event.
     pub(crate) fn weight(&self, i: u32) -> u32
         requires { i < length self.now }
-        ensures { result ≡ weight (term_under self.now i) }
+        ensures value { result ≡ weight (term_under self.now i) }
+        ensures limits { IsWithinLimits (term_under self.now i) }
     {
-        self.mark(i).weight
+        self.mark(i).weight as u32
     }
 
     /// The height of the term under node `i`; a leaf has height 1. It is public for the crates above alone,
@@ -179,45 +207,52 @@ impl EventCode {
     pub fn height(&self, i: u32) -> u32
         requires { i < length self.now }
         ensures value { result ≡ height (term_under self.now i) }
-        ensures low { result ≤ 32 }
+        ensures low { result ≤ greatest_height }
     {
-        self.mark(i).height
+        self.mark(i).height as u32
     }
 
     fn mark(&self, i: u32) -> Mark
         requires { i < length self.now }
         ensures tells { Tells self.now i result }
-        ensures low { result.height ≤ 32 }
+        ensures low { IsLow result }
     {
         self.marks[i as usize]
     }
 
-    fn height_over(&self, node: &Node) -> u32
+    // The mark of a node that isn't there yet.
+    fn mark_over(&self, node: &Node) -> Mark
         requires { HasFreeChildren self.now node.now }
-        ensures { result ≡ height (term_over self.now node.now) }
+        ensures { TellsNew self.now node.now result }
     {
         match node.children() {
-            None => 1,
-            Some((a, b)) => 1 + self.mark(a).height.max(self.mark(b).height),
-        }
-    }
-
-    fn weight_over(&self, node: &Node) -> u32
-        requires free { HasFreeChildren self.now node.now }
-        requires low { height (term_over self.now node.now) ≤ 32 }
-        ensures { result ≡ weight (term_over self.now node.now) }
-    {
-        match node.children() {
-            None => node.own_weight(),
-            Some((a, b)) => node.own_weight() + (self.mark(a).weight + self.mark(b).weight),
+            None => Mark {
+                nodes: 1,
+                weight: node.own_weight(),
+                height: 1,
+                fresh: node.own_fresh(),
+                is_child: false,
+            },
+            Some((a, b)) => {
+                let first = self.mark(a);
+                let second = self.mark(b);
+                Mark {
+                    nodes: 1 + (first.nodes + second.nodes),
+                    weight: node.own_weight() + (first.weight + second.weight),
+                    height: 1 + first.height.max(second.height),
+                    fresh: node.own_fresh() + (first.fresh + second.fresh),
+                    is_child: false,
+                }
+            }
         }
     }
 
     // Puts a node behind the others, and marks it and its children.
     fn append(&mut self, node: Node, mark: Mark) -> Result<u32, CodeFault>
-        requires few { length self.old < 4096 }
+        requires few { length self.old < most_nodes }
         requires free { HasFreeChildren self.old node }
-        requires low { height (term_over self.old node) ≤ 32 }
+        requires few_fresh { fresh_nodes self.old + one_if_fresh node ≤ most_fresh }
+        requires low { height (term_over self.old node) ≤ greatest_height }
         requires told { TellsNew self.old node mark }
         ensures ok { IfOk result (λ number. (number ≡ length self.old) × (self.new ≡ self.old ++ node ∷ [])) }
         ensures memory { IfErr result (λ e. e ≡ faults.Memory) }
@@ -225,6 +260,7 @@ impl EventCode {
     {
         let number = self.nodes.len() as u32;
         let children = node.children();
+        let fresh = self.fresh + node.own_fresh();
         make_room(&mut self.marks)?;
         make_room(&mut self.nodes)?;
         // By reference: the prover takes no enum that holds another one with a model through `Vec::push`.
@@ -233,18 +269,20 @@ impl EventCode {
         };
         self.marks.push_reserved(mark);
         adopt(&mut self.marks, children);
+        self.fresh = fresh;
         Ok(number)
     }
 
     /// Puts a node behind the others, and answers its number. It refuses, in this order, `Child` where a
     /// named child is no earlier node, has a parent already or is named twice, `Full` where there are
-    /// 4,096 nodes, `Depth` where the node's height would pass 32 (a leaf has height 1), and `Memory`.
-    /// After a refusal the code is as before.
+    /// 4,096 nodes, `Fresh` where the node is `Fresh` and there are 16 of them, `Depth` where the node's
+    /// height would pass 32 (a leaf has height 1), and `Memory`. After a refusal the code is as before.
     pub fn push(&mut self, node: Node) -> Result<u32, CodeFault>
         ensures ok { IfOk result (λ number. (number ≡ length self.old) × (self.new ≡ self.old ++ node ∷ [])) }
         ensures child { (result ≡ Err faults.Child) ↔ ¬ HasFreeChildren self.old node }
-        ensures full { (result ≡ Err faults.Full) ↔ (HasFreeChildren self.old node × (4096 ≤ length self.old)) }
-        ensures depth { (result ≡ Err faults.Depth) ↔ (HasFreeChildren self.old node × (length self.old < 4096) × (32 < height (term_over self.old node))) }
+        ensures full { (result ≡ Err faults.Full) ↔ (HasFreeChildren self.old node × (most_nodes ≤ length self.old)) }
+        ensures fresh { (result ≡ Err faults.Fresh) ↔ (HasFreeChildren self.old node × (length self.old < most_nodes) × (node ≡ nodes.Fresh) × (most_fresh ≤ fresh_nodes self.old)) }
+        ensures depth { (result ≡ Err faults.Depth) ↔ (HasFreeChildren self.old node × (length self.old < most_nodes) × (greatest_height < height (term_over self.old node))) }
         ensures err { OnErr result (self.new ≡ self.old) }
     {
         if !self.takes_children(&node) {
@@ -253,15 +291,13 @@ impl EventCode {
         if self.nodes.len() >= 4096 {
             return Err(CodeFault::Full);
         }
-        let height = self.height_over(&node);
-        if height > 32 {
+        if self.fresh + node.own_fresh() > 16 {
+            return Err(CodeFault::Fresh);
+        }
+        let mark = self.mark_over(&node);
+        if mark.height > 32 {
             return Err(CodeFault::Depth);
         }
-        let mark = Mark {
-            height,
-            weight: self.weight_over(&node),
-            is_child: false,
-        };
         self.append(node, mark)
     }
 }

@@ -1,7 +1,8 @@
 ghost use Rattle.std.specs.Prelude.{◌≡◌, ◌↔◌, ◌<◌, ◌≤◌, length, IfSome, IsNone, IfOk, IsTrue};
 ghost use Rattle.te_terms.specs.Terms.{closed};
 ghost use Rattle.te_terms.specs.Codes.{term_under};
-ghost use Rattle.te_terms.specs.Shape.{weight};
+ghost use Rattle.te_terms.specs.Measures.{weight};
+ghost use Rattle.te_terms.specs.Limits.{IsWithinLimits};
 ghost use Rattle.te_terms.specs.Made.{IsMadeOf, HasCode, HasRoot, HasRegisters};
 
 use crate::code::EventCode;
@@ -88,7 +89,8 @@ impl Event {
 
     /// The number of choose, send and receive nodes under the root.
     pub fn weight(&self) -> u32
-        ensures { result ≡ weight self.now }
+        ensures value { result ≡ weight self.now }
+        ensures limits { IsWithinLimits self.now }
     {
         self.code.weight(self.root)
     }

@@ -1,13 +1,14 @@
 // The laws of steps, each the contract of a function with nothing to do: what stands on terms goes by these.
 
-ghost use Rattle.std.specs.Prelude.{◌≡◌, ◌≢◌, ℕ, Bool, Some, None, List, [], ◌∷◌, ◌++◌, length};
+ghost use Rattle.std.specs.Prelude.{◌≡◌, ◌≢◌, ℕ, ◌+◌, ◌<◌, ◌≤◌, Bool, Some, None, List, [], ◌∷◌, ◌++◌, length};
 ghost use Rattle.std.specs.Option.{option_map};
 ghost use Rattle.te_terms.specs.declared.value.Atom.{Atom};
 ghost use Rattle.te_terms.specs.declared.event.Outcome.{Outcome};
 ghost use Rattle.te_terms.specs.Terms.{Term, never, and_then, catch, replaced, closed, bound, scoped};
-ghost use Rattle.te_terms.specs.Steps.{Member, quiet_step, IsSettled, outcome_of, head, with_head};
+ghost use Rattle.te_terms.specs.Measures.{fresh_count};
+ghost use Rattle.te_terms.specs.Steps.{Member, quiet_step, IsSettled, giving, under_then, under_catch, outcome_of, head, with_head};
 ghost use Rattle.te_terms.specs.Joint.{Message, after_choice, sending, receiving};
-ghost use Rattle.te_terms.specs.Settling.{Falls, Quietly, settled, Stands, CannotChoose, IsOpen, under_then, under_catch, then_settled, catch_settled};
+ghost use Rattle.te_terms.specs.Settling.{Falls, steps_most, Quietly, settled, Stands, CannotChoose, IsOpen, then_settled, catch_settled};
 
 /// Quiet steps end: each leaves fewer nodes, or as many nodes and one more final one. A member has at
 /// most one, since `quiet_step` is a function.
@@ -15,14 +16,31 @@ pub fn quiet_steps_end()
     ensures { (m n : Member) → quiet_step m ≡ Some n → Falls m.term n.term }
 {}
 
+/// Each quiet step, each choice and each end of a meeting lowers one measure, so that a member's turns end.
+pub fn turns_end()
+    ensures quiet { (m n : Member) → quiet_step m ≡ Some n → steps_most n.term < steps_most m.term }
+    ensures choice { (left : Bool) (t u : Term) → after_choice left t ≡ Some u → steps_most u < steps_most t }
+    ensures send { (t : Term) (sent : Message) (v : List Atom) → sending t ≡ Some sent → steps_most (with_head (giving v) t) < steps_most t }
+    ensures receive { (t : Term) (channel : ℕ) (v : List Atom) → receiving t ≡ Some channel → steps_most (with_head (giving v) t) < steps_most t }
+{}
+
+/// The channels that a member has made, and the `fresh` nodes that are left of its event, never grow together.
+pub fn fresh_channels_stay_few()
+    ensures quiet { (m n : Member) → quiet_step m ≡ Some n → (m.count ≤ n.count) × (n.count + fresh_count n.term ≤ m.count + fresh_count m.term) }
+    ensures settled { (m : Member) → (m.count ≤ (settled m).count) × ((settled m).count + fresh_count (settled m).term ≤ m.count + fresh_count m.term) }
+    ensures choice { (left : Bool) (t u : Term) → after_choice left t ≡ Some u → fresh_count u ≤ fresh_count t }
+    ensures meeting { (t : Term) (v : List Atom) → fresh_count (with_head (giving v) t) ≤ fresh_count t }
+{}
+
 /// What a member is once its quiet steps are done: quiet steps lead there, none is left, and they lead to
-/// no other end.
+/// no other end; the thread and its ticket stay.
 pub fn members_settle()
     ensures reached { (m : Member) → Quietly m (settled m) }
     ensures done { (m : Member) → IsSettled (settled m) }
     ensures one { (m n : Member) → Quietly m n → IsSettled n → n ≡ settled m }
     ensures after { (m n : Member) → quiet_step m ≡ Some n → settled n ≡ settled m }
     ensures thread { (m : Member) → (settled m).thread ≡ m.thread }
+    ensures ticket { (m : Member) → (settled m).ticket ≡ m.ticket }
 {}
 
 /// A member does one thing at a time: where it is final, can choose, sends or receives, it has no quiet

@@ -15,8 +15,8 @@ pub use code::{CodeFault, EventCode, Node};
 pub use event::{Event, Outcome, Parked};
 pub use expr::{Arith, Calc, Calcs, Cond, Expr, Operand as Prim, Test, Var};
 pub use laws::{
-    bindings_extend, first_parts_step, heads_are_replaced, members_do_one_thing, members_settle,
-    quiet_steps_end, settled_members_stand,
+    bindings_extend, first_parts_step, fresh_channels_stay_few, heads_are_replaced,
+    members_do_one_thing, members_settle, quiet_steps_end, settled_members_stand, turns_end,
 };
 pub use memory::NoMemory;
 pub use name::Name;

@@ -110,6 +110,7 @@ fn same_node(m: &Node, regs: &[Value; 8], n: &Node, others: &[Value; 8]) -> bool
         (Node::Recv(p), Node::Recv(q)) => same_operand(*p, regs, *q, others),
         (Node::If(c, _, _), Node::If(d, _, _)) => same_cond(c, regs, d, others),
         (Node::Never, Node::Never)
+        | (Node::Fresh, Node::Fresh)
         | (Node::Then(_, _), Node::Then(_, _))
         | (Node::Choose(_, _), Node::Choose(_, _))
         | (Node::Catch(_, _), Node::Catch(_, _)) => true,

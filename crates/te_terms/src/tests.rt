@@ -251,7 +251,19 @@ fn codes_are_bounded(rt: HostRuntime) {
         assert_eq!(rt; full.push(Node::Never), Ok(i));
     }
     assert_eq!(rt; full.push(Node::Never), Err(CodeFault::Full));
+    assert_eq!(rt; full.push(Node::Fresh), Err(CodeFault::Full));
     assert_eq!(rt; full.len(), 4096);
+}
+
+#[test]
+fn codes_make_few_channels(rt: HostRuntime) {
+    let mut code = EventCode::new(rt.alloc());
+    for i in 0..16 {
+        assert_eq!(rt; code.push(Node::Fresh), Ok(i));
+    }
+    assert_eq!(rt; code.push(Node::Fresh), Err(CodeFault::Fresh));
+    assert_eq!(rt; code.push(Node::Never), Ok(16));
+    assert_eq!(rt; code.node(15), Some(Node::Fresh));
 }
 
 // `do { _0 <- send r1.0 E; recv 2 }`, whose first part stands first or second among the nodes.

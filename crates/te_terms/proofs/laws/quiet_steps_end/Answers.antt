@@ -1,4 +1,4 @@
-use Rattle.te_terms.proofs.Settles.{step_falls}
+use Rattle.te_terms.proofs.QuietStepsEnd.{step_falls}
 use Rattle.te_terms.proofs.laws.quiet_steps_end.Goals as goal
 
 pub returns : goal.returns

@@ -1,7 +1,7 @@
-use Rattle.std.proofs.Common.{◌≡◌, List, [], ◌∷◌, ◌++◌, length, subst, ap, arith, length-append}
+use Rattle.std.proofs.Common.{◌≡◌, ℕ, ◌+◌, List, [], ◌∷◌, ◌++◌, length, subst, sym, ap, arith, length-append}
 use Rattle.te_terms.specs.declared.code.Node.{Node}
 use Rattle.te_terms.specs.declared.code.Mark.{Mark}
-use Rattle.te_terms.specs.Shape.{children}
+use Rattle.te_terms.specs.Shape.{children, one_if_fresh}
 use Rattle.te_terms.specs.Kept.{IsKept, adopted}
 use Rattle.te_terms.proofs.ChildLemmas.{free_within}
 use Rattle.te_terms.proofs.KeptLemmas.{kept_more}
@@ -17,12 +17,15 @@ adopt-requires c = λ x some.
 
 pub invariant_of-self-2 : goal.invariant_of-self-2
 invariant_of-self-2 c =
-    let Kept : List Node → Type 0 = λ code. IsKept code c.self.inside.marks.items in
-    let more = kept_more c.args.self.now c.self.inside.marks.items c.args.node c.args.mark (subst Kept c.self.view_is c.self.invariant) c.requires.free c.requires.few c.requires.low c.requires.told in
+    let Kept : List Node → Type 0 = λ code. IsKept code c.self.inside.marks.items c.self.inside.fresh in
+    let more = kept_more c.args.self.now c.self.inside.marks.items c.self.inside.fresh c.args.node c.args.mark (subst Kept c.self.view_is c.self.invariant) c.requires.free
+    (record { room = c.requires.few; low = c.requires.low; fresh_room = c.requires.few_fresh }) c.requires.told in
     let nodes : c.args.self.now ++ c.args.node ∷ [] ≡ c.extend_from_slice.new.self.items =
     cc (c.self.view_is, c.in-Ok.ensures.items, c.make_room-2.ensures.items, c.from_ref.ensures.value) in
     let marks : adopted (children c.args.node) (c.self.inside.marks.items ++ c.args.mark ∷ []) ≡ c.adopt.new.marks.items =
     cc (c.adopt.ensures, c.children-children.ensures, c.push_reserved.ensures.items, c.make_room.ensures.items) in
-    let P : List Node → Type 0 = λ code. IsKept code (adopted (children c.args.node) (c.self.inside.marks.items ++ c.args.mark ∷ [])) in
-    let Q : List Mark → Type 0 = λ ms. IsKept c.extend_from_slice.new.self.items ms in
-    subst Q marks (subst P nodes more)
+    let fresh : c.self.inside.fresh + one_if_fresh c.args.node ≡ c.self.inside.fresh + c.own_fresh.result = ap (λ n. c.self.inside.fresh + n) (sym c.own_fresh.ensures) in
+    let P : List Node → Type 0 = λ code. IsKept code (adopted (children c.args.node) (c.self.inside.marks.items ++ c.args.mark ∷ [])) (c.self.inside.fresh + one_if_fresh c.args.node) in
+    let Q : List Mark → Type 0 = λ ms. IsKept c.extend_from_slice.new.self.items ms (c.self.inside.fresh + one_if_fresh c.args.node) in
+    let R : ℕ → Type 0 = λ n. IsKept c.extend_from_slice.new.self.items c.adopt.new.marks.items n in
+    subst R fresh (subst Q marks (subst P nodes more))

@@ -9,17 +9,17 @@ returns-then-len-ge4096-clause-child c = (λ e. absurd cc, λ no. absurd (no (c.
 pub returns-then-len-ge4096-clause-full : goal.returns-then-len-ge4096-clause-full
 returns-then-len-ge4096-clause-full c = (λ e. (c.takes_children.ensures.0 c.if-not-takes_children.false, omega (arith, c.len.ensures, ap length c.self.view_is)), λ full. refl)
 
-pub height_over-height-requires : goal.height_over-height-requires
-height_over-height-requires c = c.takes_children.ensures.0 c.if-not-takes_children.false
+pub mark_over-mark-requires : goal.mark_over-mark-requires
+mark_over-mark-requires c = c.takes_children.ensures.0 c.if-not-takes_children.false
 
-pub returns-then-height-gt32-clause-child : goal.returns-then-height-gt32-clause-child
-returns-then-height-gt32-clause-child c = (λ e. absurd cc, λ no. absurd (no (c.takes_children.ensures.0 c.if-not-takes_children.false)))
+pub returns-then-mark-gt32-clause-child : goal.returns-then-mark-gt32-clause-child
+returns-then-mark-gt32-clause-child c = (λ e. absurd cc, λ no. absurd (no (c.takes_children.ensures.0 c.if-not-takes_children.false)))
 
-pub returns-then-height-gt32-clause-depth : goal.returns-then-height-gt32-clause-depth
-returns-then-height-gt32-clause-depth c = (λ e. (c.takes_children.ensures.0 c.if-not-takes_children.false, omega (arith, c.len.ensures, ap length c.self.view_is), omega (arith, c.height_over-height.ensures)), λ deep. refl)
-
-pub weight_over-requires-clause-free : goal.weight_over-requires-clause-free
-weight_over-requires-clause-free c = c.takes_children.ensures.0 c.if-not-takes_children.false
+pub returns-then-mark-gt32-clause-depth : goal.returns-then-mark-gt32-clause-depth
+returns-then-mark-gt32-clause-depth c = (
+  λ e. (c.takes_children.ensures.0 c.if-not-takes_children.false, omega (arith, c.len.ensures, ap length c.self.view_is), omega (arith, c.mark_over-mark.ensures.height_is)),
+  λ deep. refl,
+)
 
 pub append-requires-clause-free : goal.append-requires-clause-free
 append-requires-clause-free c = c.takes_children.ensures.0 c.if-not-takes_children.false
