@@ -23,3 +23,4 @@ pub mod EventIsRead
 pub mod KeptIsRead
 pub mod TextIsRead
 pub mod WorkedTexts
+pub mod NoFreshYet

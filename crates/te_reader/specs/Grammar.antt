@@ -9,7 +9,7 @@ use Rattle.te_terms.specs.declared.expr.Test.{Test}
 use Rattle.te_terms.specs.declared.expr.Test.TheVariants as tests
 use Rattle.te_terms.specs.Values.{fits_i64}
 use Rattle.te_terms.specs.Expressions.{Variable, register, name, known, Primitive, int, chan, part, Calculation, one, both, Expression, whole, tuple}
-use Rattle.te_terms.specs.Terms.{Term, always, never, throw, send, recv, and_then, choose, catch, when}
+use Rattle.te_terms.specs.Terms.{Term, always, never, fresh, throw, send, recv, and_then, choose, catch, when}
 use Rattle.te_script.specs.Scripts.{Statement, sync, emit, repeat, Thread, Program, with_register}
 use Rattle.te_reader.specs.declared.token.Word.TheVariants as words
 use Rattle.te_reader.specs.declared.token.Sign.{Sign}
@@ -167,9 +167,11 @@ choose_event events = is (word words.Choose) ⨟ is (sign signs.OpenBrace) ⨟ e
 abbrev pub do_parts : Span → Span → Span
 do_parts event rest = is (sign signs.Arrow) ⨟ event ⨟ is (sign signs.Semicolon) ⨟ rest
 
+-- a fresh channel has no spelling yet
 abbrev pub spells_event : Bool → Standing → Names → Term → Span
 spells_event rules at s (always e) = closed at (is (word words.Always) ⨟ spells_expression rules s e)
 spells_event rules at s never = closed at (is (word words.Never))
+spells_event rules at s fresh = λ ts rest. ⊥
 spells_event rules at s (throw e) = closed at (is (word words.Throw) ⨟ spells_expression rules s e)
 spells_event rules at s (send p e) = closed at (is (word words.Send) ⨟ spells_primitive rules s p ⨟ spells_expression rules s e)
 spells_event rules at s (recv p) = closed at (is (word words.Recv) ⨟ spells_primitive rules s p)

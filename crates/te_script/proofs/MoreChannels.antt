@@ -2,7 +2,7 @@
 use Rattle.std.proofs.Common.{ℕ, suc, ◌≤◌, List, [], ◌∷◌, arith}
 use Rattle.std.specs.List.{AllByRecursion}
 use Rattle.te_terms.specs.Expressions.{Variable, register, name, known, Primitive, int, chan, part, Calculation, one, both, Expression, whole, tuple}
-use Rattle.te_terms.specs.Terms.{Term, always, never, throw, send, recv, and_then, choose, catch, when}
+use Rattle.te_terms.specs.Terms.{Term, always, never, fresh, throw, send, recv, and_then, choose, catch, when}
 use Rattle.te_script.specs.Scripts.{Statement, sync, emit, repeat, Thread, Scope, IsNamed, IsPrimitive, IsCalculation, IsExpression, IsEvent, AreStatements, with_register, IsThread}
 
 abbrev scope : ℕ → ℕ → ℕ → Scope
@@ -34,6 +34,7 @@ module _ (m n w u : ℕ) (more : m ≤ n) (later : w ≤ u) where
   pub event : (l : ℕ) (t : Term) → IsEvent (scope w l m) t → IsEvent (scope u l n) t
   event l (always e) h = expression l e h
   event l never h = h
+  event l fresh h = h
   event l (throw e) h = expression l e h
   event l (send p e) h = (primitive l p h.0, expression l e h.1)
   event l (recv p) h = primitive l p h

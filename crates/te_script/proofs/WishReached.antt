@@ -6,7 +6,7 @@ use Rattle.te_terms.specs.declared.event.Outcome.{Outcome}
 use Rattle.te_terms.specs.declared.event.Outcome.TheVariants.{Gives, Raises}
 use Rattle.te_terms.specs.Values.{trap_value}
 use Rattle.te_terms.specs.Expressions.{Variable, register, name, known, Primitive, int, chan, part, Calculation, one, both, Expression, whole, tuple, in_primitive, in_calculation, in_expression, value_of}
-use Rattle.te_terms.specs.Terms.{Term, always, never, throw, send, recv, and_then, choose, catch, when, replaced}
+use Rattle.te_terms.specs.Terms.{Term, always, never, fresh, throw, send, recv, and_then, choose, catch, when, replaced}
 use Rattle.te_script.specs.Scripts.{Thread}
 use Rattle.te_script.specs.declared.wish.Site.{Site}
 use Rattle.te_script.specs.Wishes.{Step, syncing, emitting, flat, holding, Doing, synchronises, ends, has_raised, Reached, emits_or, reached_by, reached, wish_of, wish, site_of, site}
@@ -78,6 +78,7 @@ kept_expression (tuple cs) = ap tuple (kept_calculations cs)
 kept_event : (t : Term) → replaced (λ x. x) t ≡ t
 kept_event (always e) = ap always (kept_expression e)
 kept_event never = refl
+kept_event fresh = refl
 kept_event (throw e) = ap throw (kept_expression e)
 kept_event (send p e) = λ i. send (kept_primitive p i) (kept_expression e i)
 kept_event (recv p) = ap recv (kept_primitive p)

@@ -3,9 +3,8 @@
 use Rattle.std.specs.Prelude.{◌≡◌, ◌≢◌, ℕ, zero, suc, ◌<◌, ◌≤◌, List, [], ◌∷◌, length, map, nat_lt, if◌then◌else◌}
 use Rattle.std.specs.List.{AllByRecursion}
 use Rattle.te_terms.specs.Expressions.{Variable, register, name, known, Primitive, int, chan, part, Calculation, one, both, Expression, whole, tuple}
-use Rattle.te_terms.specs.Terms.{Term, always, never, throw, send, recv, and_then, choose, catch, when}
-use Rattle.te_terms.specs.Shape.{height}
-use Rattle.te_terms.specs.Settling.{node_count}
+use Rattle.te_terms.specs.Terms.{Term, always, never, fresh, throw, send, recv, and_then, choose, catch, when}
+use Rattle.te_terms.specs.Limits.{IsWithinLimits}
 
 -- `sync r t` writes what the event t gives to register r; `emit e` adds the value of e; `repeat times count` does the next count statements so many times
 pub data Statement : Type 0 where
@@ -56,6 +55,7 @@ IsExpression s (tuple cs) = AllByRecursion (IsCalculation s) cs × (length cs �
 abbrev pub IsEvent : Scope → Term → Type 0
 IsEvent s (always e) = IsExpression s e
 IsEvent s never = Unit {0}
+IsEvent s fresh = Unit {0}
 IsEvent s (throw e) = IsExpression s e
 IsEvent s (send p e) = IsPrimitive s p × IsExpression s e
 IsEvent s (recv p) = IsPrimitive s p
@@ -63,12 +63,6 @@ IsEvent s (and_then e n f) = (n ≡ s.level) × IsEvent s e × IsEvent (one_more
 IsEvent s (choose e f) = IsEvent s e × IsEvent s f
 IsEvent s (catch e n h) = (n ≡ s.level) × IsEvent s e × IsEvent (one_more s) h
 IsEvent s (when test p q e f) = IsPrimitive s p × IsPrimitive s q × IsEvent s e × IsEvent s f
-
--- ---- limits of one event
-
-pub record IsWithin (t : Term) : Type 0 where
-  pub nodes : node_count t ≤ 4096
-  pub height : height t ≤ 32
 
 -- ---- threads and programs
 
@@ -95,7 +89,7 @@ pub record IsRepeat (times count : ℕ) (behind : List Statement) : Type 0 where
 abbrev pub AreStatements : ℕ → ℕ → ℕ → List Statement → Type 0
 AreStatements channels registers written [] = written ≡ registers
 AreStatements channels registers written (sync r t ∷ rest) =
-    (r ≤ written) × IsEvent (record { written = written; level = 0; channels = channels }) t × IsWithin t
+    (r ≤ written) × IsEvent (record { written = written; level = 0; channels = channels }) t × IsWithinLimits t
     × AreStatements channels registers (with_register written r) rest
 AreStatements channels registers written (emit e ∷ rest) =
     IsExpression (record { written = written; level = 0; channels = channels }) e × AreStatements channels registers written rest
