@@ -47,7 +47,7 @@ leaf_size (nodes.Choose a b) h = absurd cc
 leaf_size (nodes.Catch a b) h = absurd cc
 leaf_size (nodes.If c a b) h = absurd cc
 
-leaf_over : (under : ℕ → ℕ → Term) (level : ℕ) (node : Node) → children node ≡ [] → over under level (Some node) ≡ leaf node
+pub leaf_over : (under : ℕ → ℕ → Term) (level : ℕ) (node : Node) → children node ≡ [] → over under level (Some node) ≡ leaf node
 leaf_over under level (nodes.Always e) h = refl
 leaf_over under level nodes.Never h = refl
 leaf_over under level nodes.Fresh h = refl

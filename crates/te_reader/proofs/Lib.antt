@@ -24,3 +24,5 @@ pub mod KeptIsRead
 pub mod TextIsRead
 pub mod WorkedTexts
 pub mod NoFreshYet
+pub mod NodesPrinted
+mod CanonicalWorked
