@@ -5,10 +5,10 @@ use Rattle.std.specs.List.{count_by}
 use Rattle.std.proofs.lemmas.Bool.Decides.{nat_tests}
 use Rattle.te_terms.specs.declared.code.Node.{Node}
 use Rattle.te_terms.specs.declared.code.Node.TheVariants as nodes
-use Rattle.te_terms.specs.Terms.{Term, always, never, throw, send, recv, and_then, choose, catch, when}
+use Rattle.te_terms.specs.Terms.{Term, always, never, fresh, throw, send, recv, and_then, choose, catch, when}
 use Rattle.te_terms.specs.Codes.{over, term_within, term_at}
-use Rattle.te_terms.specs.Shape.{height, children, times_in, HasFreeChildren, term_over}
-use Rattle.te_terms.specs.Settling.{node_count}
+use Rattle.te_terms.specs.Shape.{children, times_in, HasFreeChildren, term_over}
+use Rattle.te_terms.specs.Measures.{height, node_count}
 use Rattle.te_terms.specs.Kept.{second_level, formed}
 use Rattle.te_terms.proofs.TermLemmas.{term_at-append, term_at_new}
 use Rattle.te_terms.proofs.ChildLemmas.{times_named_push, leaf_is_free, two_free}
@@ -38,6 +38,7 @@ made_beyond used t ts (inr high) = let over : is_within used t ≡ false = grind
 leaf_size : (node : Node) → children node ≡ [] → (node_count (leaf node) ≡ 1) × (height (leaf node) ≡ 1)
 leaf_size (nodes.Always e) h = (refl, refl)
 leaf_size nodes.Never h = (refl, refl)
+leaf_size nodes.Fresh h = (refl, refl)
 leaf_size (nodes.Throw e) h = (refl, refl)
 leaf_size (nodes.Send p e) h = (refl, refl)
 leaf_size (nodes.Recv p) h = (refl, refl)
@@ -46,9 +47,10 @@ leaf_size (nodes.Choose a b) h = absurd cc
 leaf_size (nodes.Catch a b) h = absurd cc
 leaf_size (nodes.If c a b) h = absurd cc
 
-leaf_over : (under : ℕ → ℕ → Term) (level : ℕ) (node : Node) → children node ≡ [] → over under level (Some node) ≡ leaf node
+pub leaf_over : (under : ℕ → ℕ → Term) (level : ℕ) (node : Node) → children node ≡ [] → over under level (Some node) ≡ leaf node
 leaf_over under level (nodes.Always e) h = refl
 leaf_over under level nodes.Never h = refl
+leaf_over under level nodes.Fresh h = refl
 leaf_over under level (nodes.Throw e) h = refl
 leaf_over under level (nodes.Send p e) h = refl
 leaf_over under level (nodes.Recv p) h = refl
@@ -96,6 +98,7 @@ over_height : (f : ℕ → ℕ → Term) → ((l m c : ℕ) → height (f l c) �
 over_height f same l m None = refl
 over_height f same l m (Some (nodes.Always e)) = refl
 over_height f same l m (Some nodes.Never) = refl
+over_height f same l m (Some nodes.Fresh) = refl
 over_height f same l m (Some (nodes.Throw e)) = refl
 over_height f same l m (Some (nodes.Send p e)) = refl
 over_height f same l m (Some (nodes.Recv p)) = refl
@@ -114,6 +117,7 @@ height_at code l m i = within_height (suc i) code l m i
 over_formed : (under : ℕ → ℕ → Term) (level a b : ℕ) (node : Node) → children node ≡ a ∷ b ∷ [] → over under level (Some node) ≡ formed node level (under level a) (under (second_level node level) b)
 over_formed under level a b (nodes.Always e) h = absurd cc
 over_formed under level a b nodes.Never h = absurd cc
+over_formed under level a b nodes.Fresh h = absurd cc
 over_formed under level a b (nodes.Throw e) h = absurd cc
 over_formed under level a b (nodes.Send p e) h = absurd cc
 over_formed under level a b (nodes.Recv p) h = absurd cc
@@ -125,6 +129,7 @@ over_formed under level a b (nodes.If q c d) h = let one : c ≡ a = cc in let t
 formed_count : (node : Node) (a b level : ℕ) (e f : Term) → children node ≡ a ∷ b ∷ [] → node_count (formed node level e f) ≡ 1 + (node_count e + node_count f)
 formed_count (nodes.Always x) a b level e f h = absurd cc
 formed_count nodes.Never a b level e f h = absurd cc
+formed_count nodes.Fresh a b level e f h = absurd cc
 formed_count (nodes.Throw x) a b level e f h = absurd cc
 formed_count (nodes.Send p x) a b level e f h = absurd cc
 formed_count (nodes.Recv p) a b level e f h = absurd cc
@@ -136,6 +141,7 @@ formed_count (nodes.If q c d) a b level e f h = refl
 pub some_node : (t : Term) → 1 ≤ node_count t
 some_node (always e) = omega arith
 some_node never = omega arith
+some_node fresh = omega arith
 some_node (throw e) = omega arith
 some_node (send p e) = omega arith
 some_node (recv p) = omega arith

@@ -4,9 +4,8 @@ use Rattle.std.specs.Prelude.{Some, None}
 use Rattle.te_terms.specs.declared.expr.Test.{Test}
 use Rattle.te_terms.specs.declared.expr.Test.TheVariants as tests
 use Rattle.te_terms.specs.Expressions.{Primitive, Expression}
-use Rattle.te_terms.specs.Terms.{Term, always, never, throw, send, recv, and_then, choose, catch, when}
-use Rattle.te_terms.specs.Shape.{height}
-use Rattle.te_terms.specs.Settling.{node_count}
+use Rattle.te_terms.specs.Terms.{Term, always, never, fresh, throw, send, recv, and_then, choose, catch, when}
+use Rattle.te_terms.specs.Measures.{height, node_count}
 use Rattle.te_script.specs.Scripts.{Scope, IsEvent}
 use Rattle.te_reader.specs.declared.token.Word.{Word}
 use Rattle.te_reader.specs.declared.token.Word.TheVariants as words
@@ -30,6 +29,7 @@ pub record Fits (layers used : ℕ) (t : Term) : Type 0 where
 some_height : (t : Term) → 1 ≤ height t
 some_height (always e) = omega arith
 some_height never = omega arith
+some_height fresh = omega arith
 some_height (throw e) = omega arith
 some_height (send p e) = omega arith
 some_height (recv p) = omega arith
@@ -42,6 +42,7 @@ some_height (when test p q e f) = omega arith
 begins_with_word : (s : Names) (t : Term) (ts rest : List Token) → spells_event true alone s t ts rest → (w : Word) × (behind : List Token) × (ts ≡ word w ∷ behind)
 begins_with_word s (always e) ts rest h = (words.Always, h.0, h.1)
 begins_with_word s never ts rest h = (words.Never, rest, h)
+begins_with_word s fresh ts rest h = absurd h
 begins_with_word s (throw e) ts rest h = (words.Throw, h.0, h.1)
 begins_with_word s (send p e) ts rest h = (words.Send, h.0, h.1)
 begins_with_word s (recv p) ts rest h = (words.Recv, h.0, h.1)
@@ -304,6 +305,7 @@ module _ (m : ℕ) where
   event_is_read (always e) (suc layers) used at s ts rest keeps scoped fits no_dot h =
       closed_is_read (read_event layers) s used ts (always e) at rest
       (λ last dot k. by_always (read_event layers) s used ts k.0 last (always e) fits.few fits.low k.1 (always_is_read s keeps ts k.0 last (scope_of m s) e scoped k.1 (expression_is_read s keeps (scope_of m s) e k.0 last scoped k.2))) no_dot h
+  event_is_read fresh (suc layers) used at s ts rest keeps scoped fits no_dot h = absurd h
   event_is_read never (suc layers) used at s ts rest keeps scoped fits no_dot h =
       closed_is_read (read_event layers) s used ts never at rest (λ last dot k. by_never (read_event layers) s used ts last last never fits.few fits.low k (never_is_read s keeps ts last last k)) no_dot h
   event_is_read (throw e) (suc layers) used at s ts rest keeps scoped fits no_dot h =

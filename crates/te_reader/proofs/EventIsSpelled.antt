@@ -5,9 +5,8 @@ use Rattle.std.proofs.lemmas.Bool.Decides.{nat_tests}
 use Rattle.te_terms.specs.declared.expr.Test.{Test}
 use Rattle.te_terms.specs.declared.expr.Test.TheVariants as tests
 use Rattle.te_terms.specs.Expressions.{Primitive}
-use Rattle.te_terms.specs.Terms.{Term, always, never, throw, send, recv, and_then, choose, catch, when}
-use Rattle.te_terms.specs.Shape.{height}
-use Rattle.te_terms.specs.Settling.{node_count}
+use Rattle.te_terms.specs.Terms.{Term, always, never, fresh, throw, send, recv, and_then, choose, catch, when}
+use Rattle.te_terms.specs.Measures.{height, node_count}
 use Rattle.te_script.specs.Scripts.{Scope, IsPrimitive, IsEvent, one_more}
 use Rattle.te_reader.specs.declared.token.Word.TheVariants as words
 use Rattle.te_reader.specs.declared.token.Sign.TheVariants as signs
@@ -35,6 +34,7 @@ made_some used t u ts rest e =
 closed_in_do : (s : Names) (t : Term) (ts middle rest : List Token) → spells_event true alone s t ts middle → middle ≡ sign signs.CloseBrace ∷ rest → spells_event true in_do s t ts rest
 closed_in_do s (always e) ts middle rest h close = (middle, h, close)
 closed_in_do s never ts middle rest h close = (middle, h, close)
+closed_in_do s fresh ts middle rest h close = absurd h
 closed_in_do s (throw e) ts middle rest h close = (middle, h, close)
 closed_in_do s (send p e) ts middle rest h close = (middle, h, close)
 closed_in_do s (recv p) ts middle rest h close = (middle, h, close)
@@ -46,6 +46,7 @@ closed_in_do s (when test p q e f) ts middle rest h close = (middle, h, close)
 closed_in_choose : (s : Names) (t : Term) (ts middle rest : List Token) → spells_event true alone s t ts middle → middle ≡ sign signs.CloseBrace ∷ rest → spells_event true in_choose s t ts rest
 closed_in_choose s (always e) ts middle rest h close = (middle, h, close)
 closed_in_choose s never ts middle rest h close = (middle, h, close)
+closed_in_choose s fresh ts middle rest h close = absurd h
 closed_in_choose s (throw e) ts middle rest h close = (middle, h, close)
 closed_in_choose s (send p e) ts middle rest h close = (middle, h, close)
 closed_in_choose s (recv p) ts middle rest h close = (middle, h, close)

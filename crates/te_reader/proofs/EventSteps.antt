@@ -4,7 +4,7 @@ use Rattle.std.specs.Prelude.{Some}
 use Rattle.te_terms.specs.declared.expr.Test.{Test}
 use Rattle.te_terms.specs.Expressions.{Primitive}
 use Rattle.te_terms.specs.Terms.{Term, and_then, choose, catch, when}
-use Rattle.te_terms.specs.Settling.{node_count}
+use Rattle.te_terms.specs.Measures.{node_count}
 use Rattle.te_reader.specs.declared.token.Word.TheVariants as words
 use Rattle.te_reader.specs.declared.token.Sign.TheVariants as signs
 use Rattle.te_reader.specs.Tokens.{Token}

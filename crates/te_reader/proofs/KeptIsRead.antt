@@ -6,7 +6,8 @@ use Rattle.std.proofs.lemmas.List.{append-nil}
 use Rattle.std.proofs.lemmas.Bool.Decides.{nat_tests}
 use Rattle.te_terms.specs.Expressions.{Expression}
 use Rattle.te_terms.specs.Terms.{Term}
-use Rattle.te_script.specs.Scripts.{Scope, IsExpression, IsEvent, IsWithin, Statement, sync, emit, Thread, Program, with_register, AreStatements, AreDistinct, AreApart, IsThread, thread_names, IsProgram}
+use Rattle.te_terms.specs.Limits.{IsWithinLimits}
+use Rattle.te_script.specs.Scripts.{Scope, IsExpression, IsEvent, Statement, sync, emit, repeat, Thread, Program, with_register, AreStatements, AreDistinct, AreApart, IsThread, thread_names, IsProgram}
 use Rattle.te_reader.specs.declared.token.Word.TheVariants as words
 use Rattle.te_reader.specs.declared.token.Sign.TheVariants as signs
 use Rattle.te_reader.specs.Tokens as tokens
@@ -112,13 +113,13 @@ module _ (m : ℕ) (channels registers : List (List ℕ)) (keeps : Registers cha
   unfolding read_emit sign_first
   emit_is_read w s x ts rest scoped h = rw (expression_is_read (names_of channels (take w registers)) (in_scope w) s x ts h.0 scoped h.1, h.2) refl
 
-  sync_is_read : (w : ℕ) (t : Term) (ts rest : List Token) → IsEvent (scope_of m (names_of channels (take w registers))) t → IsWithin t
+  sync_is_read : (w : ℕ) (t : Term) (ts rest : List Token) → IsEvent (scope_of m (names_of channels (take w registers))) t → IsWithinLimits t
       → (is (sign signs.Arrow) ⨟ is (word words.Sync) ⨟ spells_event true alone (names_of channels (take w registers)) t ⨟ is (sign signs.Semicolon)) ts rest → read_sync channels (take w registers) ts ≡ Some (t, rest)
   unfolding read_sync sign_first word_first
   sync_is_read w t ts rest scoped within h =
       let a = h.2 in
       let b = a.2 in
-      let fits : Fits 32 0 t = record { few = omega (arith, within.nodes); low = within.height; layered = within.height } in
+      let fits : Fits 32 0 t = record { few = omega (arith, within.few); low = within.low; layered = within.low } in
       rw (h.1, a.1, event_is_read m t 32 0 alone (names_of channels (take w registers)) a.0 b.0 (in_scope w) scoped fits (other_sign signs.Dot signs.Semicolon b.0 rest b.2 refl) b.1, b.2) refl
 
   -- the closing brace ends the statements
@@ -160,6 +161,7 @@ module _ (m : ℕ) (channels registers : List (List ℕ)) (keeps : Registers cha
       → middle ≡ sign signs.CloseBrace ∷ rest → read_body left channels (take w registers) ts ≡ Some (record { statements = stmts; registers = registers }, rest)
   body_is_read [] w left ts middle rest written most order h close = body_ended w left ts rest order (h ∙ close)
   body_is_read (s ∷ stmts) w zero ts middle rest written most order h close = absurd (omega arith)
+  body_is_read (repeat times count ∷ stmts) w (suc left) ts middle rest written most order h close = absurd h
   body_is_read (emit x ∷ stmts) w (suc left) ts middle rest written most order h close =
       let inside = h.0 in
       let a = h.2 in

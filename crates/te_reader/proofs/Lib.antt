@@ -23,3 +23,6 @@ pub mod EventIsRead
 pub mod KeptIsRead
 pub mod TextIsRead
 pub mod WorkedTexts
+pub mod NoFreshYet
+pub mod NodesPrinted
+mod CanonicalWorked

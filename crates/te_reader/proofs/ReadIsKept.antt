@@ -21,6 +21,7 @@ use Rattle.te_reader.proofs.NameLemmas.{bind_some, checked_some, absent_some, pl
 use Rattle.te_reader.proofs.HeadLemmas.{both_same, name_is, word_is, sign_is}
 use Rattle.te_reader.proofs.ListsKept.{distinct_push, at_more, at_last, short_at, taken, Grows, stays, goes_on, grows_one}
 use Rattle.te_reader.proofs.ReadIsSpelled.{ReadExpression, expression_read}
+use Rattle.te_reader.proofs.NoFreshYet.{makes_none}
 use Rattle.te_reader.proofs.EventIsSpelled.{ReadEvent, event_read}
 
 -- ---- registers
@@ -110,7 +111,7 @@ module _ (m : ℕ) (channels : List (List ℕ)) (many : length channels ≤ m) w
       record {
         grows = all;
         most = omega (arith, later.most);
-        in_order = (reg.known, event.scoped, record { nodes = omega (arith, event.few); height = event.low }, rw reg.written later.in_order);
+        in_order = (reg.known, event.scoped, record { low = event.low; few = omega (arith, event.few); few_fresh = omega (arith, makes_none alone _ t b.0 c.0.1 event.spelled) }, rw reg.written later.in_order);
         spelled = λ short. let l = later.spelled (reg.grows.short short) in (
           l.0,
           (

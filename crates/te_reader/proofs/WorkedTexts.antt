@@ -5,7 +5,7 @@ use Rattle.te_terms.specs.declared.expr.Arith.TheVariants as ariths
 use Rattle.te_terms.specs.declared.expr.Test.TheVariants as tests
 use Rattle.te_terms.specs.Expressions.{register, name, known, int, chan, part, one, both, whole, tuple}
 use Rattle.te_terms.specs.Terms.{always, never, throw, send, recv, and_then, choose, catch, when}
-use Rattle.te_script.specs.Scripts.{Statement, sync, emit, Thread, Program, AreDistinct}
+use Rattle.te_script.specs.Scripts.{Statement, sync, emit, repeat, Thread, Program, AreDistinct}
 use Rattle.te_reader.specs.declared.token.Word.TheVariants as words
 use Rattle.te_reader.specs.declared.token.Sign.TheVariants as signs
 use Rattle.te_reader.specs.Tokens as tokens
@@ -88,6 +88,7 @@ unwritten_lexed = refl
 no_statement : (channels registers : List (List ℕ)) (stmts : List Statement) (rest middle after : List Token) → spells_statements true channels registers 0 stmts (word words.Emit ∷ tokens.name (codes "x") ∷ rest) middle → middle ≡ sign signs.CloseBrace ∷ after → ⊥
 no_statement channels registers [] rest middle after h close = let same = h ∙ close in absurd cc
 no_statement channels registers (sync r t ∷ stmts) rest middle after h close = let begins = h.1.1.1 in absurd cc
+no_statement channels registers (repeat times count ∷ stmts) rest middle after h close = h
 no_statement channels [] (emit (whole (register r)) ∷ stmts) rest middle after h close = let at = h.2.1.1.0 in absurd cc
 no_statement channels (x ∷ xs) (emit (whole (register r)) ∷ stmts) rest middle after h close = let at = h.2.1.1.0 in absurd cc
 no_statement channels registers (emit (whole (name l)) ∷ stmts) rest middle after h close = let at = h.2.1.1.0 in absurd cc

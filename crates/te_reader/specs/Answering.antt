@@ -1,10 +1,11 @@
 -- What calls answer of what is read. Contracts inside this crate cite it.
 use Rattle.std.specs.Prelude.{◌≡◌, ℕ, suc, ◌+◌, ◌<◌, ◌≤◌, ◌⊎◌, List, [], ◌∷◌, ◌++◌, length, Option, Some, None, Result, Ok, Err}
 use Rattle.te_terms.specs.declared.code.Node.{Node}
+use Rattle.te_terms.specs.declared.code.Node.TheVariants as nodes
 use Rattle.te_terms.specs.Codes.{term_at, term_under}
 use Rattle.te_terms.specs.Terms.{Term}
-use Rattle.te_terms.specs.Shape.{height, times_named, IsForest, term_over}
-use Rattle.te_terms.specs.Settling.{node_count}
+use Rattle.te_terms.specs.Shape.{times_named, IsForest, term_over}
+use Rattle.te_terms.specs.Measures.{height, node_count}
 use Rattle.te_script.specs.Scripts.{Program}
 use Rattle.te_reader.specs.declared.fault.ScriptFault.{ScriptFault}
 use Rattle.te_reader.specs.declared.fault.ScriptFault.TheVariants as faults
@@ -39,6 +40,11 @@ AnswersEvent (Ok root) level before after old new o =
     × (new.whole ≡ old.whole) × IsBuilt level before after root
 AnswersEvent (Err faults.Refused) level before after old new o = o ≡ None
 AnswersEvent (Err faults.Memory) level before after old new o = Unit {0}
+
+-- no fresh channel is read yet
+abbrev pub IsNotFresh : Node → Type 0
+IsNotFresh nodes.Fresh = ⊥
+IsNotFresh _ = Unit {0}
 
 -- a node was put behind the others, or the limits refuse it
 abbrev pub Puts : Result ℕ ScriptFault → List Node → List Node → Node → Type 0

@@ -1,8 +1,8 @@
--- Programs of the first form: one node an event, declared channels, and expressions without arithmetic or places.
+-- Programs of the first form: one node an event, declared channels, expressions without arithmetic or places, and nothing repeated.
 use Rattle.std.specs.List.{AllByRecursion}
 use Rattle.te_terms.specs.Expressions.{Primitive, int, chan, Calculation, one, Expression, whole, tuple, register}
 use Rattle.te_terms.specs.Terms.{Term, always, send, recv}
-use Rattle.te_script.specs.Scripts.{Statement, sync, emit, Program}
+use Rattle.te_script.specs.Scripts.{Statement, sync, emit, repeat, Program}
 
 -- a declared channel
 abbrev pub IsChannel : Primitive → Type 0
@@ -31,6 +31,7 @@ IsPlainEvent _ = ⊥
 abbrev pub IsPlainStatement : Statement → Type 0
 IsPlainStatement (sync r t) = IsPlainEvent t
 IsPlainStatement (emit e) = IsPlainExpression e
+IsPlainStatement (repeat times count) = ⊥
 
 abbrev pub First : Program → Type 0
 First p = AllByRecursion (λ t. AllByRecursion IsPlainStatement t.statements) p.threads

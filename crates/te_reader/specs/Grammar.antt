@@ -9,8 +9,8 @@ use Rattle.te_terms.specs.declared.expr.Test.{Test}
 use Rattle.te_terms.specs.declared.expr.Test.TheVariants as tests
 use Rattle.te_terms.specs.Values.{fits_i64}
 use Rattle.te_terms.specs.Expressions.{Variable, register, name, known, Primitive, int, chan, part, Calculation, one, both, Expression, whole, tuple}
-use Rattle.te_terms.specs.Terms.{Term, always, never, throw, send, recv, and_then, choose, catch, when}
-use Rattle.te_script.specs.Scripts.{Statement, sync, emit, Thread, Program, with_register}
+use Rattle.te_terms.specs.Terms.{Term, always, never, fresh, throw, send, recv, and_then, choose, catch, when}
+use Rattle.te_script.specs.Scripts.{Statement, sync, emit, repeat, Thread, Program, with_register}
 use Rattle.te_reader.specs.declared.token.Word.TheVariants as words
 use Rattle.te_reader.specs.declared.token.Sign.{Sign}
 use Rattle.te_reader.specs.declared.token.Sign.TheVariants as signs
@@ -167,9 +167,11 @@ choose_event events = is (word words.Choose) ⨟ is (sign signs.OpenBrace) ⨟ e
 abbrev pub do_parts : Span → Span → Span
 do_parts event rest = is (sign signs.Arrow) ⨟ event ⨟ is (sign signs.Semicolon) ⨟ rest
 
+-- a fresh channel has no spelling yet
 abbrev pub spells_event : Bool → Standing → Names → Term → Span
 spells_event rules at s (always e) = closed at (is (word words.Always) ⨟ spells_expression rules s e)
 spells_event rules at s never = closed at (is (word words.Never))
+spells_event rules at s fresh = λ ts rest. ⊥
 spells_event rules at s (throw e) = closed at (is (word words.Throw) ⨟ spells_expression rules s e)
 spells_event rules at s (send p e) = closed at (is (word words.Send) ⨟ spells_primitive rules s p ⨟ spells_expression rules s e)
 spells_event rules at s (recv p) = closed at (is (word words.Recv) ⨟ spells_primitive rules s p)
@@ -192,6 +194,7 @@ spells_event rules at s (when test p q e f) =
 abbrev pub written_names : List (List ℕ) → List (List ℕ) → ℕ → Names
 written_names channels registers written = record { channels = channels; registers = take written registers; inners = [] }
 
+-- a repeat has no spelling yet
 abbrev pub spells_statements : Bool → List (List ℕ) → List (List ℕ) → ℕ → List Statement → Span
 spells_statements rules channels registers written [] = nothing
 spells_statements rules channels registers written (sync r t ∷ more) =
@@ -201,6 +204,7 @@ spells_statements rules channels registers written (sync r t ∷ more) =
     ⨟ spells_statements rules channels registers (with_register written r) more))
 spells_statements rules channels registers written (emit e ∷ more) =
     is (word words.Emit) ⨟ spells_expression rules (written_names channels registers written) e ⨟ is (sign signs.Semicolon) ⨟ spells_statements rules channels registers written more
+spells_statements rules channels registers written (repeat times count ∷ more) = λ ts rest. ⊥
 
 abbrev pub spells_thread : Bool → List (List ℕ) → Thread → Span
 spells_thread rules channels t =

@@ -12,3 +12,5 @@ pub mod Reads
 pub mod Answering
 pub mod Behind
 pub mod ChannelIndex
+pub mod Canonical
+pub mod Printed

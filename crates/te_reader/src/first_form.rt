@@ -10,7 +10,7 @@ use te_terms::{Calc, EventCode, Expr, Node, Prim, Var};
 
 /// Whether a script is of the first form: each event has one node, an `always`, a `send` or a `recv`; a
 /// declared channel stands in each `send` and `recv`; and an expression is a whole register, or a tuple of
-/// integers and channels. It is public for the crate above alone, which runs these scripts so far.
+/// integers and channels. Nothing is repeated. It is public for the crate above alone, which runs these scripts so far.
 #[doc(hidden)]
 pub fn is_first_form(script: &Script) -> bool
     ensures { IsTrue result ↔ First script.now }
@@ -52,6 +52,7 @@ fn is_plain_statement(stmt: &Stmt) -> bool
     match stmt {
         Stmt::Sync { code, root, .. } => is_plain_event(code, *root),
         Stmt::Emit(value) => is_plain_expression(value),
+        Stmt::Repeat { .. } => false,
     }
 }
 

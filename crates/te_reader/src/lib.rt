@@ -11,6 +11,7 @@ mod integer;
 mod lexing;
 mod names;
 mod node;
+mod printing;
 mod reserved;
 mod scope;
 mod script;
@@ -21,7 +22,10 @@ mod token;
 pub use fault::ScriptFault;
 #[doc(hidden)]
 pub use first_form::is_first_form;
+pub use printing::print_script;
 pub use script::read_script;
 
+#[cfg(test)]
+mod printing_tests;
 #[cfg(test)]
 mod tests;

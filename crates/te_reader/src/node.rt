@@ -2,7 +2,7 @@ ghost use Rattle.std.specs.Prelude.{◌≡◌, [], length, IfOk};
 ghost use Rattle.te_terms.specs.Codes.{primitive_of, term_at};
 ghost use Rattle.te_terms.specs.Shape.{children, HasFreeChildren};
 ghost use Rattle.te_reader.specs.EventReads.{made, read_leaf, read_one, test_first, read_condition};
-ghost use Rattle.te_reader.specs.Answering.{Answers, AnswersEvent, TakesSome, Puts, leaf};
+ghost use Rattle.te_reader.specs.Answering.{Answers, AnswersEvent, TakesSome, IsNotFresh, Puts, leaf};
 
 use crate::cursor::Cursor;
 use crate::expression::{read_expression, read_primitive};
@@ -44,6 +44,7 @@ pub fn read_condition(cursor: &mut Cursor<'_>, names: &Names<'_, '_>) -> Result<
 fn read_leaf(cursor: &mut Cursor<'_>, names: &Names<'_, '_>) -> Result<Node, ScriptFault>
     ensures event { Answers result leaf cursor.old cursor.new (read_leaf names.now cursor.old.tokens) }
     ensures no_parts { IfOk result (λ node. children node ≡ []) }
+    ensures not_fresh { IfOk result (λ node. IsNotFresh node) }
 {
     if cursor.take_word(Word::Always) {
         let value: Expr = read_expression(cursor, names)?;
@@ -85,14 +86,18 @@ pub fn read_one(
 
 /// Puts a node behind the others, where the limits of an event allow it.
 pub fn put(code: &mut EventCode, node: Node) -> Result<u32, ScriptFault>
-    requires { HasFreeChildren code.old node }
+    requires free { HasFreeChildren code.old node }
+    requires not_fresh { IsNotFresh node }
     ensures { Puts result code.old code.new node }
 {
     let _ = code.len();
     let root = match code.push(node) {
         Ok(root) => root,
         Err(CodeFault::Memory) => return Err(ScriptFault::Memory),
-        Err(_) => return Err(ScriptFault::Refused),
+        Err(CodeFault::Full) => return Err(ScriptFault::Refused),
+        Err(CodeFault::Depth) => return Err(ScriptFault::Refused),
+        Err(CodeFault::Child) => unreachable!(),
+        Err(CodeFault::Fresh) => unreachable!(),
     };
     let _ = code.len();
     Ok(root)

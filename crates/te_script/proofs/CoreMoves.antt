@@ -4,23 +4,20 @@ use Rattle.std.specs.Prelude.{slice_get}
 use Rattle.te_terms.specs.declared.value.Atom.{Atom}
 use Rattle.std.proofs.Math.Seq.{drop-nil}
 use Rattle.std.proofs.lemmas.List.{length-map}
-use Rattle.std.proofs.Math.ListN.{drop_of_length-le}
 use Rattle.std.proofs.lemmas.Bool.{cases_lt, ltb-false, ltb-true, eqb-true, eqb-false}
 use Rattle.te_terms.specs.declared.event.Outcome.TheVariants.{Gives}
 use Rattle.te_terms.specs.Expressions.{register, name, known}
-use Rattle.te_terms.specs.Terms.{registers_to, or_register}
+use Rattle.te_terms.specs.Terms.{Term, registers_to, or_register}
 use Rattle.te_script.specs.declared.script.Stmt.{Stmt}
-use Rattle.te_script.specs.Scripts.{Statement, sync, emit, AreStatements, with_register, Thread, IsThread}
-use Rattle.te_script.specs.Wishes.{register_to, written, stand_at, moved}
-use Rattle.te_script.specs.Cores.{without, under, next_of, next_at, IsWaiting, WritesTo, emits_in, IsSettled, Settles, IsCore}
+use Rattle.te_script.specs.declared.wish.Spot.{Spot}
+use Rattle.te_script.specs.Scripts.{Statement, sync, emit, repeat, AreStatements, with_register, Thread, IsThread}
+use Rattle.te_script.specs.Wishes.{Step, syncing, emitting}
+use Rattle.te_script.specs.Cores.{register_to, written, stand_at, moved, without, under, next_of, next_at, IsWaiting, WritesTo, emits_left, Settles, IsCore, IsSpot, left_at, rest_of}
 use Rattle.te_script.specs.Texts.{statement_of}
 use Rattle.te_script.proofs.Places.{slice_get_set_same, slice_get_set_other}
 use Rattle.te_script.proofs.EmitsDone.{nothing_from}
 use Rattle.te_script.proofs.Rebinding.{IsPartial, IsPartial-without, IsWith, without_at, rebound}
-
--- a thread that waits is at one of its statements
-pub waits_within : (stmts : List Stmt) (i : ℕ) → IsWaiting (next_of (drop i (map statement_of stmts))) → i < length stmts
-waits_within stmts i h = elim (cases_lt i (length stmts)) [ inl lt ↦ lt | inr le ↦ absurd (subst (λ ss. IsWaiting (next_of ss)) (nothing_from stmts i le) h) ]
+use Rattle.te_script.proofs.StepsLeft.{left_sync, waits_at}
 
 chosen : (b : Bool) (r k registers : ℕ) → ltb r k ≡ b → cond b k (suc r) ≤ registers → (k ≤ registers) × (r < registers)
 chosen true r k registers e le = (le, omega (arith, ltb-true r k e))
@@ -30,21 +27,20 @@ chosen false r k registers e le = (omega (arith, ltb-false r k e), omega arith)
 pub written_within : (channels registers k : ℕ) (ss : List Statement) → AreStatements channels registers k ss → k ≤ registers
 written_within channels registers k [] h = omega arith
 written_within channels registers k (emit e ∷ ss) h = written_within channels registers k ss h.1
+written_within channels registers k (repeat times count ∷ ss) h = written_within channels registers k ss h.1
 written_within channels registers k (sync r t ∷ ss) h = (chosen (ltb r k) r k registers refl (written_within channels registers (with_register k r) ss h.3)).0
 
 -- each sync writes one of the thread's registers
-pub writes_within : (channels registers k : ℕ) (ss : List Statement) (i r : ℕ) → AreStatements channels registers k ss → WritesTo (drop i ss) r → r < registers
-writes_within channels registers k [] i r h w = absurd (subst (λ ss. WritesTo ss r) (drop-nil i) w)
-writes_within channels registers k (emit e ∷ ss) zero r h w = absurd w
-writes_within channels registers k (emit e ∷ ss) (suc i) r h w = writes_within channels registers k ss i r h.1 w
-writes_within channels registers k (sync s t ∷ ss) zero r h w = rw w (chosen (ltb s k) s k registers refl (written_within channels registers (with_register k s) ss h.3)).1
-writes_within channels registers k (sync s t ∷ ss) (suc i) r h w = writes_within channels registers (with_register k s) ss i r h.3 w
-
--- what is behind a statement
-pub tail_of : (ss : List Statement) (i : ℕ) (s : Statement) (rest : List Statement) → drop i ss ≡ s ∷ rest → drop (i + 1) ss ≡ rest
-tail_of [] i s rest e = absurd (let nil : [] ≡ s ∷ rest = sym (drop-nil i) ∙ e in cc)
-tail_of (s' ∷ ss) zero s rest e = cc
-tail_of (s' ∷ ss) (suc i) s rest e = let n : suc i + 1 ≡ suc (i + 1) = omega arith in rw n (tail_of ss i s rest e)
+pub writes_within : (channels registers k : ℕ) (ss rest : List Statement) (i r : ℕ) (t : Term) → AreStatements channels registers k ss → drop i ss ≡ sync r t ∷ rest → r < registers
+writes_within channels registers k [] rest i r t h e = absurd (let nil : [] ≡ sync r t ∷ rest = sym (drop-nil i) ∙ e in cc)
+writes_within channels registers k (emit x ∷ ss) rest zero r t h e = absurd cc
+writes_within channels registers k (emit x ∷ ss) rest (suc i) r t h e = writes_within channels registers k ss rest i r t h.1 e
+writes_within channels registers k (repeat times count ∷ ss) rest zero r t h e = absurd cc
+writes_within channels registers k (repeat times count ∷ ss) rest (suc i) r t h e = writes_within channels registers k ss rest i r t h.1 e
+writes_within channels registers k (sync s u ∷ ss) rest zero r t h e =
+    let same : s ≡ r = cc in
+    subst (λ q. q < registers) same (chosen (ltb s k) s k registers refl (written_within channels registers (with_register k s) ss h.3)).1
+writes_within channels registers k (sync s u ∷ ss) rest (suc i) r t h e = writes_within channels registers (with_register k s) ss rest i r t h.3 e
 
 registers_partial : (regs : List (List Atom)) → IsPartial (registers_to regs)
 registers_partial regs = record { registers = λ r. found (slice_get regs r) r; names = λ n. refl; values = λ v. refl }
@@ -71,62 +67,56 @@ set_register regs r v lt (register q) = at (eqb q r) refl
         stays None = rw e refl
         stays (Some w) = refl
 
--- the statement that waits, the value that it is given, and where the thread then stands
-pub given_on : (regs : List (List Atom)) (ss : List Statement) (i r : ℕ) (raised : Option (List Atom)) (emitted : List (List Atom)) (v : List Atom) → r < length regs
-    → IsWaiting (next_at raised regs (drop i ss)) → WritesTo (drop i ss) r
-    → moved emitted (next_at raised regs (drop i ss)) (Gives v) ≡ stand_at (under (registers_to (slice_set regs r v)) (drop (i + 1) ss)) emitted
-given_on regs ss i r (Some u) emitted v lt h w = absurd h
-given_on regs ss i r None emitted v lt h w = at (drop i ss) refl h w
-  where
-    at : (rest : List Statement) → drop i ss ≡ rest → IsWaiting (next_at None regs rest) → WritesTo rest r → moved emitted (next_at None regs rest) (Gives v) ≡ stand_at (under (registers_to (slice_set regs r v)) (drop (i + 1) ss)) emitted
-    at [] e h w = absurd h
-    at (emit x ∷ rest) e h w = absurd h
-    at (sync s t ∷ rest) e h w =
-        let same : s ≡ r = sym w in
-        let set = rebound r v rest (without r (registers_to regs)) (registers_to (slice_set regs r v)) (IsPartial-without r (registers_to regs) (registers_partial regs)) (set_register regs r v lt) in
-        ap (λ ss'. stand_at ss' emitted) (subst (λ k. written k v (under (without k (registers_to regs)) rest) ≡ under (registers_to (slice_set regs r v)) rest) w set ∙ ap (under (registers_to (slice_set regs r v))) (sym (tail_of ss i (sync s t) rest e)))
+-- what waits under the registers waits
+pub waits_itself : (raised : Option (List Atom)) (regs : List (List Atom)) (left : List Step) → IsWaiting (next_at raised regs left) → IsWaiting (next_of left)
+waits_itself (Some v) regs left h = absurd h
+waits_itself None regs [] h = absurd h
+waits_itself None regs (syncing at r t ∷ left) h = tt
+waits_itself None regs (emitting at e ∷ left) h = absurd h
+
+-- the step that waits, the value that it is given, and where the thread then stands
+given_on : (regs : List (List Atom)) (left : List Step) (r : ℕ) (raised : Option (List Atom)) (emitted : List (List Atom)) (v : List Atom) → r < length regs → IsWaiting (next_at raised regs left) → WritesTo left r
+    → moved emitted (next_at raised regs left) (Gives v) ≡ stand_at (under (registers_to (slice_set regs r v)) (rest_of left)) emitted
+given_on regs left r (Some u) emitted v lt h w = absurd h
+given_on regs [] r None emitted v lt h w = absurd w
+given_on regs (emitting at e ∷ rest) r None emitted v lt h w = absurd w
+given_on regs (syncing at s t ∷ rest) r None emitted v lt h w =
+    let set = rebound r v rest (without r (registers_to regs)) (registers_to (slice_set regs r v)) (IsPartial-without r (registers_to regs) (registers_partial regs)) (set_register regs r v lt) in
+    ap (λ ss'. stand_at ss' emitted) (subst (λ k. written k v (under (without k (registers_to regs)) rest) ≡ under (registers_to (slice_set regs r v)) rest) w set)
 
 -- a sync emits nothing
-pub emits_behind : (ss : List Statement) (i r : ℕ) → WritesTo (drop i ss) r → emits_in (drop (i + 1) ss) ≡ emits_in (drop i ss)
-emits_behind ss i r w = at (drop i ss) refl w
-  where
-    at : (rest : List Statement) → drop i ss ≡ rest → WritesTo rest r → emits_in (drop (i + 1) ss) ≡ emits_in (drop i ss)
-    at [] e w = absurd w
-    at (emit x ∷ rest) e w = absurd w
-    at (sync s t ∷ rest) e w = ap emits_in (tail_of ss i (sync s t) rest e) ∙ sym (ap emits_in e)
-
--- the register that is written is one of eight
-pub one_of_eight : (t : Thread) (stmts : List Stmt) (i r : ℕ) → IsThread 256 t → map statement_of stmts ≡ t.statements → WritesTo (drop i (map statement_of stmts)) r → r < 8
-one_of_eight t stmts i r h is w = omega (arith, writes_within 256 (length t.registers) 0 t.statements i r h.in_order (subst (λ ss. WritesTo (drop i ss) r) is w), h.registers)
-
--- a statement that writes is one of them
-pub writes_at : (ss : List Statement) (i r : ℕ) → WritesTo (drop i ss) r → i < length ss
-writes_at ss i r w = elim (cases_lt i (length ss)) [ inl lt ↦ lt | inr le ↦ absurd (subst (λ rest. WritesTo rest r) (drop_of_length-le ss le) w) ]
+emits_behind : (left : List Step) (r : ℕ) → WritesTo left r → emits_left (rest_of left) ≡ emits_left left
+emits_behind [] r w = absurd w
+emits_behind (syncing at s t ∷ rest) r w = refl
+emits_behind (emitting at e ∷ rest) r w = absurd w
 
 -- ---- a core that is given a value, over what its calls told
 
-module _ (t : Thread) (first second : List Stmt) (place r : ℕ) (first_is : map statement_of first ≡ t.statements) (second_is : map statement_of second ≡ t.statements)
-    (writes : WritesTo (drop place (map statement_of first)) r) where
-  writes_it : WritesTo (drop place t.statements) r
-  writes_it = subst (λ ss. WritesTo (drop place ss) r) first_is writes
+module _ (t : Thread) (first second : List Stmt) (spot : Spot) (r : ℕ) (first_is : map statement_of first ≡ t.statements) (second_is : map statement_of second ≡ t.statements)
+    (writes : WritesTo (left_at spot (map statement_of first)) r) where
+  writes_it : WritesTo (left_at spot t.statements) r
+  writes_it = subst (λ ss. WritesTo (left_at spot ss) r) first_is writes
 
-  pub one_less : emits_in (drop (place + 1) (map statement_of second)) ≡ emits_in (drop place t.statements)
-  one_less = ap (λ (ss : List Statement). emits_in (drop (place + 1) ss)) second_is ∙ emits_behind t.statements place r writes_it
+  -- the register that is written is one of eight
+  pub one_of_eight : IsThread 256 t → IsSpot spot t.statements → IsWaiting (next_of (left_at spot t.statements)) → r < 8
+  one_of_eight h at w =
+      let here = waits_at spot t.statements at w in
+      let same : r ≡ here.0 = subst (λ left. WritesTo left r) (left_sync spot t.statements _ here.0 here.1 at here.2) writes_it in
+      omega (arith, same, writes_within 256 (length t.registers) 0 t.statements _ spot.place here.0 here.1 h.in_order here.2, h.registers)
 
-  pub within : place + 1 ≤ length second
-  within = omega (arith, writes_at t.statements place r writes_it, length-map second statement_of, ap length second_is)
+  pub stands_given : (regs : List (List Atom)) (raised raised' : Option (List Atom)) (emitted now : List (List Atom)) (v : List Atom) (spot' : Spot) → r < length regs → IsWaiting (next_at raised regs (left_at spot t.statements))
+      → Settles (slice_set regs r v) (rest_of (left_at spot (map statement_of second))) emitted raised' (left_at spot' (map statement_of second)) now
+      → record { emitted = now; next = next_at raised' (slice_set regs r v) (left_at spot' t.statements) } ≡ moved emitted (next_at raised regs (left_at spot t.statements)) (Gives v)
+  stands_given regs raised raised' emitted now v spot' lt waiting settles =
+      let stands = subst (λ (ss : List Statement). stand_at (under (registers_to (slice_set regs r v)) (rest_of (left_at spot ss))) emitted ≡ record { emitted = now; next = next_at raised' (slice_set regs r v) (left_at spot' ss) }) second_is settles.stands in
+      sym (given_on regs (left_at spot t.statements) r raised emitted v lt waiting writes_it ∙ stands)
 
-  pub stands_given : (regs : List (List Atom)) (raised raised' : Option (List Atom)) (emitted now : List (List Atom)) (v : List Atom) (place' : ℕ) → r < length regs → IsWaiting (next_at raised regs (drop place t.statements))
-      → Settles (slice_set regs r v) (drop (place + 1) (map statement_of second)) emitted raised' (drop place' (map statement_of second)) now
-      → record { emitted = now; next = next_at raised' (slice_set regs r v) (drop place' t.statements) } ≡ moved emitted (next_at raised regs (drop place t.statements)) (Gives v)
-  stands_given regs raised raised' emitted now v place' lt waiting settles =
-      let stands = subst (λ (ss : List Statement). stand_at (under (registers_to (slice_set regs r v)) (drop (place + 1) ss)) emitted ≡ record { emitted = now; next = next_at raised' (slice_set regs r v) (drop place' ss) }) second_is settles.stands in
-      sym (given_on regs t.statements place r raised emitted v lt waiting writes_it ∙ stands)
-
-  pub core_given : (regs : List (List Atom)) (raised' : Option (List Atom)) (emitted now : List (List Atom)) (v : List Atom) (place' room : ℕ) → IsCore t place (length emitted) room → place' ≤ length second
-      → Settles (slice_set regs r v) (drop (place + 1) (map statement_of second)) emitted raised' (drop place' (map statement_of second)) now → IsCore t place' (length now) room
-  core_given regs raised' emitted now v place' room old le settles = record {
-    settled = subst (λ (ss : List Statement). IsSettled (drop place' ss)) second_is settles.settled;
-    within = omega (arith, le, length-map second statement_of, ap length second_is);
-    fits = omega (arith, settles.fits, one_less, old.fits, ap (λ (ss : List Statement). emits_in (drop place' ss)) second_is);
-  }
+  pub core_given : (regs : List (List Atom)) (raised' : Option (List Atom)) (emitted now : List (List Atom)) (v : List Atom) (spot' : Spot) (room : ℕ) → IsCore t spot (length emitted) room → IsSpot spot' (map statement_of second)
+      → Settles (slice_set regs r v) (rest_of (left_at spot (map statement_of second))) emitted raised' (left_at spot' (map statement_of second)) now → IsCore t spot' (length now) room
+  core_given regs raised' emitted now v spot' room old at settles =
+      let fits = subst (λ (ss : List Statement). length now + emits_left (left_at spot' ss) ≤ length emitted + emits_left (rest_of (left_at spot ss))) second_is settles.fits in
+      record {
+        short = old.short;
+        at = subst (IsSpot spot') second_is at;
+        fits = omega (arith, fits, old.fits, emits_behind (left_at spot t.statements) r writes_it);
+      }

@@ -1,5 +1,5 @@
 -- How one emit moves a thread on.
-use Rattle.std.proofs.Common.{◌≡◌, ℕ, suc, ◌+◌, ◌≤◌, ◌<◌, List, [], ◌∷◌, ◌++◌, length, map, drop, get_or, None, Ok, Err, refl, sym, ap, ◌∙◌, add-one}
+use Rattle.std.proofs.Common.{◌≡◌, ℕ, suc, ◌+◌, ◌≤◌, ◌<◌, List, [], ◌∷◌, ◌++◌, length, map, drop, get_or, None, Ok, Err, refl, sym, ap, subst, ◌∙◌, add-one, arith}
 use Rattle.std.proofs.Math.Seq.{drop-cons}
 use Rattle.std.proofs.Math.ListN.{drop_of_length-le}
 use Rattle.std.proofs.lemmas.List.{drop-map}
@@ -12,9 +12,10 @@ use Rattle.te_terms.specs.declared.expr.Expr.{Expr}
 use Rattle.te_terms.specs.Codes.{expression_of}
 use Rattle.te_script.specs.declared.script.Stmt.{Stmt}
 use Rattle.te_script.specs.declared.script.Stmt.TheVariants as kinds
+use Rattle.te_script.specs.declared.wish.Site.{Site}
 use Rattle.te_script.specs.Scripts.{Statement, sync, emit}
-use Rattle.te_script.specs.Wishes.{failed, stand_at, emits}
-use Rattle.te_script.specs.Cores.{under, next_at, IsSettled}
+use Rattle.te_script.specs.Wishes.{Step, syncing, emitting, site_at, flat_from}
+use Rattle.te_script.specs.Cores.{failed, stand_at, emits, under, next_at, IsSettled, IsPastEmits, behind}
 use Rattle.te_script.specs.Texts.{statement_of}
 
 -- with no inner name in scope, a variable is a register's value
@@ -40,21 +41,31 @@ pub nothing_from : (stmts : List Stmt) (i : ℕ) → length stmts ≤ i → drop
 nothing_from stmts i le = drop-map statement_of i stmts ∙ ap (map statement_of) (drop_of_length-le stmts le)
 
 -- an emit that has a value
-pub emits_on : (regs : List (List Atom)) (e : Expression) (rest : List Statement) (emitted : List (List Atom)) (v : List Atom) → value_of (in_expression (scoped regs []) e) ≡ Ok v
-    → stand_at (under (registers_to regs) (emit e ∷ rest)) emitted ≡ stand_at (under (registers_to regs) rest) (emitted ++ v ∷ [])
-emits_on regs e rest emitted v is = ap (λ r. emits r emitted (stand_at (under (registers_to regs) rest))) (sym (evaluated regs e) ∙ is)
+pub emits_on : (regs : List (List Atom)) (at : Site) (e : Expression) (rest : List Step) (emitted : List (List Atom)) (v : List Atom) → value_of (in_expression (scoped regs []) e) ≡ Ok v
+    → stand_at (under (registers_to regs) (emitting at e ∷ rest)) emitted ≡ stand_at (under (registers_to regs) rest) (emitted ++ v ∷ [])
+emits_on regs at e rest emitted v is = ap (λ r. emits r emitted (stand_at (under (registers_to regs) rest))) (sym (evaluated regs e) ∙ is)
 
 -- an emit that traps
-pub emits_trap : (regs : List (List Atom)) (e : Expression) (rest : List Statement) (emitted : List (List Atom)) (t : Trap) → value_of (in_expression (scoped regs []) e) ≡ Err t
-    → stand_at (under (registers_to regs) (emit e ∷ rest)) emitted ≡ record { emitted = emitted; next = failed (trap_value t) }
-emits_trap regs e rest emitted t is = ap (λ r. emits r emitted (stand_at (under (registers_to regs) rest))) (sym (evaluated regs e) ∙ is)
+pub emits_trap : (regs : List (List Atom)) (at : Site) (e : Expression) (rest : List Step) (emitted : List (List Atom)) (t : Trap) → value_of (in_expression (scoped regs []) e) ≡ Err t
+    → stand_at (under (registers_to regs) (emitting at e ∷ rest)) emitted ≡ record { emitted = emitted; next = failed (trap_value t) }
+emits_trap regs at e rest emitted t is = ap (λ r. emits r emitted (stand_at (under (registers_to regs) rest))) (sym (evaluated regs e) ∙ is)
 
 -- at a sync or past the end the emits are done
-pub settled_stand : (regs : List (List Atom)) (rest : List Statement) (emitted : List (List Atom)) → IsSettled rest
+pub settled_stand : (regs : List (List Atom)) (rest : List Step) (emitted : List (List Atom)) → IsSettled rest
     → stand_at (under (registers_to regs) rest) emitted ≡ record { emitted = emitted; next = next_at None regs rest }
 settled_stand regs [] emitted h = refl
-settled_stand regs (sync r t ∷ rest) emitted h = refl
-settled_stand regs (emit e ∷ rest) emitted h = absurd h
+settled_stand regs (syncing at r t ∷ rest) emitted h = refl
+settled_stand regs (emitting at e ∷ rest) emitted h = absurd h
 
 pub emit_from : (stmts : List Stmt) (i : ℕ) (s : Stmt) (e : Expr) → i < length stmts → s ≡ get_or stmts i s → s ≡ kinds.Emit e → drop i (map statement_of stmts) ≡ emit (expression_of e) ∷ drop (i + 1) (map statement_of stmts)
 emit_from stmts i s e lt is kind = statements_from stmts i s lt is ∙ ap (λ k. statement_of k ∷ drop (i + 1) (map statement_of stmts)) kind
+
+-- the steps from an emit on
+pub behind_emit : (place : ℕ) (ss : List Statement) (e : Expression) → drop place ss ≡ emit e ∷ drop (place + 1) ss → behind place ss ≡ emitting (site_at (suc place) 0) e ∷ behind (place + 1) ss
+behind_emit place ss e is = ap (flat_from (suc place) 0) is ∙ (let n : suc place ≡ place + 1 = omega arith in λ i. emitting (site_at (suc place) 0) e ∷ flat_from (suc (n i)) 0 (drop (place + 1) ss))
+
+-- what is no emit is past the emits
+pub past_emits_at : (s : Stmt) (ss rest : List Statement) → ss ≡ statement_of s ∷ rest → ((e : Expr) → s ≡ kinds.Emit e → ⊥) → IsPastEmits ss
+past_emits_at (kinds.Sync r code root) ss rest is not = subst IsPastEmits (sym is) tt
+past_emits_at (kinds.Emit e) ss rest is not = absurd (not e refl)
+past_emits_at (kinds.Repeat times count) ss rest is not = subst IsPastEmits (sym is) tt

@@ -1,12 +1,11 @@
--- Writing a register in the statements left under some registers leaves them under the registers with the new value.
+-- Writing a register in the steps left under some registers leaves them under the registers with the new value.
 use Rattle.std.proofs.Common.{◌≡◌, ℕ, ◌⊎◌, inl, inr, Bool, true, false, cond, eqb, List, [], ◌∷◌, refl, sym, ap, subst, ◌∙◌}
 use Rattle.std.proofs.lemmas.Bool.{eqb-true}
 use Rattle.te_terms.specs.declared.value.Atom.{Atom}
 use Rattle.te_terms.specs.Expressions.{Variable, register, name, known, in_expression}
 use Rattle.te_terms.specs.Terms.{replaced}
-use Rattle.te_script.specs.Scripts.{Statement, sync, emit}
-use Rattle.te_script.specs.Wishes.{register_to, written}
-use Rattle.te_script.specs.Cores.{without, under}
+use Rattle.te_script.specs.Wishes.{Step, syncing, emitting}
+use Rattle.te_script.specs.Cores.{register_to, written, without, under}
 use Rattle.te_terms.proofs.BindingLaws.{replaced_twice}
 use Rattle.te_script.proofs.Replacing.{expression_twice}
 
@@ -36,7 +35,7 @@ IsPartial-without s f p = record { registers = λ q. at q (eqb q s) refl; names 
     at q false e = subst (λ x. (x ≡ register q) ⊎ ((v : List Atom) × (x ≡ known v))) (sym (without_at s q f false e)) (p.registers q)
 
 -- another register's value doesn't change
-other_stays : (r : ℕ) (v : List Atom) (q : ℕ) (x : Variable) → eqb q r ≡ false → (x ≡ register q) ⊎ ((w : List Atom) × (x ≡ known w)) → register_to r v x ≡ x
+pub other_stays : (r : ℕ) (v : List Atom) (q : ℕ) (x : Variable) → eqb q r ≡ false → (x ≡ register q) ⊎ ((w : List Atom) × (x ≡ known w)) → register_to r v x ≡ x
 other_stays r v q x ne (inl is) = subst (λ y. register_to r v y ≡ y) (sym is) (rw ne refl)
 other_stays r v q x ne (inr k) = subst (λ y. register_to r v y ≡ y) (sym k.1) refl
 
@@ -62,16 +61,16 @@ with_without r s v f g ne w (register q) = at (eqb q s) refl
         ∙ sym (without_at s q g true e)
     at false e = ap (register_to r v) (without_at s q f false e) ∙ w (register q) ∙ sym (without_at s q g false e)
 
-pub rebound : (r : ℕ) (v : List Atom) (ss : List Statement) (f g : Variable → Variable) → IsPartial f → IsWith r v f g → written r v (under f ss) ≡ under g ss
+pub rebound : (r : ℕ) (v : List Atom) (ss : List Step) (f g : Variable → Variable) → IsPartial f → IsWith r v f g → written r v (under f ss) ≡ under g ss
 rebound r v [] f g p w = refl
-rebound r v (emit e ∷ ss) f g p w =
+rebound r v (emitting at e ∷ ss) f g p w =
     let here = expression_twice (register_to r v) f e ∙ ap (λ (h : Variable → Variable). in_expression h e) (same_functions _ g w) in
     let rest = rebound r v ss f g p w in
-    λ i. emit (here i) ∷ rest i
-rebound r v (sync s t ∷ ss) f g p w =
+    λ i. emitting at (here i) ∷ rest i
+rebound r v (syncing at s t ∷ ss) f g p w =
     let here = replaced_twice (register_to r v) f t ∙ ap (λ (h : Variable → Variable). replaced h t) (same_functions _ g w) in
     let rest = behind (eqb s r) refl (λ ne. rebound r v ss (without s f) (without s g) (IsPartial-without s f p) (with_without r s v f g ne w)) in
-    λ i. sync s (here i) ∷ rest i
+    λ i. syncing at s (here i) ∷ rest i
   where
     behind : (b : Bool) → eqb s r ≡ b → (eqb s r ≡ false → written r v (under (without s f) ss) ≡ under (without s g) ss) → cond (eqb s r) (under (without s f) ss) (written r v (under (without s f) ss)) ≡ under (without s g) ss
     behind true e go = rw e (subst (λ k. under (without k f) ss ≡ under (without k g) ss) (sym (eqb-true s r e)) (ap (λ (h : Variable → Variable). under h ss) (same_functions _ _ (same_without r v f g p w))))

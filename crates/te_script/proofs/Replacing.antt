@@ -3,7 +3,7 @@
 use Rattle.std.proofs.Common.{◌≡◌, ℕ, ◌<◌, List, [], ◌∷◌, map, refl}
 use Rattle.std.specs.List.{AllByRecursion}
 use Rattle.te_terms.specs.Expressions.{Variable, register, name, known, Primitive, int, chan, part, Calculation, one, both, Expression, whole, tuple, in_primitive, in_calculation, in_expression}
-use Rattle.te_terms.specs.Terms.{Term, always, never, throw, send, recv, and_then, choose, catch, when, replaced}
+use Rattle.te_terms.specs.Terms.{Term, always, never, fresh, throw, send, recv, and_then, choose, catch, when, replaced}
 use Rattle.te_terms.proofs.BindingLaws.{replaced_twice}
 use Rattle.te_script.specs.Scripts.{Scope, one_more, IsNamed, IsPrimitive, IsCalculation, IsExpression, IsEvent}
 
@@ -43,6 +43,7 @@ expression_kept f s (tuple cs) k h = λ i. tuple (calculations_kept f s cs k h.0
 pub event_kept : (f : Variable → Variable) (s : Scope) (t : Term) → Keeps f s.written → IsEvent s t → replaced f t ≡ t
 event_kept f s (always e) k h = λ i. always (expression_kept f s e k h i)
 event_kept f s never k h = refl
+event_kept f s fresh k h = refl
 event_kept f s (throw e) k h = λ i. throw (expression_kept f s e k h i)
 event_kept f s (send p e) k h = λ i. send (primitive_kept f s p k h.0 i) (expression_kept f s e k h.1 i)
 event_kept f s (recv p) k h = λ i. recv (primitive_kept f s p k h i)

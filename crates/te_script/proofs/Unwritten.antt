@@ -1,16 +1,18 @@
 -- Before any outcome no register is read that isn't written, so the registers' values at the start don't matter.
-use Rattle.std.proofs.Common.{◌≡◌, ◌≢◌, ℕ, suc, ◌<◌, ◌≤◌, Bool, true, false, cond, eqb, ltb, Option, List, [], ◌∷◌, length, map, drop, refl, sym, ap, subst, ◌∙◌, arith}
+use Rattle.std.proofs.Common.{◌≡◌, ◌≢◌, ℕ, zero, suc, ◌<◌, ◌≤◌, Bool, true, false, cond, eqb, ltb, Option, List, [], ◌∷◌, length, map, drop, refl, sym, ap, subst, ◌∙◌, arith}
 use Rattle.std.proofs.lemmas.Bool.{eqb-false}
 use Rattle.te_terms.specs.declared.value.Atom.{Atom}
 use Rattle.te_terms.specs.Expressions.{Variable, register}
 use Rattle.te_terms.specs.Terms.{registers_to}
-use Rattle.te_script.specs.Scripts.{Statement, sync, emit, AreStatements, with_register, Thread, IsThread}
+use Rattle.te_script.specs.Scripts.{Statement, with_register, Thread, IsThread}
 use Rattle.te_script.specs.declared.script.Stmt.{Stmt}
-use Rattle.te_script.specs.Wishes.{stand_at}
+use Rattle.te_script.specs.declared.wish.Spot.{Spot}
+use Rattle.te_script.specs.Wishes.{Step, syncing, emitting, flat}
 use Rattle.te_script.specs.Texts.{statement_of}
-use Rattle.te_script.specs.Cores.{without, under, next_at, Settles}
+use Rattle.te_script.specs.Cores.{stand_at, without, under, next_at, behind, left_at, Settles}
 use Rattle.te_script.proofs.Replacing.{Keeps, expression_kept, event_kept}
 use Rattle.te_script.proofs.Rebinding.{without_at}
+use Rattle.te_script.proofs.StepsInScope.{AreSteps, thread_steps}
 
 below : (b : Bool) (q r k : ℕ) → ltb r k ≡ b → r ≤ k → q < cond b k (suc r) → q ≢ r → q < k
 below true q r k e le lt ne = lt
@@ -23,20 +25,20 @@ Keeps-without f r k le kept = record { registers = λ q lt. at q lt (eqb q r) re
     at q lt true e = without_at r q f true e
     at q lt false e = without_at r q f false e ∙ kept.registers q (below (ltb r k) q r k refl le lt (eqb-false q r e))
 
-pub under_kept : (channels registers k : ℕ) (ss : List Statement) (f : Variable → Variable) → Keeps f k → AreStatements channels registers k ss → under f ss ≡ ss
-under_kept channels registers k [] f kept h = refl
-under_kept channels registers k (emit e ∷ ss) f kept h =
-    λ i. emit (expression_kept f (record { written = k; level = 0; channels = channels }) e kept h.0 i) ∷ under_kept channels registers k ss f kept h.1 i
-under_kept channels registers k (sync r t ∷ ss) f kept h =
-    λ i. sync r (event_kept f (record { written = k; level = 0; channels = channels }) t kept h.1 i) ∷ under_kept channels registers (with_register k r) ss (without r f) (Keeps-without f r k h.0 kept) h.3 i
+under_kept : (channels k : ℕ) (ss : List Step) (f : Variable → Variable) → Keeps f k → AreSteps channels k ss → under f ss ≡ ss
+under_kept channels k [] f kept h = refl
+under_kept channels k (emitting at e ∷ ss) f kept h =
+    λ i. emitting at (expression_kept f (record { written = k; level = 0; channels = channels }) e kept h.0 i) ∷ under_kept channels k ss f kept h.1 i
+under_kept channels k (syncing at r t ∷ ss) f kept h =
+    λ i. syncing at r (event_kept f (record { written = k; level = 0; channels = channels }) t kept h.1 i) ∷ under_kept channels (with_register k r) ss (without r f) (Keeps-without f r k h.0 kept) h.2 i
 
-pub nothing_written : (channels registers : ℕ) (ss : List Statement) (regs : List (List Atom)) → AreStatements channels registers 0 ss → under (registers_to regs) ss ≡ ss
-nothing_written channels registers ss regs h = under_kept channels registers 0 ss (registers_to regs) (record { registers = λ r lt. absurd (omega arith); names = λ n. refl }) h
+nothing_written : (channels : ℕ) (t : Thread) (regs : List (List Atom)) → IsThread channels t → under (registers_to regs) (flat t) ≡ flat t
+nothing_written channels t regs h = under_kept channels 0 (flat t) (registers_to regs) (record { registers = λ r lt. absurd (omega arith); names = λ n. refl }) (thread_steps channels t h)
 
 -- where a thread stands at its start
-pub first_stand : (t : Thread) (stmts : List Stmt) (place : ℕ) {regs now : List (List Atom)} {raised : Option (List Atom)} → map statement_of stmts ≡ t.statements → IsThread 256 t
-    → Settles regs (map statement_of stmts) [] raised (drop place (map statement_of stmts)) now
-    → record { emitted = now; next = next_at raised regs (drop place t.statements) } ≡ stand_at t.statements []
-first_stand t stmts place {regs = regs} {now = now} {raised = raised} is h settles =
-    let stands = subst (λ (ss : List Statement). stand_at (under (registers_to regs) ss) [] ≡ record { emitted = now; next = next_at raised regs (drop place ss) }) is settles.stands in
-    sym stands ∙ ap (λ (ss : List Statement). stand_at ss []) (nothing_written 256 (length t.registers) t.statements regs h.in_order)
+pub first_stand : (t : Thread) (stmts : List Stmt) (spot : Spot) {regs now : List (List Atom)} {raised : Option (List Atom)} → map statement_of stmts ≡ t.statements → IsThread 256 t
+    → Settles regs (behind 0 (map statement_of stmts)) [] raised (left_at spot (map statement_of stmts)) now
+    → record { emitted = now; next = next_at raised regs (left_at spot t.statements) } ≡ stand_at (flat t) []
+first_stand t stmts spot {regs = regs} {now = now} {raised = raised} is h settles =
+    let stands = subst (λ (ss : List Statement). stand_at (under (registers_to regs) (behind 0 ss)) [] ≡ record { emitted = now; next = next_at raised regs (left_at spot ss) }) is settles.stands in
+    sym stands ∙ ap (λ (ss : List Step). stand_at ss []) (nothing_written 256 t regs h)

@@ -1,16 +1,16 @@
 -- Scripts as values: statements over terms whose registers are not yet replaced.
 -- All of it is this project's own.
-use Rattle.std.specs.Prelude.{◌≡◌, ◌≢◌, ℕ, suc, ◌<◌, ◌≤◌, List, [], ◌∷◌, length, map, nat_lt, if◌then◌else◌}
+use Rattle.std.specs.Prelude.{◌≡◌, ◌≢◌, ℕ, zero, suc, ◌<◌, ◌≤◌, List, [], ◌∷◌, length, map, nat_lt, if◌then◌else◌}
 use Rattle.std.specs.List.{AllByRecursion}
 use Rattle.te_terms.specs.Expressions.{Variable, register, name, known, Primitive, int, chan, part, Calculation, one, both, Expression, whole, tuple}
-use Rattle.te_terms.specs.Terms.{Term, always, never, throw, send, recv, and_then, choose, catch, when}
-use Rattle.te_terms.specs.Shape.{height}
-use Rattle.te_terms.specs.Settling.{node_count}
+use Rattle.te_terms.specs.Terms.{Term, always, never, fresh, throw, send, recv, and_then, choose, catch, when}
+use Rattle.te_terms.specs.Limits.{IsWithinLimits}
 
--- `sync r t` writes what the event t gives to register r; `emit e` adds the value of e
+-- `sync r t` writes what the event t gives to register r; `emit e` adds the value of e; `repeat times count` does the next count statements so many times
 pub data Statement : Type 0 where
   sync : ℕ → Term → Statement
   emit : Expression → Statement
+  repeat : ℕ → ℕ → Statement
 
 -- a thread's name, the names of its registers by number, and its statements
 pub record Thread : Type 0 where
@@ -55,6 +55,7 @@ IsExpression s (tuple cs) = AllByRecursion (IsCalculation s) cs × (length cs �
 abbrev pub IsEvent : Scope → Term → Type 0
 IsEvent s (always e) = IsExpression s e
 IsEvent s never = Unit {0}
+IsEvent s fresh = Unit {0}
 IsEvent s (throw e) = IsExpression s e
 IsEvent s (send p e) = IsPrimitive s p × IsExpression s e
 IsEvent s (recv p) = IsPrimitive s p
@@ -63,26 +64,36 @@ IsEvent s (choose e f) = IsEvent s e × IsEvent s f
 IsEvent s (catch e n h) = (n ≡ s.level) × IsEvent s e × IsEvent (one_more s) h
 IsEvent s (when test p q e f) = IsPrimitive s p × IsPrimitive s q × IsEvent s e × IsEvent s f
 
--- ---- limits of one event
-
-pub record IsWithin (t : Term) : Type 0 where
-  pub nodes : node_count t ≤ 4096
-  pub height : height t ≤ 32
-
 -- ---- threads and programs
 
 -- how many registers have been written once register r is
 abbrev pub with_register : ℕ → ℕ → ℕ
 with_register written r = if nat_lt r written then written else suc r
 
+-- the first so many statements are there, and are syncs
+abbrev pub AreSyncs : ℕ → List Statement → Type 0
+AreSyncs zero ss = Unit {0}
+AreSyncs (suc count) [] = ⊥
+AreSyncs (suc count) (sync r t ∷ ss) = AreSyncs count ss
+AreSyncs (suc count) (emit e ∷ ss) = ⊥
+AreSyncs (suc count) (repeat times more ∷ ss) = ⊥
+
+-- a repeat of the statements behind it, which are syncs
+pub record IsRepeat (times count : ℕ) (behind : List Statement) : Type 0 where
+  pub some_times : 0 < times
+  pub most : times ≤ 10000
+  pub some : 0 < count
+  pub body : AreSyncs count behind
+
 -- registers are numbered in the order of their first writing, and each is read only after it was written
 abbrev pub AreStatements : ℕ → ℕ → ℕ → List Statement → Type 0
 AreStatements channels registers written [] = written ≡ registers
 AreStatements channels registers written (sync r t ∷ rest) =
-    (r ≤ written) × IsEvent (record { written = written; level = 0; channels = channels }) t × IsWithin t
+    (r ≤ written) × IsEvent (record { written = written; level = 0; channels = channels }) t × IsWithinLimits t
     × AreStatements channels registers (with_register written r) rest
 AreStatements channels registers written (emit e ∷ rest) =
     IsExpression (record { written = written; level = 0; channels = channels }) e × AreStatements channels registers written rest
+AreStatements channels registers written (repeat times count ∷ rest) = IsRepeat times count rest × AreStatements channels registers written rest
 
 -- no two are equal
 abbrev pub AreDistinct : List (List ℕ) → Type 0

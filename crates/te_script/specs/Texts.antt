@@ -4,17 +4,19 @@ use Rattle.std.specs.List.{AllByRecursion}
 use Rattle.te_terms.specs.Codes.{term_under, expression_of}
 use Rattle.te_script.specs.declared.script.Stmt.{Stmt}
 use Rattle.te_script.specs.declared.script.Stmt.TheVariants as stmts
-use Rattle.te_script.specs.Scripts.{Statement, sync, emit, Thread, IsThread}
+use Rattle.te_script.specs.Scripts.{Statement, sync, emit, repeat, Thread, IsThread}
 
 -- the event of a sync statement is the term under its root, whatever its nodes' numbers
 abbrev pub statement_of : Stmt → Statement
 statement_of (stmts.Sync r code root) = sync r (term_under code.value root)
 statement_of (stmts.Emit e) = emit (expression_of e)
+statement_of (stmts.Repeat times count) = repeat times count
 
 -- each root is a node of its code
 abbrev pub HasRoot : Stmt → Type 0
 HasRoot (stmts.Sync r code root) = root < length code.value
 HasRoot (stmts.Emit e) = Unit {0}
+HasRoot (stmts.Repeat times count) = Unit {0}
 
 -- what a thread text keeps: what a thread keeps by itself, with channels below 256, and its roots
 pub record IsText (t : Thread) (stmts : List Stmt) : Type 0 where

@@ -1,13 +1,54 @@
 -- What a script thread wishes, from its statements and its outcomes so far. This project's own.
-use Rattle.std.specs.Prelude.{ℕ, List, [], ◌∷◌, ◌++◌, ◌==◌, Result, Ok, Err, if◌then◌else◌}
+use Rattle.std.specs.Prelude.{ℕ, zero, suc, List, [], ◌∷◌, ◌++◌, ◌==◌, take, Option, Some, None, Result, Ok, Err, if◌then◌else◌}
 use Rattle.te_terms.specs.declared.value.Atom.{Atom}
 use Rattle.te_terms.specs.declared.value.Trap.{Trap}
 use Rattle.te_terms.specs.declared.event.Outcome.{Outcome}
 use Rattle.te_terms.specs.declared.event.Outcome.TheVariants.{Gives, Raises}
 use Rattle.te_terms.specs.Values.{trap_value}
-use Rattle.te_terms.specs.Expressions.{Variable, register, name, known, in_expression, value_of}
+use Rattle.te_terms.specs.Expressions.{Variable, register, name, known, Expression, in_expression, value_of}
 use Rattle.te_terms.specs.Terms.{Term, replaced}
-use Rattle.te_script.specs.Scripts.{Statement, sync, emit, Thread}
+use Rattle.te_script.specs.declared.wish.Site.{Site}
+use Rattle.te_script.specs.Scripts.{Statement, sync, emit, repeat, Thread}
+
+-- ---- the statements that a thread does, in order
+
+-- a sync or an emit, with its place in the text
+pub data Step : Type 0 where
+  syncing : Site → ℕ → Term → Step
+  emitting : Site → Expression → Step
+
+abbrev pub site_at : ℕ → ℕ → Site
+site_at number pass = record { statement = number; pass = pass }
+
+-- a repeat is no step itself
+abbrev pub steps_of : Site → Statement → List Step
+steps_of at (sync r t) = syncing at r t ∷ []
+steps_of at (emit e) = emitting at e ∷ []
+steps_of at (repeat times count) = []
+
+-- one pass over the body of a repeat, whose statements are numbered from here
+abbrev pub pass_over : ℕ → ℕ → List Statement → List Step
+pass_over number pass [] = []
+pass_over number pass (s ∷ ss) = steps_of (site_at number pass) s ++ pass_over (suc number) pass ss
+
+-- so many passes, from this one on
+abbrev pub passes_over : ℕ → ℕ → ℕ → List Statement → List Step
+passes_over zero number pass body = []
+passes_over (suc more) number pass body = pass_over number pass body ++ passes_over more number (suc pass) body
+
+-- the statements numbered from here, of which the first so many are a body that was done already
+abbrev pub flat_from : ℕ → ℕ → List Statement → List Step
+flat_from number done [] = []
+flat_from number (suc done) (s ∷ ss) = flat_from (suc number) done ss
+flat_from number zero (sync r t ∷ ss) = syncing (site_at number 0) r t ∷ flat_from (suc number) zero ss
+flat_from number zero (emit e ∷ ss) = emitting (site_at number 0) e ∷ flat_from (suc number) zero ss
+flat_from number zero (repeat times count ∷ ss) = passes_over times (suc number) 0 (take count ss) ++ flat_from (suc number) count ss
+
+-- a thread's syncs and emits, where a repeat stands for its body so many times; statements are numbered from 1, repeats among them
+abbrev pub flat : Thread → List Step
+flat t = flat_from 1 0 t.statements
+
+-- ---- wishes
 
 -- to synchronise on a term, to end with the emitted values, or to end with a raised value
 pub data Wish : Type 0 where
@@ -15,62 +56,54 @@ pub data Wish : Type 0 where
   done : List (List Atom) → Wish
   raised : List Atom → Wish
 
--- the value of one register
-abbrev pub register_to : ℕ → List Atom → Variable → Variable
-register_to r v (register s) = if s == r then known v else register s
-register_to r v (name n) = name n
-register_to r v (known w) = known w
+-- a register has a new value
+abbrev pub holding : ℕ → List Atom → (Variable → Variable) → Variable → Variable
+holding r v by (register s) = if s == r then known v else by (register s)
+holding r v by (name n) = by (name n)
+holding r v by (known w) = by (known w)
 
--- the statements in which register r has this value, up to the one that writes it again
-abbrev pub written : ℕ → List Atom → List Statement → List Statement
-written r v [] = []
-written r v (emit e ∷ rest) = emit (in_expression (register_to r v) e) ∷ written r v rest
-written r v (sync s t ∷ rest) = sync s (replaced (register_to r v) t) ∷ (if s == r then rest else written r v rest)
+-- what a thread does where it has come to: it synchronises on a term at this place of the text, ends, or has raised
+pub data Doing : Type 0 where
+  synchronises : Site → Term → Doing
+  ends : Doing
+  has_raised : List Atom → Doing
 
--- at a sync on a term, for this register, with the statements behind it; past the last statement; or raised
-pub data Next : Type 0 where
-  waits : ℕ → Term → List Statement → Next
-  ended : Next
-  failed : List Atom → Next
-
--- where a thread stands, with the values that it has emitted
-pub record Stand : Type 0 where
+-- the values that it has emitted by then, and what it does
+pub record Reached : Type 0 where
   pub emitted : List (List Atom)
-  pub next : Next
+  pub does : Doing
 
-abbrev pub emits : Result (List Atom) Trap → List (List Atom) → (List (List Atom) → Stand) → Stand
-emits (Ok v) emitted go = go (emitted ++ v ∷ [])
-emits (Err t) emitted go = record { emitted = emitted; next = failed (trap_value t) }
+-- goes on with one more value, or has raised what the trap raises
+abbrev pub emits_or : Result (List Atom) Trap → List (List Atom) → (List (List Atom) → Reached) → Reached
+emits_or (Ok v) emitted go = go (emitted ++ v ∷ [])
+emits_or (Err t) emitted go = record { emitted = emitted; does = has_raised (trap_value t) }
 
--- where the next sync stands behind the emits; an emit that traps raises
-abbrev pub stand_at : List Statement → List (List Atom) → Stand
-stand_at [] emitted = record { emitted = emitted; next = ended }
-stand_at (sync r t ∷ rest) emitted = record { emitted = emitted; next = waits r t rest }
-stand_at (emit e ∷ rest) emitted = emits (value_of e) emitted (stand_at rest)
+-- the steps in order, over what the registers hold: an emit adds its value, a sync takes the next outcome, of which a value is written to its register
+abbrev pub reached_by : (Variable → Variable) → List (List Atom) → List Step → List Outcome → Reached
+reached_by by emitted [] outs = record { emitted = emitted; does = ends }
+reached_by by emitted (emitting at e ∷ rest) outs = emits_or (value_of (in_expression by e)) emitted (λ more. reached_by by more rest outs)
+reached_by by emitted (syncing at r t ∷ rest) [] = record { emitted = emitted; does = synchronises at (replaced by t) }
+reached_by by emitted (syncing at r t ∷ rest) (Gives v ∷ outs) = reached_by (holding r v by) emitted rest outs
+reached_by by emitted (syncing at r t ∷ rest) (Raises v ∷ outs) = record { emitted = emitted; does = has_raised v }
 
--- a given value is written to the register, a raised one ends the thread
-abbrev pub moved : List (List Atom) → Next → Outcome → Stand
-moved emitted (waits r t rest) (Gives v) = stand_at (written r v rest) emitted
-moved emitted (waits r t rest) (Raises v) = record { emitted = emitted; next = failed v }
-moved emitted ended o = record { emitted = emitted; next = ended }
-moved emitted (failed v) o = record { emitted = emitted; next = failed v }
+-- where a thread has come to after these outcomes; no register has a value at first
+abbrev pub reached : Thread → List Outcome → Reached
+reached t outs = reached_by (λ x. x) [] (flat t) outs
 
-abbrev pub goes_by : Stand → List Outcome → Stand
-goes_by s [] = s
-goes_by s (o ∷ os) = goes_by (moved s.emitted s.next o) os
-
--- where a thread stands after these outcomes
-abbrev pub stand_after : Thread → List Outcome → Stand
-stand_after t outs = goes_by (stand_at t.statements []) outs
-
-abbrev pub wish_of : List (List Atom) → Next → Wish
-wish_of emitted (waits r t rest) = syncs t
-wish_of emitted ended = done emitted
-wish_of emitted (failed v) = raised v
-
-abbrev pub wish_at : Stand → Wish
-wish_at s = wish_of s.emitted s.next
+abbrev pub wish_of : List (List Atom) → Doing → Wish
+wish_of emitted (synchronises at t) = syncs t
+wish_of emitted ends = done emitted
+wish_of emitted (has_raised v) = raised v
 
 -- the wish of a thread after these outcomes
 abbrev pub wish : Thread → List Outcome → Wish
-wish t outs = wish_at (stand_after t outs)
+wish t outs = wish_of (reached t outs).emitted (reached t outs).does
+
+abbrev pub site_of : Doing → Option Site
+site_of (synchronises at t) = Some at
+site_of ends = None
+site_of (has_raised v) = None
+
+-- the place in the text of a wish to synchronise
+abbrev pub site : Thread → List Outcome → Option Site
+site t outs = site_of (reached t outs).does

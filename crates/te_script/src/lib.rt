@@ -7,4 +7,4 @@ mod tests;
 mod wish;
 
 pub use script::{Script, Stmt, ThreadText};
-pub use wish::{Core, Want};
+pub use wish::{Core, Site, Want};

@@ -13,6 +13,11 @@ pub enum Stmt {
     },
     /// Adds the value of the expression to what the thread has emitted.
     Emit(Expr),
+    /// Does the next `count` statements, which are syncs, `times` times: from 1 to 10,000.
+    Repeat {
+        times: u32,
+        count: u32,
+    },
 }
 
 /// One thread of a script: its name, the names of its registers by number, and its statements.
@@ -44,12 +49,14 @@ impl ThreadText {
     ghost use Rattle.std.specs.List.{AllByRecursion};
     ghost use Rattle.te_script.specs.Texts.{statement_of, HasRoot};
     ghost use Rattle.te_script.specs.Scripts.{IsThread};
+    ghost use Rattle.te_script.specs.Cores.{HasBodies};
 
     // The statements, in order.
     pub(crate) fn statements(&self) -> &[Stmt]
         ensures value { map statement_of result.now ≡ self.now.statements }
         ensures thread { IsThread 256 self.now }
         ensures roots { AllByRecursion HasRoot result.now }
+        ensures bodies { HasBodies (map statement_of result.now) }
     {
         self.stmts.as_slice()
     }

@@ -1,9 +1,10 @@
-ghost use Rattle.std.specs.Prelude.{◌≡◌, ◌+◌, ◌<◌, ◌≤◌, ◌++◌, ◌∷◌, [], List, IfOk, length, drop, map, vec_len, vec_capacity};
-ghost use Rattle.te_script.specs.Wishes.{moved, wish_at, syncs};
+ghost use Rattle.std.specs.Prelude.{◌≡◌, ◌+◌, ◌<◌, ◌≤◌, ◌++◌, ◌∷◌, [], ℕ, List, Some, IfOk, length, drop, map, vec_len, vec_capacity};
+ghost use Rattle.te_script.specs.Scripts.{Statement};
+ghost use Rattle.te_script.specs.Wishes.{wish, site, site_of, reached, syncs};
 ghost use Rattle.te_terms.specs.declared.event.Outcome.{Outcome as Given};
 ghost use Rattle.te_terms.specs.Terms.{closed};
 ghost use Rattle.te_terms.specs.Codes.{term_under};
-ghost use Rattle.te_script.specs.Cores.{core_after, Settles, IsWaiting, next_of, WritesTo, emits_in};
+ghost use Rattle.te_script.specs.Cores.{moved, wish_at, doing_of, core_after, Settles, IsWaiting, IsSpot, IsSomewhere, HasBodies, IsPastEmits, WritesTo, GoesOn, next_of, rest_of, emits_in, emits_left, behind, left_at};
 ghost use Rattle.te_script.specs.Wants.{IsWant, IsOfText};
 ghost use Rattle.te_script.specs.Texts.{statement_of};
 
@@ -24,12 +25,38 @@ pub enum Want {
     Raised(Value),
 }
 
+/// Where a wish to synchronise stands in its thread's text.
+#[derive(Clone, Copy, Debug, PartialEq, Eq)]
+pub struct Site {
+    /// The number of the statement, from 1; a repeat counts as one, and so does each statement of its body.
+    pub statement: u32,
+    /// The pass of its repeat, from 0; 0 outside of every repeat.
+    pub pass: u32,
+}
+
+// A repeat that is being done: the places of its first statement and of the one behind it, the present pass
+// from 0, and how many passes there are.
+#[derive(Clone, Copy, Drop)]
+struct Round {
+    first: usize,
+    end: usize,
+    pass: u32,
+    times: u32,
+}
+
+// The place of a statement, and the repeat that it is done in.
+#[derive(Clone, Copy, Drop)]
+struct Spot {
+    place: usize,
+    round: Option<Round>,
+}
+
 /// One script thread: where it stands, its registers, and the values that it has emitted.
 #[derive(Drop)]
 pub struct Core {
     alloc: Global,
     text: Arc<ThreadText>,
-    place: usize,
+    spot: Spot,
     regs: [Value; 8],
     emitted: Vec<Value>,
     raised: Option<Value>,
@@ -43,15 +70,15 @@ impl Model for Core {
 
     ghost coded = { coded_at };
 
-    ghost use Rattle.std.specs.Prelude.{◌≤◌, ◌+◌, drop, length, vec_len, vec_capacity};
-    ghost use Rattle.te_script.specs.Cores.{next_at, IsCore};
+    ghost use Rattle.std.specs.Prelude.{vec_len, vec_capacity};
+    ghost use Rattle.te_script.specs.Cores.{next_at, left_at, IsCore};
 
     ghost view = { λ c. record {
       thread = c.text.value;
-      stand = record { emitted = c.emitted.items; next = next_at c.raised c.regs (drop c.place c.text.value.statements) };
+      stand = record { emitted = c.emitted.items; next = next_at c.raised c.regs (left_at c.spot c.text.value.statements) };
     } };
 
-    ghost invariant = { λ c. IsCore c.text.value c.place (vec_len c.emitted) (vec_capacity c.emitted) };
+    ghost invariant = { λ c. IsCore c.text.value c.spot (vec_len c.emitted) (vec_capacity c.emitted) };
 }
 
 impl Core {
@@ -67,7 +94,7 @@ impl Core {
         Ok(Core {
             alloc,
             text,
-            place: stop.place,
+            spot: stop.spot,
             regs,
             emitted,
             raised: stop.raised,
@@ -82,21 +109,19 @@ impl Core {
         ensures moves { self.new ≡ record self.old { stand = moved self.old.stand.emitted self.old.stand.next outcome } }
         ensures after { (so_far : List Given) → self.old ≡ core_after self.old.thread so_far → self.new ≡ core_after self.old.thread (so_far ++ outcome ∷ []) }
     {
-        let place = self.place;
         match outcome {
             Outcome::Raises(value) => {
-                self.place = self.text.statements().len();
+                self.spot = Spot {
+                    place: self.text.statements().len(),
+                    round: None,
+                };
                 self.raised = Some(value);
             }
             Outcome::Gives(value) => {
-                self.regs[register_at(self.text.statements(), place)] = value;
-                let stop = past_emits(
-                    self.text.statements(),
-                    place + 1,
-                    &self.regs,
-                    &mut self.emitted,
-                );
-                self.place = stop.place;
+                let spot = self.spot;
+                self.regs[register_at(self.text.statements(), &spot)] = value;
+                let stop = go_on(self.text.statements(), &spot, &self.regs, &mut self.emitted);
+                self.spot = stop.spot;
                 self.raised = stop.raised;
             }
         }
@@ -105,16 +130,41 @@ impl Core {
     /// The present wish. The one refusal is want of memory.
     pub fn want(&self) -> Result<Want, NoMemory>
         ensures wish { IfOk result (λ want. IsWant (wish_at self.now.stand) want) }
+        ensures after { (so_far : List Given) → self.now ≡ core_after self.now.thread so_far → IfOk result (λ want. IsWant (wish self.now.thread so_far) want) }
         ensures of_text { IfOk result (λ want. IsOfText self.now.thread want) }
     {
         if let Some(value) = self.raised {
             return Ok(Want::Raised(value));
         }
-        match self.text.statements().get(self.place) {
+        match self.text.statements().get(self.spot.place) {
             None => Ok(Want::Done),
             Some(Stmt::Sync { code, root, .. }) => sync_want(code, *root, &self.regs),
             Some(Stmt::Emit(_)) => unreachable!(),
+            Some(Stmt::Repeat { .. }) => unreachable!(),
         }
+    }
+
+    /// Where the present wish stands in the text. It takes no memory.
+    pub fn site(&self) -> Site
+        requires { IsWaiting self.now.stand.next }
+        ensures stand { site_of (doing_of self.now.stand.next) ≡ Some result }
+        ensures after { (so_far : List Given) → self.now ≡ core_after self.now.thread so_far → site self.now.thread so_far ≡ Some result }
+    {
+        let pass = match &self.spot.round {
+            Some(round) => round.pass,
+            None => 0,
+        };
+        Site {
+            statement: self.spot.place as u32 + 1,
+            pass,
+        }
+    }
+
+    /// The text of the thread.
+    pub fn text(&self) -> &ThreadText
+        ensures { result.now ≡ self.now.thread }
+    {
+        &self.text
     }
 
     /// A copy of the values that the thread has emitted so far, in order. The one refusal is want of memory.
@@ -130,7 +180,8 @@ impl Core {
 
     /// The values that the thread has emitted so far, in order.
     pub fn emitted(&self) -> &[Value]
-        ensures { result.now ≡ self.now.stand.emitted }
+        ensures stand { result.now ≡ self.now.stand.emitted }
+        ensures after { (so_far : List Given) → self.now ≡ core_after self.now.thread so_far → result.now ≡ (reached self.now.thread so_far).emitted }
     {
         self.emitted.as_slice()
     }
@@ -151,14 +202,16 @@ fn sync_want(code: &Arc<EventCode>, root: u32, regs: &[Value; 8]) -> Result<Want
     }
 }
 
-// The register that the sync at a place writes.
-fn register_at(stmts: &[Stmt], place: usize) -> usize
-    requires { IsWaiting (next_of (drop place (map statement_of stmts.now))) }
-    ensures { WritesTo (drop place (map statement_of stmts.now)) result }
+// The register that the sync at a spot writes.
+fn register_at(stmts: &[Stmt], spot: &Spot) -> usize
+    requires spot { IsSpot spot.now (map statement_of stmts.now) }
+    requires waits { IsWaiting (next_of (left_at spot.now (map statement_of stmts.now))) }
+    ensures { WritesTo (left_at spot.now (map statement_of stmts.now)) result }
 {
-    match &stmts[place] {
+    match &stmts[spot.place] {
         Stmt::Sync { reg, .. } => *reg as usize,
         Stmt::Emit(_) => unreachable!(),
+        Stmt::Repeat { .. } => unreachable!(),
     }
 }
 
@@ -168,26 +221,105 @@ fn emits_among(stmts: &[Stmt]) -> usize
 {
     let mut count = 0;
     for stmt in stmts {
-        if let Stmt::Emit(_) = stmt {
-            count += 1;
+        match stmt {
+            Stmt::Emit(_) => count += 1,
+            Stmt::Sync { .. } => {}
+            Stmt::Repeat { .. } => {}
         }
     }
     count
 }
 
-// Where the statements before the next sync end, and the value that one of them raised.
+// Where the steps before the next sync end, and the value that one of them raised.
 #[derive(Drop)]
 struct Stop {
-    place: usize,
+    spot: Spot,
     raised: Option<Value>,
 }
 
-// Does the emits from `from` on.
+// The spot behind the sync at a spot, where that is in the same repeat: the next place of the body, which is
+// `next`, or its first one in the next pass.
+fn next_in_round(spot: Spot, next: usize) -> Option<Spot>
+    requires spot { IsSomewhere spot }
+    requires next { next ≡ spot.place + 1 }
+    ensures { (ss : List Statement) → IsSpot spot ss → GoesOn spot result ss }
+{
+    let Some(round) = spot.round else {
+        return None;
+    };
+    if next < round.end {
+        return Some(Spot {
+            place: next,
+            round: Some(round),
+        });
+    }
+    if round.pass + 1 < round.times {
+        return Some(Spot {
+            place: round.first,
+            round: Some(Round {
+                first: round.first,
+                end: round.end,
+                pass: round.pass + 1,
+                times: round.times,
+            }),
+        });
+    }
+    None
+}
+
+// Goes on behind the sync at a spot, up to the next one.
+fn go_on(stmts: &[Stmt], spot: &Spot, regs: &[Value; 8], emitted: &mut Vec<Value>) -> Stop
+    requires spot { IsSpot spot.now (map statement_of stmts.now) }
+    requires waits { IsWaiting (next_of (left_at spot.now (map statement_of stmts.now))) }
+    requires bodies { HasBodies (map statement_of stmts.now) }
+    requires room { vec_len emitted.old + emits_left (left_at spot.now (map statement_of stmts.now)) ≤ vec_capacity emitted.old }
+    ensures settles { Settles regs.now (rest_of (left_at spot.now (map statement_of stmts.now))) emitted.old.items
+        result.raised (left_at result.spot (map statement_of stmts.now)) emitted.new.items }
+    ensures spot { IsSpot result.spot (map statement_of stmts.now) }
+    ensures room { vec_capacity emitted.new ≡ vec_capacity emitted.old }
+    ensures eight { length regs.now ≡ 8 }
+{
+    let next = spot.place + 1;
+    match next_in_round(*spot, next) {
+        Some(spot) => Stop { spot, raised: None },
+        None => past_emits(stmts, next, regs, emitted),
+    }
+}
+
+// The spot at a place outside of every repeat; at a repeat it is that of its first statement in the first pass.
+fn spot_at(stmts: &[Stmt], place: usize) -> Spot
+    requires within { place ≤ length stmts.now }
+    requires past { IsPastEmits (drop place (map statement_of stmts.now)) }
+    requires bodies { HasBodies (map statement_of stmts.now) }
+    ensures left { left_at result (map statement_of stmts.now) ≡ behind place (map statement_of stmts.now) }
+    ensures spot { IsSpot result (map statement_of stmts.now) }
+{
+    if place == stmts.len() {
+        return Spot { place, round: None };
+    }
+    match &stmts[place] {
+        Stmt::Sync { .. } => Spot { place, round: None },
+        Stmt::Emit(_) => unreachable!(),
+        Stmt::Repeat { times, count } => Spot {
+            place: place + 1,
+            round: Some(Round {
+                first: place + 1,
+                end: place + 1 + *count as usize,
+                pass: 0,
+                times: *times,
+            }),
+        },
+    }
+}
+
+// Does the emits from `from` on, which is outside of every repeat.
 fn past_emits(stmts: &[Stmt], from: usize, regs: &[Value; 8], emitted: &mut Vec<Value>) -> Stop
-    requires { vec_len emitted.old + emits_in (drop from (map statement_of stmts.now)) ≤ vec_capacity emitted.old }
-    ensures settles { Settles regs.now (drop from (map statement_of stmts.now)) emitted.old.items
-        result.raised (drop result.place (map statement_of stmts.now)) emitted.new.items }
-    ensures place { from ≤ length stmts.now → result.place ≤ length stmts.now }
+    requires within { from ≤ length stmts.now }
+    requires bodies { HasBodies (map statement_of stmts.now) }
+    requires room { vec_len emitted.old + emits_left (behind from (map statement_of stmts.now)) ≤ vec_capacity emitted.old }
+    ensures settles { Settles regs.now (behind from (map statement_of stmts.now)) emitted.old.items
+        result.raised (left_at result.spot (map statement_of stmts.now)) emitted.new.items }
+    ensures spot { IsSpot result.spot (map statement_of stmts.now) }
     ensures room { vec_capacity emitted.new ≡ vec_capacity emitted.old }
     ensures eight { length regs.now ≡ 8 }
 {
@@ -200,7 +332,10 @@ fn past_emits(stmts: &[Stmt], from: usize, regs: &[Value; 8], emitted: &mut Vec<
             Ok(value) => emitted.push_reserved(value),
             Err(trap) => {
                 return Stop {
-                    place: stmts.len(),
+                    spot: Spot {
+                        place: stmts.len(),
+                        round: None,
+                    },
                     raised: Some(trap.value()),
                 };
             }
@@ -208,7 +343,7 @@ fn past_emits(stmts: &[Stmt], from: usize, regs: &[Value; 8], emitted: &mut Vec<
         place += 1;
     }
     Stop {
-        place,
+        spot: spot_at(stmts, place),
         raised: None,
     }
 }

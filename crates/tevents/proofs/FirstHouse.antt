@@ -2,7 +2,8 @@
 use Rattle.std.proofs.Common.{◌≡◌, ℕ, suc, ◌*◌, ◌≤◌, List, [], ◌∷◌, length, replicate, refl, sym, ap, subst, arith}
 use Rattle.std.specs.List.{AllByRecursion}
 use Rattle.te_reader.specs.FirstForm.{IsPlainStatement}
-use Rattle.te_script.specs.Scripts.{Statement, sync, emit, Thread, IsThread}
+use Rattle.te_script.specs.Scripts.{Statement, sync, emit, repeat, Thread, IsThread}
+use Rattle.te_script.specs.Wishes.{flat_from, flat}
 use Rattle.te_script.proofs.MoreChannels.{IsThread-more}
 use Rattle.te_script.specs.Cores.{At, core_after}
 use Rattle.te_history.specs.State.{idle}
@@ -18,29 +19,27 @@ fresh_cores : (t : ℕ) (cores : List At) → AreFresh cores → AreCoresOf [] t
 fresh_cores t [] h = tt
 fresh_cores t (c ∷ cs) h = (record { stands = h.0; fits = tt }, fresh_cores (suc t) cs h.1)
 
-syncs_within : (ss : List Statement) → syncs_in ss ≤ length ss
-syncs_within [] = omega arith
-syncs_within (sync r t ∷ ss) = omega (arith, syncs_within ss)
-syncs_within (emit e ∷ ss) = omega (arith, syncs_within ss)
+-- a thread of the first form does each statement once
+syncs_within : (number : ℕ) (ss : List Statement) → AllByRecursion IsPlainStatement ss → syncs_in (flat_from number 0 ss) ≤ length ss
+syncs_within number [] h = omega arith
+syncs_within number (sync r t ∷ ss) h = omega (arith, syncs_within (suc number) ss h.1)
+syncs_within number (emit e ∷ ss) h = omega (arith, syncs_within (suc number) ss h.1)
+syncs_within number (repeat times count ∷ ss) h = absurd h.0
 
 -- at most 1,024 statements a thread
-fresh_left : (cores : List At) → AreFresh cores → AllByRecursion (λ t. length t.statements ≤ 1024) (threads_of cores) → all_left (replicate (length cores) idle) cores ≤ 3073 * length cores
-fresh_left [] h short = omega arith
-fresh_left (c ∷ cs) h short =
+fresh_left : (cores : List At) → AreFresh cores → AllByRecursion IsFirstThread (threads_of cores) → all_left (replicate (length cores) idle) cores ≤ 3073 * length cores
+fresh_left [] h first = omega arith
+fresh_left (c ∷ cs) h first =
     let stand = ap (λ (a : At). a.stand) h.0 in
-    let left : syncs_left c.stand.next ≤ syncs_in c.thread.statements = subst (λ s. syncs_left s.next ≤ syncs_in c.thread.statements) (sym stand) (syncs_at c.thread.statements []) in
-    omega (arith, left, syncs_within c.thread.statements, short.0, fresh_left cs h.1 short.1)
+    let left : syncs_left c.stand.next ≤ syncs_in (flat c.thread) = subst (λ s. syncs_left s.next ≤ syncs_in (flat c.thread)) (sym stand) (syncs_at (flat c.thread) []) in
+    omega (arith, left, syncs_within 1 c.thread.statements first.0.plain, first.0.thread.statements, fresh_left cs h.1 first.1)
 
-pub first_house : (log : Log) (cores : List At) → log ≡ record { callers = length cores; history = [] } → AreFresh cores → AllByRecursion (λ t. length t.statements ≤ 1024) (threads_of cores) → length cores ≤ 64 → IsHouse log cores
-first_house log cores is fresh short few =
+pub first_house : (log : Log) (cores : List At) → log ≡ record { callers = length cores; history = [] } → AreFresh cores → AllByRecursion IsFirstThread (threads_of cores) → length cores ≤ 64 → IsHouse log cores
+first_house log cores is fresh first few =
     subst (λ (l : Log). IsHouse l cores) (sym is)
-    (record { callers = refl; cores_stand = fresh_cores 0 cores fresh; wished = tt; tight = tt; few = omega (arith, fresh_left cores fresh short) })
+    (record { callers = refl; cores_stand = fresh_cores 0 cores fresh; wished = tt; tight = tt; few = omega (arith, fresh_left cores fresh first) })
 
 -- ---- threads of a program
-
-pub short_threads : (channels : ℕ) (ts : List Thread) → AllByRecursion (IsThread channels) ts → AllByRecursion (λ t. length t.statements ≤ 1024) ts
-short_threads channels [] h = tt
-short_threads channels (t ∷ ts) h = (h.0.statements, short_threads channels ts h.1)
 
 pub within_threads : (channels : ℕ) (ts : List Thread) → channels ≤ 256 → AllByRecursion (IsThread channels) ts → AllByRecursion (IsThread 256) ts
 within_threads channels [] le h = tt

@@ -16,8 +16,7 @@ use Rattle.te_terms.specs.declared.event.Outcome.{Outcome}
 use Rattle.te_terms.specs.Terms.{Term}
 use Rattle.te_terms.specs.Steps as steps
 use Rattle.te_terms.specs.Steps.{outcome_of}
-use Rattle.te_script.specs.Wishes.{Next, waits, ended, failed}
-use Rattle.te_script.specs.Cores.{At, IsWaiting}
+use Rattle.te_script.specs.Cores.{Next, waits, ended, failed, At, IsWaiting}
 use Rattle.te_script.proofs.Places.{slice_get_set_same, slice_get_set_other}
 use Rattle.te_script.proofs.Appending.{AllByRecursion-append}
 use Rattle.te_history.specs.declared.entry.Entry.{Entry}
@@ -66,7 +65,7 @@ rise_of t (m ∷ ms) rise = rise.1
 
 -- a thread that waits has a sync left
 pub waiting_left : (next : Next) → IsWaiting next → 1 ≤ syncs_left next
-waiting_left (waits r t rest) h = omega arith
+waiting_left (waits at r t rest) h = omega arith
 waiting_left ended h = absurd h
 waiting_left (failed v) h = absurd h
 

@@ -4,8 +4,9 @@ use Rattle.std.proofs.lemmas.List.{append-nil, length-append}
 use Rattle.std.specs.Prelude.{slice_get, OnOk, OnErr}
 use Rattle.te_terms.specs.declared.value.Atom.{Atom}
 use Rattle.te_terms.specs.Terms.{Term}
-use Rattle.te_script.specs.Wishes.{Next, waits, ended, failed, syncs, wish_at, wish_of, stand_after}
-use Rattle.te_script.specs.Cores.{At, IsWaiting}
+use Rattle.te_script.specs.Wishes.{Wish, syncs, wish_of}
+use Rattle.te_script.specs.Cores.{Next, waits, ended, failed, doing_of, wish_at, stand_after, At, IsWaiting}
+use Rattle.te_script.proofs.WishReached.{wish_after}
 use Rattle.te_script.proofs.Appending.{AllByRecursion-append}
 use Rattle.te_history.specs.declared.entry.Entry.{Entry}
 use Rattle.te_history.specs.declared.entry.Entry.TheVariants as entries
@@ -36,8 +37,8 @@ thread_of (x ∷ cs) (suc t) c e = thread_of cs t c e
 pub wished_by : (log : Log) (cores : List At) (t : ℕ) (c : At) (e : Entry) → IsHouse log cores → slice_get cores t ≡ Some c → IsWished (wish_at c.stand) e → WishedBy (slice_get (threads_of cores) t) (taken t log.history) e
 wished_by log cores t c e h is w =
     let core = core_of log cores t c h is in
-    let stand : c.stand ≡ stand_after c.thread (taken t log.history) = ap (λ (a : At). a.stand) core.2.stands in
-    subst (λ o. WishedBy o (taken t log.history) e) (sym (thread_of cores t c is)) (subst (λ s. IsWished (wish_at s) e) stand w)
+    let wishes = ap (λ (a : At). wish_at a.stand) core.2.stands ∙ wish_after c.thread (taken t log.history) in
+    subst (λ o. WishedBy o (taken t log.history) e) (sym (thread_of cores t c is)) (subst (λ (u : Wish). IsWished u e) wishes w)
 
 -- a caller stands otherwise, and nobody has taken more
 pub otherwise_kept : (log : Log) (cores : List At) (t : ℕ) (c : At) (e : Entry) (old new : Standing) → IsHouse log cores → slice_get cores t ≡ Some c → Stands (now log) t old
@@ -57,8 +58,8 @@ otherwise_kept log cores t c e old new h is stood change by takes w tight fits l
     }
 
 -- a thread that wishes to synchronise waits
-waits_for : (emitted : List (List Atom)) (next : Next) (event : Term) → wish_of emitted next ≡ syncs event → IsWaiting next
-waits_for emitted (waits r t rest) event e = tt
+waits_for : (emitted : List (List Atom)) (next : Next) (event : Term) → wish_of emitted (doing_of next) ≡ syncs event → IsWaiting next
+waits_for emitted (waits at r t rest) event e = tt
 waits_for emitted ended event e = absurd cc
 waits_for emitted (failed v) event e = absurd cc
 

@@ -8,7 +8,7 @@ use Rattle.te_terms.specs.declared.value.Atom.TheVariants.{Int, Chan}
 use Rattle.te_terms.specs.Expressions.{register, name, known, int, chan, part, Calculation, one, both, Expression, whole, tuple, in_calculation, in_expression, value_of, calculated_atoms}
 use Rattle.te_terms.specs.Terms.{Term, always, never, throw, send, recv, and_then, choose, catch, when, registers_to, closed, or_register}
 use Rattle.te_reader.specs.FirstForm.{IsPlain as IsPlainCalculation, IsPlainExpression, IsPlainEvent, IsPlainStatement}
-use Rattle.te_script.specs.Scripts.{Scope, Thread, Statement, sync, emit, IsExpression, IsEvent, AreStatements, with_register}
+use Rattle.te_script.specs.Scripts.{Scope, Thread, Statement, sync, emit, repeat, IsExpression, IsEvent, AreStatements, with_register}
 use Rattle.te_script.specs.Wants.{IsOfStatement}
 use Rattle.te_script.proofs.CoreMoves.{written_within}
 use Rattle.tevents.specs.declared.kind.Kind.TheVariants as kinds
@@ -57,6 +57,8 @@ statement_plain : (channels registers k : ℕ) (ss : List Statement) (i r : ℕ)
 statement_plain channels registers k [] i r t regs le h plain e = absurd cc
 statement_plain channels registers k (emit x ∷ ss) zero r t regs le h plain e = absurd cc
 statement_plain channels registers k (emit x ∷ ss) (suc i) r t regs le h plain e = statement_plain channels registers k ss i r t regs le h.1 plain.1 e
+statement_plain channels registers k (repeat times count ∷ ss) zero r t regs le h plain e = absurd cc
+statement_plain channels registers k (repeat times count ∷ ss) (suc i) r t regs le h plain e = absurd plain.0
 statement_plain channels registers k (sync s u ∷ ss) zero r t regs le h plain e =
     let same : u ≡ t = cc in
     let within = written_within channels registers k (sync s u ∷ ss) h in

@@ -8,9 +8,9 @@ use Rattle.te_terms.specs.declared.value.Trap.{Trap}
 use Rattle.te_terms.specs.declared.event.Outcome.{Outcome}
 use Rattle.te_terms.specs.declared.event.Outcome.TheVariants.{Gives, Raises}
 use Rattle.te_terms.specs.Expressions.{value_of}
-use Rattle.te_script.specs.Scripts.{Statement, sync, emit, Thread}
-use Rattle.te_script.specs.Wishes.{Next, waits, ended, failed, Stand, stand_at, emits, moved, stand_after, written}
-use Rattle.te_script.specs.Cores.{At, IsWaiting, core_after}
+use Rattle.te_script.specs.Scripts.{Thread}
+use Rattle.te_script.specs.Wishes.{Step, syncing, emitting, flat}
+use Rattle.te_script.specs.Cores.{Next, waits, ended, failed, Stand, stand_at, emits, moved, stand_after, written, At, IsWaiting, core_after}
 use Rattle.te_history.specs.declared.entry.Entry.{Entry}
 use Rattle.te_history.specs.declared.entry.Entry.TheVariants as entries
 use Rattle.te_history.specs.State.{idle, given, State, with_standing}
@@ -28,29 +28,29 @@ use Rattle.tevents.proofs.HouseState.{stands_within, run_of}
 use Rattle.tevents.proofs.OpeningsKept.{thread_of}
 use Rattle.tevents.proofs.GroupsKept.{run_grown}
 
--- ---- what is left behind a statement
+-- ---- what is left behind a step
 
-syncs_written : (r : ℕ) (v : List Atom) (ss : List Statement) → syncs_in (written r v ss) ≡ syncs_in ss
+syncs_written : (r : ℕ) (v : List Atom) (ss : List Step) → syncs_in (written r v ss) ≡ syncs_in ss
 syncs_written r v [] = refl
-syncs_written r v (emit e ∷ ss) = syncs_written r v ss
-syncs_written r v (sync s t ∷ ss) = ap suc (behind (eqb s r) (syncs_written r v ss))
+syncs_written r v (emitting at e ∷ ss) = syncs_written r v ss
+syncs_written r v (syncing at s t ∷ ss) = ap suc (behind (eqb s r) (syncs_written r v ss))
   where
     behind : (b : Bool) → syncs_in (written r v ss) ≡ syncs_in ss → syncs_in (cond b ss (written r v ss)) ≡ syncs_in ss
     behind true e = refl
     behind false e = e
 
-pub syncs_at : (ss : List Statement) (emitted : List (List Atom)) → syncs_left (stand_at ss emitted).next ≤ syncs_in ss
+pub syncs_at : (ss : List Step) (emitted : List (List Atom)) → syncs_left (stand_at ss emitted).next ≤ syncs_in ss
 syncs_at [] emitted = omega arith
-syncs_at (sync r t ∷ ss) emitted = omega arith
-syncs_at (emit e ∷ ss) emitted = at (value_of e) (λ em. syncs_at ss em)
+syncs_at (syncing at r t ∷ ss) emitted = omega arith
+syncs_at (emitting at e ∷ ss) emitted = on (value_of e) (λ em. syncs_at ss em)
   where
-    at : (r : Result (List Atom) Trap) → ((em : List (List Atom)) → syncs_left (stand_at ss em).next ≤ syncs_in ss) → syncs_left (emits r emitted (stand_at ss)).next ≤ syncs_in ss
-    at (Ok v) go = go (emitted ++ v ∷ [])
-    at (Err t) go = omega arith
+    on : (r : Result (List Atom) Trap) → ((em : List (List Atom)) → syncs_left (stand_at ss em).next ≤ syncs_in ss) → syncs_left (emits r emitted (stand_at ss)).next ≤ syncs_in ss
+    on (Ok v) go = go (emitted ++ v ∷ [])
+    on (Err t) go = omega arith
 
 pub one_less_left : (emitted : List (List Atom)) (next : Next) (o : Outcome) → IsWaiting next → syncs_left (moved emitted next o).next + 1 ≤ syncs_left next
-one_less_left emitted (waits r t rest) (Gives v) h = omega (arith, syncs_at (written r v rest) emitted, syncs_written r v rest)
-one_less_left emitted (waits r t rest) (Raises v) h = omega arith
+one_less_left emitted (waits at r t rest) (Gives v) h = omega (arith, syncs_at (written r v rest) emitted, syncs_written r v rest)
+one_less_left emitted (waits at r t rest) (Raises v) h = omega arith
 one_less_left emitted ended o h = absurd h
 one_less_left emitted (failed v) o h = absurd h
 
@@ -76,7 +76,7 @@ taken_kept log new cores t c c' o h done is moved_so =
     let now_is : now (appended log e) ≡ with_standing t idle (now log) = state-after log.callers log.history e in
     let mine : taken t (log.history ++ e ∷ []) ≡ taken t log.history ++ o ∷ [] = taken_more t log.history e ∙ ap (λ b. taken t log.history ++ cond b (o ∷ []) []) (eq-eqb t t refl) in
     let others : (u : ℕ) → u ≢ 0 + t → taken u (log.history ++ e ∷ []) ≡ taken u log.history = λ u ne. taken_more u log.history e ∙ ap (λ os. taken u log.history ++ os) (not_mine u (eqb t u) refl (λ same. ne (sym same ∙ sym (zero-add t)))) ∙ append-nil (taken u log.history) in
-    let stand : stand_after c.thread (taken t (log.history ++ e ∷ [])) ≡ moved (stand_after c.thread (taken t log.history)).emitted (stand_after c.thread (taken t log.history)).next o = ap (stand_after c.thread) mine ∙ one_more (stand_at c.thread.statements []) (taken t log.history) o in
+    let stand : stand_after c.thread (taken t (log.history ++ e ∷ [])) ≡ moved (stand_after c.thread (taken t log.history)).emitted (stand_after c.thread (taken t log.history)).next o = ap (stand_after c.thread) mine ∙ one_more (stand_at (flat c.thread) []) (taken t log.history) o in
     let was : c.stand ≡ stand_after c.thread (taken t log.history) = ap (λ (a : At). a.stand) core.stands in
     let moves : moved c.stand.emitted c.stand.next o ≡ stand_after c.thread (taken t (log.history ++ e ∷ [])) = ap (λ (s : Stand). moved s.emitted s.next o) was ∙ sym stand in
     let same_thread : c'.thread ≡ c.thread = ap (λ (a : At). a.thread) moved_so in

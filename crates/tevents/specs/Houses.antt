@@ -5,9 +5,9 @@ use Rattle.te_cert.specs.Certs.{IsTight}
 use Rattle.te_script.specs.Stored.{coded_thread}
 use Rattle.std.specs.List.{AllByRecursion}
 use Rattle.te_reader.specs.FirstForm.{IsPlainStatement}
-use Rattle.te_script.specs.Scripts.{Statement, sync, emit, Thread, IsThread}
-use Rattle.te_script.specs.Wishes.{Next, waits, ended, failed}
-use Rattle.te_script.specs.Cores.{At, core_after, IsWaiting}
+use Rattle.te_script.specs.Scripts.{Thread, IsThread}
+use Rattle.te_script.specs.Wishes.{Step, syncing, emitting}
+use Rattle.te_script.specs.Cores.{Next, waits, ended, failed, At, core_after, IsWaiting}
 use Rattle.te_history.specs.declared.entry.Entry.{Entry}
 use Rattle.te_history.specs.declared.entry.Entry.TheVariants as entries
 use Rattle.te_history.specs.State.{Standing, idle, parked, given, ended as has_ended, State, state}
@@ -33,13 +33,13 @@ CommitsTightly _ = Unit {0}
 
 -- ---- at most how many entries are still to come
 
-abbrev pub syncs_in : List Statement → ℕ
+abbrev pub syncs_in : List Step → ℕ
 syncs_in [] = 0
-syncs_in (sync r t ∷ ss) = suc (syncs_in ss)
-syncs_in (emit e ∷ ss) = syncs_in ss
+syncs_in (syncing at r t ∷ ss) = suc (syncs_in ss)
+syncs_in (emitting at e ∷ ss) = syncs_in ss
 
 abbrev pub syncs_left : Next → ℕ
-syncs_left (waits r t rest) = suc (syncs_in rest)
+syncs_left (waits at r t rest) = suc (syncs_in rest)
 syncs_left ended = 0
 syncs_left (failed v) = 0
 

@@ -9,7 +9,7 @@ use Rattle.te_terms.specs.declared.event.Outcome.{Outcome}
 use Rattle.te_terms.specs.Joint.{CanCommit}
 use Rattle.te_history.specs.declared.entry.Entry.TheVariants as entries
 use Rattle.tevents.specs.Rounds.{OpensBy, OpensFrom, TakesBy, IsLowestOf, IsBlock, ClosesSo, EndsOf, Round, IsRound, entries_of}
-use Rattle.te_script.specs.Wishes.{Stand, wish_at}
+use Rattle.te_script.specs.Cores.{Stand, wish_at}
 use Rattle.te_history.specs.Follows.{LooselyFollows, Stands, IsRunning, IsParkedOrEnded, IsWhole}
 use Rattle.tevents.specs.OfScript.{IsWished}
 use Rattle.tevents.specs.Boards.{Log, appended}

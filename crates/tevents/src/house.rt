@@ -2,6 +2,7 @@ ghost use Rattle.std.specs.Prelude.{◌≡◌, ◌<◌, ◌≤◌, ℕ, [], ◌�
 ghost use Rattle.std.specs.List.{AllByRecursion};
 ghost use Rattle.te_terms.specs.Joint.{CanCommit};
 ghost use Rattle.te_script.specs.Scripts.{IsThread};
+ghost use Rattle.te_reader.specs.FirstForm.{First};
 ghost use Rattle.te_history.specs.State.{idle, parked, given, parked_list};
 ghost use Rattle.te_history.specs.Follows.{IsRunning, Stands, Ends, IsParkedOrEnded};
 ghost use Rattle.tevents.specs.Boards.{ShowsPlace, now};
@@ -58,6 +59,7 @@ fn open_by(board: &mut Board, core: &Core, t: u32) -> Result<(), NoMemory>
 impl House {
     /// The threads of the script, before any of them has done anything. The one refusal is want of memory.
     pub(crate) fn new(alloc: Global, script: &Script) -> Result<House, NoMemory>
+        requires { First script.now }
         ensures starts { IfOk result (λ house. house ≡ record { threads = script.now.threads; history = [] }) }
         ensures limits { IfOk result (λ _. AllByRecursion (IsThread 256) script.now.threads) }
     {

@@ -1,18 +1,17 @@
-use Rattle.std.proofs.Common.{◌≡◌, ◌+◌, ◌≤◌, ◌-◌, length, drop, map, vec_len, vec_capacity}
+use Rattle.std.proofs.Common.{◌≡◌, ◌+◌, ◌≤◌, ◌-◌, length, map, vec_len, vec_capacity}
 use Rattle.te_terms.specs.Terms.{registers_to}
-use Rattle.te_script.specs.Wishes.{stand_at}
-use Rattle.te_script.specs.Cores.{under, emits_in}
+use Rattle.te_script.specs.Cores.{stand_at, under, emits_left, behind}
 use Rattle.te_script.specs.Texts.{statement_of}
 use Rattle.te_script.proofs.wish.past_emits.Given as goal
 
 abbrev pub invariant-loop-place : goal.invariant-loop-place
 invariant-loop-place l = record {
   same :
-      stand_at (under (registers_to l.regs) (drop l.place (map statement_of l.stmts))) l.emitted.items
-      ≡ stand_at (under (registers_to l.regs) (drop l.from (map statement_of l.stmts))) l.initial.emitted.items;
-  fits : vec_len l.emitted + emits_in (drop l.place (map statement_of l.stmts)) ≤ vec_len l.initial.emitted + emits_in (drop l.from (map statement_of l.stmts));
+      stand_at (under (registers_to l.regs) (behind l.place (map statement_of l.stmts))) l.emitted.items
+      ≡ stand_at (under (registers_to l.regs) (behind l.from (map statement_of l.stmts))) l.initial.emitted.items;
+  fits : vec_len l.emitted + emits_left (behind l.place (map statement_of l.stmts)) ≤ vec_len l.initial.emitted + emits_left (behind l.from (map statement_of l.stmts));
   room : vec_capacity l.emitted ≡ vec_capacity l.initial.emitted;
-  within : l.from ≤ length l.stmts → l.place ≤ length l.stmts;
+  within : l.place ≤ length l.stmts;
 }
 
 abbrev pub decreases-loop-place : goal.decreases-loop-place

@@ -1,0 +1,43 @@
+-- The term under a node that is printed.
+use Rattle.std.proofs.Common.{◌≡◌, ℕ, suc, ◌<◌, List, [], ◌∷◌, length, get_or, Some, refl, ap, sym, subst, ◌∙◌, arith}
+use Rattle.std.specs.Prelude.{slice_get}
+use Rattle.std.specs.List.{AllByRecursion}
+use Rattle.std.proofs.lemmas.Option.{slice_get-get_or}
+use Rattle.te_terms.specs.declared.code.Node.{Node}
+use Rattle.te_terms.specs.declared.code.Node.TheVariants as nodes
+use Rattle.te_terms.specs.declared.expr.Cond.{Cond}
+use Rattle.te_terms.specs.Codes.{over, term_at}
+use Rattle.te_terms.specs.Shape.{IsForest, children, NamesEarlier}
+use Rattle.te_terms.specs.Terms.{Term}
+use Rattle.te_terms.proofs.TermLemmas.{term_at_is}
+use Rattle.te_reader.specs.Answering.{leaf}
+use Rattle.te_reader.proofs.BuiltLemmas.{leaf_over}
+
+-- the node at a place of what is lent of a code
+pub found : (code lent : List Node) (i : ℕ) (n m : Node) → lent ≡ code → i < length code → n ≡ get_or lent i n → n ≡ m → slice_get code i ≡ Some m
+found code lent i n m same lt is kind = slice_get-get_or code i n lt ∙ ap Some (ap (λ (ns : List Node). get_or ns i n) (sym same) ∙ sym is ∙ kind)
+
+pub term_is : (code : List Node) (level i : ℕ) (m : Node) → IsForest code → slice_get code i ≡ Some m → term_at code level i ≡ over (term_at code) level (Some m)
+term_is code level i m forest e = term_at_is code forest.earlier level i ∙ ap (over (term_at code) level) e
+
+-- a node without parts
+pub no_parts : (n : Node) → ((a b : ℕ) → n ≡ nodes.Then a b → ⊥) → ((a b : ℕ) → n ≡ nodes.Choose a b → ⊥) → ((a b : ℕ) → n ≡ nodes.Catch a b → ⊥) → ((c : Cond) (a b : ℕ) → n ≡ nodes.If c a b → ⊥) → children n ≡ []
+no_parts (nodes.Always e) t c h i = refl
+no_parts nodes.Never t c h i = refl
+no_parts nodes.Fresh t c h i = refl
+no_parts (nodes.Throw e) t c h i = refl
+no_parts (nodes.Send p e) t c h i = refl
+no_parts (nodes.Recv p) t c h i = refl
+no_parts (nodes.Then a b) t c h i = absurd (t a b refl)
+no_parts (nodes.Choose a b) t c h i = absurd (c a b refl)
+no_parts (nodes.Catch a b) t c h i = absurd (h a b refl)
+no_parts (nodes.If q a b) t c h i = absurd (i q a b refl)
+
+pub leaf_is : (code : List Node) (level i : ℕ) (m : Node) → IsForest code → children m ≡ [] → slice_get code i ≡ Some m → term_at code level i ≡ leaf m
+leaf_is code level i m forest none e = term_is code level i m forest e ∙ leaf_over (term_at code) level m none
+
+-- the parts of a node are earlier
+pub parts_earlier : (code : List Node) (i a b : ℕ) (m : Node) → IsForest code → children m ≡ a ∷ b ∷ [] → slice_get code i ≡ Some m → (a < i) × (b < i)
+parts_earlier code i a b m forest two e =
+    let earlier = subst (λ (cs : List ℕ). AllByRecursion (λ c. c < i) cs) two (forest.earlier i m e) in
+    (earlier.0, earlier.1.0)
