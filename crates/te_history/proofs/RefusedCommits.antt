@@ -4,6 +4,7 @@ use Rattle.std.specs.List.{slice_get}
 use Rattle.std.proofs.lemmas.Option.{slice_get_within}
 use Rattle.te_terms.specs.declared.event.Outcome.{Outcome}
 use Rattle.te_terms.specs.Terms.{Term}
+use Rattle.te_terms.specs.Steps.{come_to}
 use Rattle.te_terms.specs.Steps as steps
 use Rattle.te_cert.specs.declared.cert.Member.{Member}
 use Rattle.te_cert.specs.declared.cert.CertFault.{CertFault}
@@ -47,11 +48,8 @@ one_group s [] [] [] are all = refl
 one_group s (m ∷ ms) (g ∷ gs) (e ∷ es) are all =
     let both : Some (parked m.ticket g.term) ≡ Some (parked m.ticket e) = sym are.1 ∙ all.0 in
     let term : g.term ≡ e = cc in
-    let thread : g.thread ≡ m.thread = are.0 in
     let rest : gs ≡ checks.group_of ms es = one_group s ms gs es are.2 all.1 in
-    ap (λ (x : steps.Member). x ∷ gs) (ap (λ (t : ℕ). record { thread = t; term = g.term }) thread ∙ ap
-    (λ (t : Term). record { thread = m.thread; term = t }) term)
-    ∙ ap (λ (xs : List steps.Member). record { thread = m.thread; term = e } ∷ xs) rest
+    ap (λ (x : steps.Member). x ∷ gs) (are.0 ∙ ap (come_to m.thread m.ticket 0) term) ∙ ap (λ (xs : List steps.Member). come_to m.thread m.ticket 0 e ∷ xs) rest
 one_group s [] [] (e ∷ es) are all = absurd all
 one_group s [] (g ∷ gs) events are all = absurd are
 one_group s (m ∷ ms) [] events are all = absurd are

@@ -2,6 +2,7 @@
 use Rattle.std.specs.Prelude.{◌≡◌, ◌≢◌, ℕ, ◌<◌, true, false, List, [], ◌∷◌, ◌++◌, map, Some, Ok, slice_get}
 use Rattle.std.specs.List.{AllByRecursion}
 use Rattle.te_terms.specs.declared.event.Outcome.{Outcome}
+use Rattle.te_terms.specs.Steps.{come_to}
 use Rattle.te_terms.specs.Steps as steps
 use Rattle.te_terms.specs.Joint.{Label, CanCommit}
 use Rattle.te_cert.specs.declared.cert.Member.{Member}
@@ -27,10 +28,10 @@ IsParkedOrEnded (parked ticket event) = Unit {0}
 IsParkedOrEnded (given ticket outcome) = ⊥
 IsParkedOrEnded ended = Unit {0}
 
--- the members' own parked events, as a group
+-- the members' own parked events, as a group: none of them has made a channel yet
 abbrev pub AreEvents : State → List Member → List steps.Member → Type 0
 AreEvents s [] [] = Unit {0}
-AreEvents s (m ∷ ms) (g ∷ gs) = (g.thread ≡ m.thread) × Stands s m.thread (parked m.ticket g.term) × AreEvents s ms gs
+AreEvents s (m ∷ ms) (g ∷ gs) = (g ≡ come_to m.thread m.ticket 0 g.term) × Stands s m.thread (parked m.ticket g.term) × AreEvents s ms gs
 AreEvents s _ _ = ⊥
 
 -- members parked under their tickets, threads rising, whose events the certificate plays to these outcomes

@@ -22,7 +22,7 @@ exchange_commits : Commits (state 2 exchange.posts) exchange.cert exchange.outco
 exchange_commits = record {
   some_member = some_item;
   rise = (lit< tt, tt);
-  group = record { thread = 0; term = exchange.sends } ∷ record { thread = 1; term = exchange.receives } ∷ [];
+  group = come_to 0 0 0 exchange.sends ∷ come_to 1 0 0 exchange.receives ∷ [];
   events = (refl, refl, (refl, refl, tt));
   word = meeting 0 1 ∷ [];
   plays = refl;

@@ -7,6 +7,7 @@ use Rattle.te_terms.specs.declared.value.Atom.{Atom}
 use Rattle.te_terms.specs.declared.event.Outcome.{Outcome}
 use Rattle.te_terms.specs.declared.event.Outcome.TheVariants.{Gives}
 use Rattle.te_terms.specs.Terms.{Term, send, recv}
+use Rattle.te_terms.specs.Steps.{come_to}
 use Rattle.te_terms.specs.Joint.{meeting}
 use Rattle.te_cert.specs.declared.cert.Meeting.{Meeting}
 use Rattle.te_cert.specs.Play.{play}
@@ -39,11 +40,11 @@ pub commits_one : (s : State) (at : Party) (v : List Atom) → IsParkedAs s at (
 commits_one s at v p = record {
   some_member = λ none. cc;
   rise = tt;
-  group = record { thread = at.thread; term = p.event } ∷ [];
+  group = come_to at.thread at.ticket 0 p.event ∷ [];
   events = (refl, p.stands, tt);
   word = [];
-  plays = subst (λ (t : Term). play (record { thread = at.thread; term = t } ∷ []) ([] ∷ []) [] ≡ Ok (record { outcomes = Gives v ∷ []; word = [] }))
-      (sym p.is_so.1) (play-alone at.thread p.is_so.0 v p.is_so.2);
+  plays = subst (λ (t : Term). play (come_to at.thread at.ticket 0 t ∷ []) ([] ∷ []) [] ≡ Ok (record { outcomes = Gives v ∷ []; word = [] }))
+      (sym p.is_so.1) (play-alone at.thread at.ticket p.is_so.0 v p.is_so.2);
 }
 
 pub commits_sender_low : (s : State) (from to : Party) (channel : ℕ) (v : List Atom) → IsParkedAs s from (Send channel v) → IsParkedAs s to (Recv channel) → from.thread < to.thread
@@ -51,15 +52,15 @@ pub commits_sender_low : (s : State) (from to : Party) (channel : ℕ) (v : List
 commits_sender_low s from to channel v sends receives rises = record {
   some_member = λ none. cc;
   rise = (rises, tt);
-  group = record { thread = from.thread; term = sends.event } ∷ record { thread = to.thread; term = receives.event } ∷ [];
+  group = come_to from.thread from.ticket 0 sends.event ∷ come_to to.thread to.ticket 0 receives.event ∷ [];
   events = (refl, sends.stands, (refl, receives.stands, tt));
   word = meeting from.thread to.thread ∷ [];
   plays =
-      let Plays : Term → Term → Type 0 = λ a b. play (record { thread = from.thread; term = a } ∷ record { thread = to.thread; term = b } ∷ []) ([] ∷ [] ∷ []) (sender_low ∷ [])
+      let Plays : Term → Term → Type 0 = λ a b. play (come_to from.thread from.ticket 0 a ∷ come_to to.thread to.ticket 0 b ∷ []) ([] ∷ [] ∷ []) (sender_low ∷ [])
       ≡ Ok (record { outcomes = Gives [] ∷ Gives v ∷ []; word = meeting from.thread to.thread ∷ [] }) in
       subst (λ (a : Term). Plays a receives.event) (sym sends.is_so.2)
       (subst (λ (b : Term). Plays (send sends.is_so.0 sends.is_so.1) b) (sym receives.is_so.1)
-      (play-sender_first from.thread to.thread sends.is_so.0 receives.is_so.0 sends.is_so.1 channel v sends.is_so.3 sends.is_so.4 receives.is_so.2));
+      (play-sender_first from.thread from.ticket to.thread to.ticket sends.is_so.0 receives.is_so.0 sends.is_so.1 channel v sends.is_so.3 sends.is_so.4 receives.is_so.2));
 }
 
 pub commits_receiver_low : (s : State) (from to : Party) (channel : ℕ) (v : List Atom) → IsParkedAs s from (Send channel v) → IsParkedAs s to (Recv channel) → to.thread < from.thread
@@ -67,15 +68,15 @@ pub commits_receiver_low : (s : State) (from to : Party) (channel : ℕ) (v : Li
 commits_receiver_low s from to channel v sends receives rises = record {
   some_member = λ none. cc;
   rise = (rises, tt);
-  group = record { thread = to.thread; term = receives.event } ∷ record { thread = from.thread; term = sends.event } ∷ [];
+  group = come_to to.thread to.ticket 0 receives.event ∷ come_to from.thread from.ticket 0 sends.event ∷ [];
   events = (refl, receives.stands, (refl, sends.stands, tt));
   word = meeting from.thread to.thread ∷ [];
   plays =
-      let Plays : Term → Term → Type 0 = λ a b. play (record { thread = to.thread; term = b } ∷ record { thread = from.thread; term = a } ∷ []) ([] ∷ [] ∷ []) (receiver_low ∷ [])
+      let Plays : Term → Term → Type 0 = λ a b. play (come_to to.thread to.ticket 0 b ∷ come_to from.thread from.ticket 0 a ∷ []) ([] ∷ [] ∷ []) (receiver_low ∷ [])
       ≡ Ok (record { outcomes = Gives v ∷ Gives [] ∷ []; word = meeting from.thread to.thread ∷ [] }) in
       subst (λ (a : Term). Plays a receives.event) (sym sends.is_so.2)
       (subst (λ (b : Term). Plays (send sends.is_so.0 sends.is_so.1) b) (sym receives.is_so.1)
-      (play-receiver_first from.thread to.thread sends.is_so.0 receives.is_so.0 sends.is_so.1 channel v sends.is_so.3 sends.is_so.4 receives.is_so.2));
+      (play-receiver_first from.thread from.ticket to.thread to.ticket sends.is_so.0 receives.is_so.0 sends.is_so.1 channel v sends.is_so.3 sends.is_so.4 receives.is_so.2));
 }
 
 -- a sender and a receiver are two callers

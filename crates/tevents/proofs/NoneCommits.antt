@@ -6,7 +6,7 @@ use Rattle.std.proofs.lemmas.Option.{none-some, same_Some}
 use Rattle.te_terms.specs.declared.event.Outcome.{Outcome}
 use Rattle.te_terms.specs.declared.event.Parked.{Parked}
 use Rattle.te_terms.specs.Terms.{Term}
-use Rattle.te_terms.specs.Steps.{Member, quiet_step}
+use Rattle.te_terms.specs.Steps.{Member, come_to, quiet_step}
 use Rattle.te_terms.specs.Joint.{choice, meeting, Action, quiet, labelled, Message, after_choice, sending, receiving, member_of, with_member, with_term, handed, meeting_of, joint_step, after, outcomes_of, and_outcome, part, as_group, CanCommit}
 use Rattle.te_history.specs.State.{Standing, idle, parked, given, ended, parked_from, parked_by}
 use Rattle.tevents.proofs.WaitingKinds.{Waits}
@@ -32,7 +32,7 @@ member_of_all P t [] m all is = absurd (none-some m is)
 member_of_all P t (n ∷ ns) m all is = if_found P (n.thread == t) n m (member_of t ns) all.0 (member_of_all P t ns m all.1) is
 
 parked_first : (P : Member → Type 0) (low : ℕ) (c : Standing) (rest : List Parked)
-    → ((ticket : ℕ) (event : Term) → c ≡ parked ticket event → P (record { thread = low; term = event }))
+    → ((ticket : ℕ) (event : Term) → c ≡ parked ticket event → P (come_to low ticket 0 event))
     → AllByRecursion P (as_group rest) → AllByRecursion P (as_group (parked_by low c rest))
 parked_first P low idle rest here all = all
 parked_first P low (parked ticket event) rest here all = (here ticket event refl, all)
@@ -41,15 +41,15 @@ parked_first P low ended rest here all = all
 
 -- what holds of each parked event by its thread holds of each member
 pub parked_all : (P : Member → Type 0) (low : ℕ) (cs : List Standing)
-    → ((i ticket : ℕ) (event : Term) → slice_get cs i ≡ Some (parked ticket event) → P (record { thread = low + i; term = event }))
+    → ((i ticket : ℕ) (event : Term) → slice_get cs i ≡ Some (parked ticket event) → P (come_to (low + i) ticket 0 event))
     → AllByRecursion P (as_group (parked_from low cs))
 parked_all P low [] each = tt
 parked_all P low (c ∷ cs) each =
     parked_first P low c (parked_from (suc low) cs)
-    (λ ticket event is. subst (λ (k : ℕ). P (record { thread = k; term = event })) (add-zero low) (each 0 ticket event (ap Some is)))
+    (λ ticket event is. subst (λ (k : ℕ). P (come_to k ticket 0 event)) (add-zero low) (each 0 ticket event (ap Some is)))
     (parked_all P (suc low) cs (λ i ticket event is.
     let moved : low + suc i ≡ suc low + i = omega arith in
-    subst (λ (k : ℕ). P (record { thread = k; term = event })) moved (each (suc i) ticket event is)))
+    subst (λ (k : ℕ). P (come_to k ticket 0 event)) moved (each (suc i) ticket event is)))
 
 -- ---- steps
 

@@ -4,7 +4,7 @@ use Rattle.std.proofs.lemmas.Option.{none-some, same_Some}
 use Rattle.te_terms.specs.declared.value.Atom.{Atom}
 use Rattle.te_terms.specs.Expressions.{Primitive, Expression, value_of, channel_value}
 use Rattle.te_terms.specs.Terms.{Term, send, recv}
-use Rattle.te_terms.specs.Steps.{Member, quiet_step, outcome_of}
+use Rattle.te_terms.specs.Steps.{Member, at_term, quiet_step, outcome_of}
 use Rattle.te_terms.specs.Joint.{Message, after_choice, sending, receiving}
 use Rattle.tevents.specs.declared.kind.Kind.{Kind}
 use Rattle.tevents.specs.declared.kind.Kind.TheVariants.{Always, Send, Recv}
@@ -24,15 +24,15 @@ no_choice_at_recv : (left : Bool) (p : Primitive) → after_choice left (recv p)
 no_choice_at_recv true p = refl
 no_choice_at_recv false p = refl
 
-waits_at_send : (t : ℕ) (p : Primitive) (e : Expression) (c : ℕ) (v : List Atom) → channel_value p ≡ Ok c → value_of e ≡ Ok v → Waits (record { thread = t; term = send p e })
-waits_at_send t p e c v on of = record {
+waits_at_send : (m : Member) (p : Primitive) (e : Expression) (c : ℕ) (v : List Atom) → channel_value p ≡ Ok c → value_of e ≡ Ok v → Waits (at_term m (send p e))
+waits_at_send m p e c v on of = record {
   no_quiet = simp (on, of);
   no_choice = λ left. no_choice_at_send left p e;
   no_outcome = refl;
 }
 
-waits_at_recv : (t : ℕ) (p : Primitive) (c : ℕ) → channel_value p ≡ Ok c → Waits (record { thread = t; term = recv p })
-waits_at_recv t p c on = record {
+waits_at_recv : (m : Member) (p : Primitive) (c : ℕ) → channel_value p ≡ Ok c → Waits (at_term m (recv p))
+waits_at_recv m p c on = record {
   no_quiet = simp on;
   no_choice = λ left. no_choice_at_recv left p;
   no_outcome = refl;
@@ -41,8 +41,8 @@ waits_at_recv t p c on = record {
 -- an event on a channel waits
 pub waits_of_kind : (m : Member) (kind : Kind) → IsOfKind m.term kind → ((v : List Atom) → kind ≢ Always v) → Waits m
 waits_of_kind m (Always v) is not_always = absurd (not_always v refl)
-waits_of_kind m (Send c v) is not_always = subst (λ (t : Term). Waits (record m { term = t })) (sym is.2) (waits_at_send m.thread is.0 is.1 c v is.3 is.4)
-waits_of_kind m (Recv c) is not_always = subst (λ (t : Term). Waits (record m { term = t })) (sym is.1) (waits_at_recv m.thread is.0 c is.2)
+waits_of_kind m (Send c v) is not_always = subst (λ (t : Term). Waits (at_term m t)) (sym is.2) (waits_at_send m is.0 is.1 c v is.3 is.4)
+waits_of_kind m (Recv c) is not_always = subst (λ (t : Term). Waits (at_term m t)) (sym is.1) (waits_at_recv m is.0 c is.2)
 
 -- what stands to be sent is the kind's message
 pub sends_by_kind : (t : Term) (kind : Kind) (sent : Message) → IsOfKind t kind → sending t ≡ Some sent → kind ≡ Send sent.channel sent.value
