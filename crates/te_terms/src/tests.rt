@@ -366,6 +366,10 @@ fn events_are_terms(rt: HostRuntime) {
                 assert_eq!(rt; one.weight(), 2);
                 assert_eq!(rt; one.root(), 2);
                 assert_eq!(rt; one.code().len(), 3);
+                let (code, root, regs) = one.parts();
+                assert_eq!(rt; code.len(), 3);
+                assert_eq!(rt; root, 2);
+                assert_eq!(rt; regs.as_slice(), registers().as_slice());
                 assert_eq!(rt; other.regs().as_slice(), values.as_slice());
                 match one.copy() {
                     Ok(copy) => assert_eq!(rt; copy.same(&one), true),
