@@ -198,17 +198,6 @@ impl EventCode {
         self.mark(i).weight as u32
     }
 
-    /// The height of the term under node `i`; a leaf has height 1. It is public for the crates above alone,
-    /// which take room for a walk through the term at once.
-    #[doc(hidden)]
-    pub fn height(&self, i: u32) -> u32
-        requires { i < length self.now }
-        ensures value { result ≡ height (term_under self.now i) }
-        ensures low { result ≤ greatest_height }
-    {
-        self.mark(i).height as u32
-    }
-
     fn mark(&self, i: u32) -> Mark
         requires { i < length self.now }
         ensures tells { Tells self.now i result }
