@@ -5,6 +5,8 @@ use Rattle.te_terms.specs.Terms.{Term}
 use Rattle.te_cert.specs.declared.cert.Member.{Member}
 use Rattle.te_cert.specs.Certificates.{Certificate}
 use Rattle.te_cert.specs.Checks as checks
+use Rattle.te_cert.specs.Lending.{lent_terms}
+use Rattle.te_cert.specs.declared.lent.Lent.{Lent}
 use Rattle.te_history.specs.State.{parked, State}
 use Rattle.te_history.specs.Follows.{Stands, AreEvents, Commits}
 use Rattle.te_history.specs.Refusals.{AreParked}
@@ -24,6 +26,11 @@ length-parked s [] [] all = refl
 length-parked s (m ∷ ms) (e ∷ es) all = ap suc (length-parked s ms es all.1)
 length-parked s [] (e ∷ es) all = absurd all
 length-parked s (m ∷ ms) [] all = absurd all
+
+-- nor does lending change their number
+pub length-lent : (ls : List Lent) → length ls ≡ length (lent_terms ls)
+length-lent [] = refl
+length-lent (l ∷ ls) = ap suc (length-lent ls)
 
 -- ---- the commit
 

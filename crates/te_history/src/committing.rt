@@ -4,6 +4,7 @@ ghost use Rattle.std.specs.Prelude.{ℕ, List, false, ◌≡◌, ◌≢◌, ◌�
 ghost use Rattle.te_cert.specs.declared.cert.Member.{Member as Party};
 ghost use Rattle.te_cert.specs.declared.cert.CertFault.TheVariants as unsound;
 ghost use Rattle.te_terms.specs.Terms.{Term};
+ghost use Rattle.te_cert.specs.Lending.{lent_terms, AreLent};
 ghost use Rattle.te_cert.specs.Checks.{ThreadsRise, Gives};
 ghost use Rattle.te_history.specs.declared.entry.StepFault.TheVariants as faults;
 ghost use Rattle.te_history.specs.declared.status.Status.{Status as Stance};
@@ -17,8 +18,8 @@ use crate::history::Hist;
 use crate::same::is_same;
 use crate::status::Status;
 use std::alloc::Global;
-use te_cert::{Cert, CertFault, Member, check};
-use te_terms::{Event, NoMemory, Outcome, Rows};
+use te_cert::{Cert, CertFault, Lent, Member, Room, check_in};
+use te_terms::{NoMemory, Outcome, Rows};
 
 fn rises(members: &[Member]) -> bool
     ensures { IsTrue result ↔ ThreadsRise members.now }
@@ -83,17 +84,21 @@ fn are_parked(hist: &Hist, members: &[Member]) -> Result<(), StepFault>
     Ok(())
 }
 
-// The members' events, in order.
-fn events_of(alloc: Global, hist: &Hist, members: &[Member]) -> Result<Vec<Event>, NoMemory>
+// The parts of the members' events where they lie, in order.
+fn lents_of<'a>(
+    alloc: Global,
+    hist: &'a Hist,
+    members: &[Member],
+) -> Result<Vec<Lent<'a>>, NoMemory>
     requires { AreAllParked (now hist.now) members.now }
-    ensures { IfOk result (λ events. AreParked (now hist.now) members.now events.items) }
+    ensures parked { IfOk result (λ lents. AreParked (now hist.now) members.now (lent_terms lents.items)) }
+    ensures lent { IfOk result (λ lents. AreLent lents.items) }
 {
-    let mut events = Vec::new(alloc);
+    let mut lents = Vec::with_capacity(alloc, members.len())?;
     for i in 0..members.len() {
-        let event = hist.parked_event(members[i].thread).copy()?;
-        events.push(event)?;
+        lents.push(Lent::of(hist.parked_event(members[i].thread)))?;
     }
-    Ok(events)
+    Ok(lents)
 }
 
 // The first place at which the two lists differ, or at which only one of them goes on.
@@ -157,10 +162,10 @@ pub fn play_commit(alloc: Global, hist: &Hist, cert: &Cert) -> Result<Rows<Outco
         Ok(()) => {}
         Err(fault) => return Err(fault),
     }
-    let Ok(events) = events_of(alloc, hist, cert.members.as_slice()) else {
+    let Ok(lents) = lents_of(alloc, hist, cert.members.as_slice()) else {
         return Err(StepFault::Memory);
     };
-    match check(alloc, cert, &events) {
+    match check_in(alloc, &mut Room::new(alloc), cert, &lents) {
         Ok(played) => Ok(played),
         Err(fault) => Err(unsound(fault)),
     }
