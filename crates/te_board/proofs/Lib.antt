@@ -1,3 +1,4 @@
 pub mod Reserving
 pub mod ParkedLists
 pub mod TakesFollow
+pub mod OneNever

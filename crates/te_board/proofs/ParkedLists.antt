@@ -77,7 +77,7 @@ agrees_more s t next list p at stands thread agrees =
     parked_next s t p.ticket p.event stands ∙ ap (λ (x : Parked). x ∷ parked_after (t + 1) s) one in (
       omega arith,
       agrees.1 ∙ ap (λ (l : List Parked). take next list ++ l) after ∙ sym (append_assoc (take next list) (p ∷ []) (parked_after (t + 1) s))
-      ∙ ap (λ (l : List Parked). l ++ parked_after (t + 1) s) (sym (take_next list next p at)),
+          ∙ ap (λ (l : List Parked). l ++ parked_after (t + 1) s) (sym (take_next list next p at)),
     )
 
 -- lists that agree so far, and differ from there on, differ
