@@ -2,7 +2,7 @@ use crate::*;
 use std::test::Fail;
 
 // A number, and the threads, channels and statements a thread of its script.
-const SCRIPTS: &[(u32, usize, usize)] = &[(0, 3, 2), (20, 63, 22), (299, 18, 301), (999, 36, 101)];
+const SCRIPTS: &[(u32, usize, usize)] = &[(0, 3, 2), (20, 63, 22), (299, 18, 301), (999, 39, 101)];
 
 #[test]
 fn scripts_have_their_rings_and_rounds(rt: HostRuntime) -> Result<(), Fail> {
