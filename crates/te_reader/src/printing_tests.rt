@@ -1,5 +1,6 @@
 use crate::*;
 use std::test::Fail;
+use te_script::generate;
 
 // Texts, and the canonical texts of their scripts.
 const TEXTS: &[(&[u8], &[u8])] = &[
@@ -36,6 +37,41 @@ fn scripts_print_as_their_canonical_texts(rt: HostRuntime) -> Result<(), Fail> {
             return Ok(());
         };
         assert_eq!(rt; print_script(rt.alloc(), &again)?.as_slice(), *canonical);
+    }
+    Ok(())
+}
+
+const RING: &[u8] = b"channels c0 c1 c2;
+thread t0 {
+  x <- sync do { _0 <- send c0 (0); recv c2 };
+  emit x;
+}
+thread t1 {
+  x <- sync do { _0 <- recv c0; _1 <- send c1 (_0.0 + 1); always _0 };
+  emit x;
+}
+thread t2 {
+  x <- sync do { _0 <- recv c1; _1 <- send c2 (_0.0 + 1); always _0 };
+  emit x;
+}
+";
+
+#[test]
+fn a_generated_script_is_printed_and_read_again(rt: HostRuntime) -> Result<(), Fail> {
+    let script = generate(rt.alloc(), 0)?;
+    let printed = print_script(rt.alloc(), &script)?;
+    assert_eq!(rt; printed.as_slice(), RING);
+    for number in [20, 299] {
+        let script = generate(rt.alloc(), number)?;
+        let printed = print_script(rt.alloc(), &script)?;
+        let Ok(again) = read_script(rt.alloc(), printed.as_slice()) else {
+            assert!(rt; false, "the text of {number} is refused");
+            return Ok(());
+        };
+        assert!(rt;
+            print_script(rt.alloc(), &again)?.as_slice() == printed.as_slice(),
+            "{number} prints otherwise"
+        );
     }
     Ok(())
 }

@@ -13,3 +13,5 @@ pub mod MoreChannels
 pub mod WantsTold
 pub mod Appending
 pub mod OneMore
+pub mod NodesPut
+pub mod GeneratedKept

@@ -4,3 +4,5 @@ pub mod Texts
 pub mod Cores
 pub mod Stored
 pub mod Wants
+pub mod Generated
+pub mod Nodes
