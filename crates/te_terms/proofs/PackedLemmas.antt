@@ -1,5 +1,6 @@
 -- Values and their packed form.
-use Rattle.std.proofs.Common.{◌≡◌, ℕ, zero, suc, ◌+◌, ◌<◌, ◌≤◌, ℤ, pos, Bool, true, false, List, [], ◌∷◌, ◌++◌, map, length, set, get_or, Some, slice_get, refl, sym, ap, ◌∙◌, Decides, not, arith, length-append}
+use Rattle.std.proofs.Common.{◌≡◌, ℕ, zero, suc, ◌+◌, ◌<◌, ◌≤◌, ℤ, pos, Bool, true, false, List, [], ◌∷◌}
+use Rattle.std.proofs.Common.{◌++◌, map, length, set, get_or, Some, slice_get, refl, sym, ap, ◌∙◌, Decides, not, arith, length-append}
 use Rattle.std.proofs.lemmas.List.{map-append, length-map}
 use Rattle.te_terms.specs.declared.value.Atom.{Atom}
 use Rattle.te_terms.specs.declared.value.Atom.TheVariants.{Int, Chan}
@@ -47,11 +48,13 @@ narrow_set (suc i) (v ∷ ws) [] w k a n = tt
 
 words_set : (v : List Atom) (a : Atom) → length v < most_atoms → set (words_of v) (length v) (word_of a) ≡ words_of (v ++ a ∷ [])
 words_set v a h =
-    ap (λ n. set (words_of v) n (word_of a)) (sym (length-map v word_of)) ∙ padded_set most_atoms (pos 0) (word_of a) (map word_of v) (omega (arith, length-map v word_of)) ∙ ap (padded most_atoms (pos 0)) (sym (map-append word_of v (a ∷ [])))
+    ap (λ n. set (words_of v) n (word_of a)) (sym (length-map v word_of)) ∙ padded_set most_atoms (pos 0) (word_of a) (map word_of v) (omega (arith, length-map v word_of)) ∙
+    ap (padded most_atoms (pos 0)) (sym (map-append word_of v (a ∷ [])))
 
 kinds_set : (v : List Atom) (a : Atom) → length v < most_atoms → set (kinds_of v) (length v) (is_channel a) ≡ kinds_of (v ++ a ∷ [])
 kinds_set v a h =
-    ap (λ n. set (kinds_of v) n (is_channel a)) (sym (length-map v is_channel)) ∙ padded_set most_atoms false (is_channel a) (map is_channel v) (omega (arith, length-map v is_channel)) ∙ ap (padded most_atoms false) (sym (map-append is_channel v (a ∷ [])))
+    ap (λ n. set (kinds_of v) n (is_channel a)) (sym (length-map v is_channel)) ∙
+    padded_set most_atoms false (is_channel a) (map is_channel v) (omega (arith, length-map v is_channel)) ∙ ap (padded most_atoms false) (sym (map-append is_channel v (a ∷ [])))
 
 -- the fields where an atom is written behind the others
 pub record Pushed (len : ℕ) (ws : List ℤ) (ks : List Bool) (a : Atom) : Type 0 where
@@ -68,7 +71,8 @@ pushed len ws ks a p h n =
     ap (λ xs. set xs len (is_channel a)) (sym p.kinds_are) ∙ ap (λ k. set (kinds_of v) k (is_channel a)) (sym p.as_long) ∙ kinds_set v a room in
     let long : length (v ++ a ∷ []) ≡ len + 1 = length-append v (a ∷ []) ∙ ap (λ k. k + 1) p.as_long in
     let atoms : atoms_in (len + 1) (set ws len (word_of a)) (set ks len (is_channel a)) ≡ v ++ a ∷ [] =
-    ap (λ k. atoms_in k (set ws len (word_of a)) (set ks len (is_channel a))) (sym long) ∙ ap (λ xs. atoms_in (length (v ++ a ∷ [])) xs (set ks len (is_channel a))) words ∙ ap (λ xs. atoms_in (length (v ++ a ∷ [])) (words_of (v ++ a ∷ [])) xs) kinds ∙ atoms_back (v ++ a ∷ []) _ _ in
+    ap (λ k. atoms_in k (set ws len (word_of a)) (set ks len (is_channel a))) (sym long) ∙ ap (λ xs. atoms_in (length (v ++ a ∷ [])) xs (set ks len (is_channel a))) words ∙
+    ap (λ xs. atoms_in (length (v ++ a ∷ [])) (words_of (v ++ a ∷ [])) xs) kinds ∙ atoms_back (v ++ a ∷ []) _ _ in
     record {
       packed = record {
         within = omega arith;

@@ -88,7 +88,8 @@ node_more (forms.If t a b) (c ∷ []) more h = absurd (omega arith)
 
 node_of_more : (slot : Slot) (list more : List Calc) → IsWithin list slot → node_of (list ++ more) slot ≡ node_of list slot
 node_of_more slot list more w =
-    ap (node_in slot.form) (drop-append-le slot.from list more (omega (arith, w.within))) ∙ node_more slot.form (drop slot.from list) more (omega (arith, w.within, length-drop slot.from list))
+    ap (node_in slot.form) (drop-append-le slot.from list more (omega (arith, w.within))) ∙
+    node_more slot.form (drop slot.from list) more (omega (arith, w.within, length-drop slot.from list))
 
 nodes_more : (slots : List Slot) (list more : List Calc) → AllByRecursion (IsWithin list) slots → nodes_of slots (list ++ more) ≡ nodes_of slots list
 nodes_more [] list more a = refl
@@ -115,7 +116,8 @@ appended slots list n s f =
     let needs = needed_is n in
     let last : node_of (list ++ calculations_of n) slot ≡ n = ap (node_in (form_of n)) (drop-append_seam list (calculations_of n)) ∙ node_back n in
     record {
-      nodes = map-append (node_of (list ++ calculations_of n)) slots (slot ∷ []) ∙ ap (λ ns. ns ++ node_of (list ++ calculations_of n) slot ∷ []) (nodes_more slots list (calculations_of n) s.each) ∙ ap (λ m. nodes_of slots list ++ m ∷ []) last;
+      nodes = map-append (node_of (list ++ calculations_of n)) slots (slot ∷ []) ∙
+          ap (λ ns. ns ++ node_of (list ++ calculations_of n) slot ∷ []) (nodes_more slots list (calculations_of n) s.each) ∙ ap (λ m. nodes_of slots list ++ m ∷ []) last;
       stored = record {
         each = all_more (IsWithin (list ++ calculations_of n)) slots slot (within_more slots list (calculations_of n) s.each) (record { within = omega (arith, long, needs); few = f });
         short = omega (arith, s.short, long, needs, few_needed (form_of n) f, length-append slots (slot ∷ []));

@@ -17,7 +17,8 @@ returns-then-d-self c =
     let fits : SFits w64 (get_or c.self.inside.words c.args.d (pos 0)) = search rules in
     let same : c.of.result ≡ atom_in (get_or c.self.inside.words c.args.d (pos 0)) (get_or c.self.inside.are_channels c.args.d false) =
     c.of.ensures ∙ ap (λ w. atom_in w (get_or c.self.inside.are_channels c.args.d false)) (to_z-of_z fits) in
-    let there = atom_at c.self.inside.len c.args.d c.self.inside.words c.self.inside.are_channels c.if-d-self.true (omega (arith, c.self.told.0, c.self.told.1)) (omega (arith, c.self.told.0, c.self.invariant.within)) in
+    let there = atom_at c.self.inside.len c.args.d c.self.inside.words c.self.inside.are_channels c.if-d-self.true
+    (omega (arith, c.self.told.0, c.self.told.1)) (omega (arith, c.self.told.0, c.self.invariant.within)) in
     cc (same, there, c.self.view_is)
 
 pub returns-else-d-self : goal.returns-else-d-self
