@@ -1,8 +1,7 @@
 -- The room that a board keeps, after an entry and at first.
-use Rattle.std.proofs.Common.{◌≡◌, ◌≢◌, ℕ, zero, suc, ◌+◌, ◌≤◌, List, [], ◌∷◌, ◌++◌, length, replicate, refl, ap, sym, subst, arith, length-append}
-use Rattle.te_terms.specs.Terms.{Term}
+use Rattle.std.proofs.Common.{◌≡◌, ℕ, zero, suc, ◌+◌, ◌≤◌, [], ◌∷◌, ◌++◌, length, replicate, refl, ap, sym, arith, length-append}
 use Rattle.te_history.specs.declared.entry.Entry.{Entry}
-use Rattle.te_history.specs.State.{Standing, idle, state}
+use Rattle.te_history.specs.State.{idle, state}
 use Rattle.te_history.specs.Follows.{Follows}
 use Rattle.te_history.specs.Histories.{History, pushed}
 use Rattle.te_history.specs.Room.{room, callers_room, claimed, freed}

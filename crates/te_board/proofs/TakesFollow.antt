@@ -1,11 +1,11 @@
 -- A caller that is given an outcome in a legal history may take it: the board isn't stuck then.
-use Rattle.std.proofs.Common.{◌≡◌, ℕ, Bool, true, false, List, Some, refl, subst}
+use Rattle.std.proofs.Common.{◌≡◌, ℕ, Bool, true, false, List, refl}
 use Rattle.te_terms.specs.declared.event.Outcome.{Outcome}
 use Rattle.te_history.specs.declared.entry.Entry.{Entry}
 use Rattle.te_history.specs.declared.entry.Entry.TheVariants as entries
 use Rattle.te_history.specs.declared.status.Status.TheVariants as statuses
 use Rattle.te_history.specs.State.{Standing, idle, parked, given, ended, State, state}
-use Rattle.te_history.specs.Follows.{Stands, IsParkedOrEnded, Follows, IsLegal}
+use Rattle.te_history.specs.Follows.{Stands, Follows, IsLegal}
 use Rattle.te_history.specs.Histories.{HasStatus, status_of}
 use Rattle.te_history.proofs.Growing.{legal_is_loose}
 use Rattle.te_history.proofs.Lasting.{stuck_waits}

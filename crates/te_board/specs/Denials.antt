@@ -6,7 +6,6 @@ use Rattle.te_terms.specs.declared.event.Parked.{Parked}
 use Rattle.te_cert.specs.declared.cert.Cert.{Cert}
 use Rattle.te_history.specs.declared.entry.StepFault.{StepFault}
 use Rattle.te_history.specs.declared.entry.StepFault.TheVariants as steps
-use Rattle.te_history.specs.declared.status.Status.{Status}
 use Rattle.te_history.specs.declared.status.Status.TheVariants as statuses
 use Rattle.te_history.specs.State.{parked_list}
 use Rattle.te_history.specs.Follows.{IsRunning, IsParkedOrEnded}

@@ -1,4 +1,4 @@
-use Rattle.std.proofs.Common.{◌≡◌, ◌+◌, ◌-◌, ◌≤◌, subst, sym, arith}
+use Rattle.std.proofs.Common.{◌≡◌, ◌+◌, ◌-◌, subst, sym, arith}
 use Rattle.te_history.specs.Room.{claimed, freed}
 use Rattle.te_board.specs.Boards.{IsReserved}
 use Rattle.te_board.proofs.Reserving.{reserved_after, some_spare, gives_back}

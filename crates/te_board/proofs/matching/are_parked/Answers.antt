@@ -1,10 +1,10 @@
-use Rattle.std.proofs.Common.{◌≡◌, ◌≢◌, ◌+◌, ◌++◌, ◌≤◌, ◌<◌, ℕ, true, false, inl, inr, List, Some, ap, sym, ◌∙◌, subst, take, length, get_or, eqb, ltb, eqb-true, eq-eqb, arith}
+use Rattle.std.proofs.Common.{◌≡◌, ◌≢◌, ◌++◌, ◌≤◌, ◌<◌, ℕ, true, false, inl, inr, List, Some, ap, sym, ◌∙◌, subst, take, length, get_or, eqb, ltb, eqb-true, eq-eqb, arith}
 use Rattle.std.specs.Prelude.{IsTrue}
 use Rattle.std.specs.List.{slice_get}
 use Rattle.std.proofs.lemmas.Bool.Decides.{nat_tests}
 use Rattle.std.proofs.lemmas.Option.{slice_get-get_or}
 use Rattle.te_terms.specs.declared.event.Parked.{Parked}
-use Rattle.te_history.specs.State.{parked, parked_list}
+use Rattle.te_history.specs.State.{parked}
 use Rattle.te_history.specs.Follows.{Stands}
 use Rattle.te_history.specs.Histories.{now}
 use Rattle.te_history.proofs.AfterEntry.{length-state}

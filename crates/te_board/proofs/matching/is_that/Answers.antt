@@ -1,5 +1,4 @@
-use Rattle.std.proofs.Common.{◌≡◌, ◌≢◌, ℕ, false, true, true≢false, Some, ap, sym, ◌∙◌, subst}
-use Rattle.std.specs.List.{slice_get}
+use Rattle.std.proofs.Common.{◌≡◌, true≢false, ap, sym, ◌∙◌, subst}
 use Rattle.te_terms.specs.Terms.{Term}
 use Rattle.te_history.specs.State.{parked}
 use Rattle.te_history.specs.Follows.{Stands}

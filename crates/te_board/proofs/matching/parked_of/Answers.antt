@@ -1,7 +1,6 @@
 use Rattle.std.proofs.Common.{◌≡◌, ◌+◌, ◌++◌, ◌∷◌, List, [], ap, sym, ◌∙◌, append_assoc, arith}
 use Rattle.std.proofs.lemmas.List.{append-nil}
 use Rattle.te_terms.specs.declared.event.Parked.{Parked}
-use Rattle.te_history.specs.State.{parked_list}
 use Rattle.te_history.specs.Histories.{now}
 use Rattle.te_history.proofs.AfterEntry.{length-state}
 use Rattle.te_board.proofs.ParkedLists.{parked_after, parked_next, other_next, last_after}

@@ -1,4 +1,4 @@
-use Rattle.std.proofs.Common.{◌≡◌, ◌≤◌, ◌++◌}
+use Rattle.std.proofs.Common.{◌≡◌, ◌++◌}
 use Rattle.te_history.specs.State.{parked_list}
 use Rattle.te_history.specs.Histories.{now}
 use Rattle.te_board.proofs.ParkedLists.{parked_after}

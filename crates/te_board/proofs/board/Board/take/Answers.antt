@@ -1,6 +1,5 @@
-use Rattle.std.proofs.Common.{◌≡◌, sym, subst}
+use Rattle.std.proofs.Common.{sym, subst}
 use Rattle.te_history.specs.declared.entry.Entry.{Entry}
-use Rattle.te_history.specs.State.{state}
 use Rattle.te_history.specs.Follows.{Follows}
 use Rattle.te_board.proofs.TakesFollow.{take_follows}
 use Rattle.te_board.proofs.board.Board.take.Goals as goal
