@@ -1,10 +1,10 @@
 -- Canonical texts, computed.
-use Rattle.std.proofs.Common.{◌≡◌, ℕ, List, [], ◌∷◌, ◌++◌, refl}
+use Rattle.std.proofs.Common.{◌≡◌, List, [], ◌∷◌, refl}
 use Rattle.std.specs.Prelude.{codes, pos, negsuc}
 use Rattle.std.specs.Fmt.{digits}
 use Rattle.te_terms.specs.declared.expr.Arith.TheVariants.{Add, Sub}
 use Rattle.te_terms.specs.declared.expr.Test.TheVariants.{Less}
-use Rattle.te_terms.specs.Expressions.{register, name, Expression, int, chan, part, one, both, whole, tuple}
+use Rattle.te_terms.specs.Expressions.{register, name, int, chan, part, one, both, whole, tuple}
 use Rattle.te_terms.specs.Terms.{Term, always, never, fresh, throw, send, recv, and_then, choose, catch, when}
 use Rattle.te_script.specs.Scripts.{Statement, sync, emit, repeat, Program}
 use Rattle.te_reader.specs.Canonical.{canonical_text}

@@ -1,21 +1,15 @@
 -- The term under a node that is printed.
-use Rattle.std.proofs.Common.{◌≡◌, ℕ, suc, ◌<◌, List, [], ◌∷◌, length, get_or, Some, refl, ap, sym, subst, ◌∙◌, arith}
+use Rattle.std.proofs.Common.{◌≡◌, ℕ, ◌<◌, List, [], ◌∷◌, Some, refl, ap, subst, ◌∙◌}
 use Rattle.std.specs.Prelude.{slice_get}
 use Rattle.std.specs.List.{AllByRecursion}
-use Rattle.std.proofs.lemmas.Option.{slice_get-get_or}
 use Rattle.te_terms.specs.declared.code.Node.{Node}
 use Rattle.te_terms.specs.declared.code.Node.TheVariants as nodes
 use Rattle.te_terms.specs.declared.expr.Cond.{Cond}
 use Rattle.te_terms.specs.Codes.{over, term_at}
-use Rattle.te_terms.specs.Shape.{IsForest, children, NamesEarlier}
-use Rattle.te_terms.specs.Terms.{Term}
+use Rattle.te_terms.specs.Shape.{IsForest, children}
 use Rattle.te_terms.proofs.TermLemmas.{term_at_is}
 use Rattle.te_reader.specs.Answering.{leaf}
 use Rattle.te_reader.proofs.BuiltLemmas.{leaf_over}
-
--- the node at a place of what is lent of a code
-pub found : (code lent : List Node) (i : ℕ) (n m : Node) → lent ≡ code → i < length code → n ≡ get_or lent i n → n ≡ m → slice_get code i ≡ Some m
-found code lent i n m same lt is kind = slice_get-get_or code i n lt ∙ ap Some (ap (λ (ns : List Node). get_or ns i n) (sym same) ∙ sym is ∙ kind)
 
 pub term_is : (code : List Node) (level i : ℕ) (m : Node) → IsForest code → slice_get code i ≡ Some m → term_at code level i ≡ over (term_at code) level (Some m)
 term_is code level i m forest e = term_at_is code forest.earlier level i ∙ ap (over (term_at code) level) e

@@ -253,7 +253,10 @@ fn put_event(
     requires low { level + root ≤ 4096 }
     ensures { OnOk result (out.new.items ≡ out.old.items ++ event_text (spelling names.now) (standing_of standing) (term_at code.now level root)) }
 {
-    match &code.as_slice()[root as usize] {
+    let Some(node) = code.node(root) else {
+        unreachable!()
+    };
+    match &node {
         Node::Then(a, b) => put_then(out, names, code, *a, *b, level, standing),
         Node::Choose(a, b) => put_choose(out, names, code, *a, *b, level, standing),
         Node::Catch(a, b) => put_catch(out, names, code, *a, *b, level),
