@@ -3,6 +3,7 @@ use Rattle.std.proofs.Common.{◌≡◌, refl, lit<}
 use Rattle.std.specs.Prelude.{◌≢◌, List, [], ◌∷◌, Bool, true, false, None}
 use Rattle.te_terms.specs.Terms.{never}
 use Rattle.te_terms.specs.Joint.{meeting, labelled, after_choice, CanCommit}
+use Rattle.te_terms.specs.Steps.{come_to}
 use Rattle.te_script.specs.Wishes.{syncs}
 use Rattle.te_history.specs.declared.status.How.TheVariants as ways
 use Rattle.te_history.specs.declared.entry.Entry.{Entry}

@@ -3,7 +3,7 @@ use Rattle.std.proofs.Common.{◌≡◌, ℕ, List, Some, ap, sym, ◌∙◌, su
 use Rattle.std.specs.List.{slice_get}
 use Rattle.te_terms.specs.declared.value.Atom.{Atom}
 use Rattle.te_terms.specs.declared.code.Node.{Node}
-use Rattle.te_terms.specs.declared.code.Node.TheVariants.{Always, Never, Throw, Send, Recv, Then, Choose, Catch, If}
+use Rattle.te_terms.specs.declared.code.Node.TheVariants.{Always, Never, Fresh, Throw, Send, Recv, Then, Choose, Catch, If}
 use Rattle.te_terms.specs.Expressions.{Primitive, Expression, value_of, channel_value}
 use Rattle.te_terms.specs.Terms.{Term, always, send, recv, closed}
 use Rattle.te_terms.specs.Codes.{over, term_within}
@@ -44,6 +44,7 @@ plain_node under level regs Never kind is = no_kind _ kind (λ e' h. cc) (λ p' 
 plain_node under level regs (Throw e) kind is = no_kind _ kind (λ e' h. cc) (λ p' e' h. cc) (λ p' h. cc) is
 plain_node under level regs (Send p e) kind is = message_by_kind _ _ kind is
 plain_node under level regs (Recv p) kind is = channel_by_kind _ kind is
+plain_node under level regs Fresh kind is = no_kind _ kind (λ e' h. cc) (λ p' e' h. cc) (λ p' h. cc) is
 plain_node under level regs (Then a b) kind is = no_kind _ kind (λ e' h. cc) (λ p' e' h. cc) (λ p' h. cc) is
 plain_node under level regs (Choose a b) kind is = no_kind _ kind (λ e' h. cc) (λ p' e' h. cc) (λ p' h. cc) is
 plain_node under level regs (Catch a b) kind is = no_kind _ kind (λ e' h. cc) (λ p' e' h. cc) (λ p' h. cc) is

@@ -5,7 +5,7 @@ use Rattle.std.specs.Prelude.{slice_get, OnOk, OnErr}
 use Rattle.te_terms.specs.declared.value.Atom.{Atom}
 use Rattle.te_terms.specs.Terms.{Term}
 use Rattle.te_script.specs.Wishes.{Wish, syncs, wish_of}
-use Rattle.te_script.specs.Cores.{Next, waits, ended, failed, doing_of, wish_at, stand_after, At, IsWaiting}
+use Rattle.te_script.specs.Cores.{Next, waits, ended, failed, doing_of, wish_at, At, IsWaiting}
 use Rattle.te_script.proofs.WishReached.{wish_after}
 use Rattle.te_script.proofs.Appending.{AllByRecursion-append}
 use Rattle.te_history.specs.declared.entry.Entry.{Entry}

@@ -6,7 +6,7 @@ use Rattle.std.proofs.lemmas.Option.{slice_get-get_or}
 use Rattle.te_terms.specs.declared.value.Atom.{Atom}
 use Rattle.te_terms.specs.declared.value.Atom.TheVariants.{Int, Chan}
 use Rattle.te_terms.specs.Expressions.{register, name, known, int, chan, part, Calculation, one, both, Expression, whole, tuple, in_calculation, in_expression, value_of, calculated_atoms}
-use Rattle.te_terms.specs.Terms.{Term, always, never, throw, send, recv, and_then, choose, catch, when, registers_to, closed, or_register}
+use Rattle.te_terms.specs.Terms.{Term, always, never, fresh, throw, send, recv, and_then, choose, catch, when, registers_to, closed, or_register}
 use Rattle.te_reader.specs.FirstForm.{IsPlain as IsPlainCalculation, IsPlainExpression, IsPlainEvent, IsPlainStatement}
 use Rattle.te_script.specs.Scripts.{Scope, Thread, Statement, sync, emit, repeat, IsExpression, IsEvent, AreStatements, with_register}
 use Rattle.te_script.specs.Wants.{IsOfStatement}
@@ -42,6 +42,7 @@ event_plain regs s (send (chan c) e) le scoped plain =
 event_plain regs s (recv (chan c)) le scoped plain = record { kind = kinds.Recv c; is_so = (chan c, refl, refl) }
 event_plain regs s never le scoped plain = absurd plain
 event_plain regs s (throw e) le scoped plain = absurd plain
+event_plain regs s fresh le scoped plain = absurd plain
 event_plain regs s (send (int z) e) le scoped plain = absurd plain
 event_plain regs s (send (part x d) e) le scoped plain = absurd plain
 event_plain regs s (recv (int z)) le scoped plain = absurd plain
