@@ -1,4 +1,5 @@
 ghost use Rattle.std.specs.Prelude.{◌≡◌, ◌↔◌, ℕ, true, ◌+◌, ◌<◌, ◌≤◌, List, [], ◌∷◌, length, IfOk, IfErr, OnOk, OnErr};
+ghost use Rattle.te_terms.specs.Limits.{most_threads};
 ghost use Rattle.te_terms.specs.Terms.{Term};
 ghost use Rattle.te_terms.specs.Joint.{CanCommit};
 ghost use Rattle.te_cert.specs.Checks.{Gives};
@@ -101,7 +102,7 @@ impl Board {
     /// callers. The one refusal is want of memory.
     pub fn new(alloc: Global, callers: u32) -> Result<Board, NoMemory>
         requires some { 1 ≤ callers }
-        requires few { callers ≤ 64 }
+        requires few { callers ≤ most_threads }
         ensures { IfOk result (λ board. board ≡ record { callers = callers; entries = [] }) }
     {
         let mut hist = Hist::new(alloc, callers)?;
@@ -380,7 +381,7 @@ impl Board {
     pub fn callers(&self) -> u32
         ensures value { result ≡ self.now.callers }
         ensures some { 1 ≤ self.now.callers }
-        ensures few { self.now.callers ≤ 64 }
+        ensures few { self.now.callers ≤ most_threads }
     {
         self.hist.callers()
     }

@@ -12,7 +12,8 @@ use std::alloc::Global;
 use te_terms::{Event, Outcome, Rows};
 
 /// Checks that the events of the members reduce together by the certificate, and answers their outcomes, in
-/// order of the members. Condition: there are as many events as members. Tickets aren't read.
+/// order of the members. Condition: there are as many events as members. Each event stands under its member's
+/// thread and ticket, which name the fresh channels that it makes.
 ///
 /// The play: in order, each member advances, which is its quiet steps and its choices by its own letters; at each
 /// meeting, in order, both ends move, the sender advances, and then the receiver; in the end each member is final and

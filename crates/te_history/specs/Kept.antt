@@ -1,6 +1,7 @@
 -- What a history keeps beside its entries. No public clause cites this module.
 use Rattle.std.specs.Prelude.{◌≡◌, ℕ, ◌+◌, ◌^◌, ◌≤◌, Bool, true, List, [], ◌∷◌, length, Option, Some, None, slice_get, slice_set}
 use Rattle.te_terms.specs.declared.event.Outcome.{Outcome}
+use Rattle.te_terms.specs.Limits.{most_threads}
 use Rattle.te_terms.specs.Terms.{Term}
 use Rattle.te_cert.specs.declared.cert.Member.{Member}
 use Rattle.te_history.specs.declared.entry.Entry.{Entry}
@@ -37,7 +38,7 @@ SeatShows history posts _ _ = ⊥
 -- the entries are loose, and seats, phase and rest are those of the state after them
 pub record IsKept (history : List Entry) (seats : List Seat) (phase : Phase) (resting : Bool) : Type 0 where
   pub some_caller : 1 ≤ length seats
-  pub few_callers : length seats ≤ 64
+  pub few_callers : length seats ≤ most_threads
   pub few_entries : length history ≤ 2 ^ 31
   pub loose : IsLoose (length seats) history
   pub shows : (t : ℕ) → SeatShows history (posts_by t history) (slice_get seats t) (slice_get (state (length seats) history).callers t)

@@ -3,6 +3,7 @@
 ghost use Rattle.std.specs.Prelude.{ℕ, List, false, ◌≡◌, ◌≢◌, ◌↔◌, ◌⊎◌, ◌<◌, ◌≤◌, [], ◌∷◌, length, slice_get, IfOk, IfErr, IfSome, IfNone, IsTrue};
 ghost use Rattle.te_cert.specs.declared.cert.Member.{Member as Party};
 ghost use Rattle.te_cert.specs.declared.cert.CertFault.TheVariants as unsound;
+ghost use Rattle.te_terms.specs.Limits.{most_threads};
 ghost use Rattle.te_terms.specs.Terms.{Term};
 ghost use Rattle.te_cert.specs.Lending.{lent_terms, AreLent};
 ghost use Rattle.te_cert.specs.Checks.{ThreadsRise, Gives};
@@ -70,7 +71,7 @@ fn is_parked_under(status: &Status, ticket: u32) -> bool
 fn are_parked(hist: &Hist, members: &[Member]) -> Result<(), StepFault>
     requires rise { ThreadsRise members.now }
     requires callers { AreCallers hist.now.callers members.now }
-    requires few { hist.now.callers ≤ 64 }
+    requires few { hist.now.callers ≤ most_threads }
     ensures ok { IfOk result (λ _. AreAllParked (now hist.now) members.now) }
     ensures refused { IfErr result (λ fault. (i : ℕ) × (status : Stance) × (fault ≡ faults.Stale i status) × IsFirstStale (now hist.now) members.now i status) }
 {
@@ -134,7 +135,7 @@ fn unsound(fault: CertFault) -> StepFault
 // Whether the members of a certificate can play: whether they are in order, callers, and parked under their tickets.
 fn can_play(hist: &Hist, cert: &Cert) -> Result<(), StepFault>
     ensures ok { IfOk result (λ _. CanPlay hist.now.callers (now hist.now) cert.now) }
-    ensures few { IfOk result (λ _. hist.now.callers ≤ 64) }
+    ensures few { IfOk result (λ _. hist.now.callers ≤ most_threads) }
     ensures refused { IfErr result (λ fault. RefusesMembers hist.now.callers (now hist.now) cert.now fault) }
 {
     // The checker knows the types within a fault only where the body names them.
@@ -155,7 +156,7 @@ fn can_play(hist: &Hist, cert: &Cert) -> Result<(), StepFault>
 pub fn play_commit(alloc: Global, hist: &Hist, cert: &Cert) -> Result<Rows<Outcome>, StepFault>
     ensures ok { IfOk result (λ outcomes. Commits (now hist.now) cert.now outcomes) }
     ensures played { IfOk result (λ outcomes. IsPlayed (now hist.now) cert.now outcomes) }
-    ensures few { IfOk result (λ outcomes. length outcomes ≤ 64) }
+    ensures few { IfOk result (λ outcomes. length outcomes ≤ most_threads) }
     ensures refused { IfErr result (λ fault. RefusesPlay hist.now.callers (now hist.now) cert.now fault) }
 {
     match can_play(hist, cert) {

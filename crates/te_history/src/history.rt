@@ -1,5 +1,6 @@
 ghost use Rattle.std.specs.Prelude.{ℕ, ◌≡◌, ◌+◌, ◌<◌, ◌≤◌, ◌^◌, [], length, slice_get, IfOk, OnOk, OnErr};
 ghost use Rattle.std.specs.Option.{option_copied};
+ghost use Rattle.te_terms.specs.Limits.{most_threads};
 ghost use Rattle.te_history.specs.declared.status.Status.TheVariants.{Parked};
 ghost use Rattle.te_history.specs.State.{parked, posts_by};
 ghost use Rattle.te_history.specs.Follows.{Stands, LooselyFollows, IsLoose};
@@ -45,7 +46,7 @@ impl Hist {
     /// memory alone.
     pub fn new(alloc: Global, callers: u32) -> Result<Hist, NoMemory>
         requires some { 1 ≤ callers }
-        requires few { callers ≤ 64 }
+        requires few { callers ≤ most_threads }
         ensures { IfOk result (λ hist. hist ≡ record { callers = callers; entries = []; spare = 0 }) }
     {
         let seats = idle_seats(alloc, callers)?;
@@ -89,7 +90,7 @@ impl Hist {
     pub fn callers(&self) -> u32
         ensures value { result ≡ self.now.callers }
         ensures some { 1 ≤ self.now.callers }
-        ensures few { self.now.callers ≤ 64 }
+        ensures few { self.now.callers ≤ most_threads }
     {
         self.seats.len() as u32
     }

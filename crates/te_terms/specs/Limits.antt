@@ -1,4 +1,4 @@
--- The limits of values, names, registers and events, each named once. All of them are this project's own.
+-- The limits of values, names, registers, events and threads, each named once. All of them are this project's own.
 use Rattle.std.specs.Prelude.{ℕ, ◌≤◌}
 use Rattle.te_terms.specs.Terms.{Term}
 use Rattle.te_terms.specs.Measures.{height, node_count, fresh_count}
@@ -20,6 +20,9 @@ greatest_height = 32
 
 abbrev pub most_fresh : ℕ
 most_fresh = 16
+
+abbrev pub most_threads : ℕ
+most_threads = 64
 
 -- what the term of an event keeps
 pub record IsWithinLimits (t : Term) : Type 0 where

@@ -4,9 +4,11 @@ ghost use Rattle.te_terms.specs.declared.value.Atom.TheVariants.{Int};
 ghost use Rattle.te_terms.specs.declared.value.Trap.TheVariants.{Range, Kind};
 ghost use Rattle.te_terms.specs.Values.{arith_result, fits_i64};
 ghost use Rattle.te_terms.specs.Expressions.{Variable, in_primitive, in_calculation, in_expression, variable_value, primitive_atom, channel_value, calculation_atom, value_of, compared, test_value};
+ghost use Rattle.te_terms.specs.Limits.{most_atoms};
 ghost use Rattle.te_terms.specs.Terms.{scoped};
 ghost use Rattle.te_terms.specs.Codes.{variable_of, primitive_of, calculation_of, expression_of};
 
+use crate::limits::MOST_ATOMS;
 use crate::value::{Atom, Trap, Value};
 use std::marker::Model;
 
@@ -148,7 +150,7 @@ impl Calc {
 #[derive(Clone, Copy, Debug, PartialEq, Eq)]
 pub struct Calcs {
     len: u32,
-    list: [Calc; 4],
+    list: [Calc; MOST_ATOMS],
 }
 
 impl Model for Calcs {
@@ -156,15 +158,16 @@ impl Model for Calcs {
     ghost use Rattle.te_terms.specs.declared.expr.Calc.{Calc};
     ghost use Rattle.te_terms.specs.declared.expr.Calc.TheVariants.{One};
     ghost use Rattle.te_terms.specs.declared.expr.Operand.TheVariants.{Int};
+    ghost use Rattle.te_terms.specs.Limits.{most_atoms};
     ghost use Rattle.te_terms.specs.Padding.{padded, IsPadded, length_back};
 
     ghost Value = { List Calc };
 
     ghost view = { λ v. take v.len v.list };
 
-    ghost invariant = { λ v. IsPadded 4 (One (Int (pos 0))) v.len v.list };
+    ghost invariant = { λ v. IsPadded most_atoms (One (Int (pos 0))) v.len v.list };
 
-    ghost inverse = { λ xs. record { len = length xs; list = padded 4 (One (Int (pos 0))) xs } };
+    ghost inverse = { λ xs. record { len = length xs; list = padded most_atoms (One (Int (pos 0))) xs } };
 
     ghost inverse_ok = { λ a p. λ i. record { len = length_back p i; list = p.padded_so i } };
 }
@@ -173,12 +176,12 @@ impl Calcs {
     /// The list of these calculations; `None` exactly where there are more than 4.
     pub fn of(list: &[Calc]) -> Option<Calcs>
         ensures some { IfSome result (λ calcs. calcs ≡ list.now) }
-        ensures none { IsNone result ↔ (4 < length list.now) }
+        ensures none { IsNone result ↔ (most_atoms < length list.now) }
     {
-        if list.len() > 4 {
+        if list.len() > MOST_ATOMS {
             return None;
         }
-        let mut room = [Calc::One(Operand::Int(0)); 4];
+        let mut room = [Calc::One(Operand::Int(0)); MOST_ATOMS];
         room[..list.len()].copy_from_slice(list);
         Some(Calcs {
             len: list.len() as u32,
@@ -189,7 +192,7 @@ impl Calcs {
     /// The calculations, in order.
     pub fn as_slice(&self) -> &[Calc]
         ensures value { result.now ≡ self.now }
-        ensures range { length self.now ≤ 4 }
+        ensures range { length self.now ≤ most_atoms }
     {
         &self.list[..self.len as usize]
     }

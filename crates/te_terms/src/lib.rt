@@ -22,7 +22,7 @@ pub use laws::{
 };
 #[doc(hidden)]
 pub use limits::{
-    GREATEST_HEIGHT, LONGEST_NAME, MOST_ATOMS, MOST_FRESH, MOST_NODES, MOST_REGISTERS,
+    GREATEST_HEIGHT, LONGEST_NAME, MOST_ATOMS, MOST_FRESH, MOST_NODES, MOST_REGISTERS, MOST_THREADS,
 };
 pub use memory::NoMemory;
 pub use name::Name;
