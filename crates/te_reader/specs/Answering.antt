@@ -12,6 +12,7 @@ use Rattle.te_reader.specs.declared.fault.ScriptFault.TheVariants as faults
 use Rattle.te_reader.specs.Lexed.{Stream}
 use Rattle.te_reader.specs.Grammar.{Names}
 use Rattle.te_reader.specs.NameReads.{Read}
+use Rattle.te_terms.specs.Limits.{most_nodes, greatest_height}
 
 -- what is read must be what a call answers, with the tokens behind it; want of memory tells nothing
 abbrev pub Answers : {R X : Type 0} → Result R ScriptFault → (R → X) → Stream → Stream → Read X → Type 0
@@ -49,9 +50,9 @@ IsNotFresh _ = Unit {0}
 -- a node was put behind the others, or the limits refuse it
 abbrev pub Puts : Result ℕ ScriptFault → List Node → List Node → Node → Type 0
 Puts (Ok root) before after node =
-    (root ≡ length before) × (after ≡ before ++ node ∷ []) × (length before < 4096) × (height (term_over before node) ≤ 32)
+    (root ≡ length before) × (after ≡ before ++ node ∷ []) × (length before < most_nodes) × (height (term_over before node) ≤ greatest_height)
     × IsForest before × IsForest after
-Puts (Err faults.Refused) before after node = (4096 ≤ length before) ⊎ (32 < height (term_over before node))
+Puts (Err faults.Refused) before after node = (most_nodes ≤ length before) ⊎ (greatest_height < height (term_over before node))
 Puts (Err faults.Memory) before after node = Unit {0}
 
 -- what stands at the front, where it is of the kind that is wanted, is taken; else nothing is

@@ -12,6 +12,7 @@ use Rattle.te_reader.specs.Heads.{word_first, sign_first, bound_first}
 use Rattle.te_reader.specs.Grammar.{Names, Standing, alone, in_do, in_choose}
 use Rattle.te_reader.specs.NameReads.{◌>>=◌, Read, checked, bound_in}
 use Rattle.te_reader.specs.ExpressionReads.{read_primitive, read_expression}
+use Rattle.te_terms.specs.Limits.{most_nodes, greatest_height}
 
 -- ---- events of one node
 
@@ -51,7 +52,7 @@ read_leaf s ts = or_always s ts (word_first words.Always ts)
 
 -- an event that would stand behind so many nodes keeps the limits
 abbrev pub is_within : ℕ → Term → Bool
-is_within used t = nat_le (used + node_count t) 4096 && nat_le (height t) 32
+is_within used t = nat_le (used + node_count t) most_nodes && nat_le (height t) greatest_height
 
 unfoldable pub made : ℕ → Term → List Token → Read Term
 made used t ts = do

@@ -9,6 +9,7 @@ use Rattle.te_reader.specs.Heads.{sign_first, name_first, inner_first, integer_f
 use Rattle.te_reader.specs.Integers.{integer_value}
 use Rattle.te_reader.specs.Grammar.{Names}
 use Rattle.te_reader.specs.NameReads.{◌>>=◌, Read, place_of, integer_of, variable_named}
+use Rattle.te_terms.specs.Limits.{most_atoms}
 
 -- 0, 1, 2 or 3
 abbrev pub place_in : ℤ → Option ℕ
@@ -99,7 +100,7 @@ read_calculations (suc left) s ts = do
 
 abbrev pub empty_or_calculations : Names → List Token → Option (List Token) → Read (List Calculation)
 empty_or_calculations s ts (Some rest) = Some ([], rest)
-empty_or_calculations s ts None = read_calculations 4 s ts
+empty_or_calculations s ts None = read_calculations most_atoms s ts
 
 -- the inside of a tuple
 unfoldable pub read_tuple : Names → List Token → Read (List Calculation)

@@ -17,6 +17,7 @@ use Rattle.te_reader.specs.declared.token.Sign.TheVariants as signs
 use Rattle.te_reader.specs.Tokens as tokens
 use Rattle.te_reader.specs.Tokens.{Token, word, sign}
 use Rattle.te_reader.specs.Integers.{integer_value}
+use Rattle.te_terms.specs.Limits.{longest_name}
 
 -- ---- spans
 
@@ -66,7 +67,7 @@ abbrev pub IsNew : List ℕ → List (List ℕ) → Type 0
 IsNew n names = AllByRecursion (λ x. x ≢ n) names
 
 abbrev pub IsShort : List ℕ → Type 0
-IsShort n = length n ≤ 32
+IsShort n = length n ≤ longest_name
 
 -- an inner name differs from every channel and from what is in scope
 pub record IsFree (s : Names) (n : List ℕ) : Type 0 where

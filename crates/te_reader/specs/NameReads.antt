@@ -7,6 +7,7 @@ use Rattle.te_terms.specs.Expressions.{Variable, register, name}
 use Rattle.te_reader.specs.Tokens.{Token}
 use Rattle.te_reader.specs.Integers.{integer_value}
 use Rattle.te_reader.specs.Grammar.{Names, with_inner}
+use Rattle.te_terms.specs.Limits.{longest_name}
 
 infixl 10 ◌>>=◌
 abbrev pub ◌>>=◌ : {A B : Type 0} → Option A → (A → Option B) → Option B
@@ -34,7 +35,7 @@ if_absent (Some i) = None
 unfoldable pub declared_in : ℕ → List (List ℕ) → List ℕ → Option (List (List ℕ))
 declared_in most names n = do
   _ ← if_absent (place_of names n)
-  _ ← checked (nat_lt (length names) most && nat_le (length n) 32)
+  _ ← checked (nat_lt (length names) most && nat_le (length n) longest_name)
   Some (names ++ n ∷ [])
 
 -- an integer, where it is one of 64 bits
@@ -64,5 +65,5 @@ bound_in s n = do
   _ ← if_absent (place_of s.channels n)
   _ ← if_absent (place_of s.registers n)
   _ ← if_absent (place_of s.inners n)
-  _ ← checked (nat_le (length n) 32)
+  _ ← checked (nat_le (length n) longest_name)
   Some (with_inner s n)

@@ -12,6 +12,9 @@ use Rattle.te_reader.specs.Grammar.{alone}
 use Rattle.te_reader.specs.NameReads.{◌>>=◌, Read, checked, place_of, if_absent, declared_in, names_of}
 use Rattle.te_reader.specs.ExpressionReads.{read_expression}
 use Rattle.te_reader.specs.EventReads.{read_event}
+use Rattle.te_terms.specs.Limits.{most_threads, greatest_height, most_registers, longest_name}
+use Rattle.te_script.specs.Limits.{most_channels, most_statements}
+use Rattle.te_reader.specs.Limits.{most_bytes}
 
 -- ---- statements
 
@@ -20,14 +23,14 @@ unfoldable pub read_sync : List (List ℕ) → List (List ℕ) → List Token �
 read_sync channels registers ts = do
   a ← sign_first signs.Arrow ts
   b ← word_first words.Sync a
-  t ← read_event 32 alone (names_of channels registers) 0 b
+  t ← read_event greatest_height alone (names_of channels registers) 0 b
   rest ← sign_first signs.Semicolon t.1
   Some (t.0, rest)
 
 abbrev pub old_or_new : List (List ℕ) → List ℕ → Option ℕ → Option (ℕ × List (List ℕ))
 old_or_new registers n (Some r) = Some (r, registers)
 old_or_new registers n None = do
-  more ← declared_in 8 registers n
+  more ← declared_in most_registers registers n
   Some (length registers, more)
 
 -- the register of a name, and all registers with it
@@ -86,9 +89,9 @@ named_body n (Some body) = Some (record { name = n; registers = body.0.registers
 unfoldable pub read_thread : List (List ℕ) → List Token → Read Thread
 read_thread channels ts = do
   n ← name_first ts
-  _ ← checked (nat_le (length n.0) 32)
+  _ ← checked (nat_le (length n.0) longest_name)
   inside ← sign_first signs.OpenBrace n.1
-  named_body n.0 (read_body 1024 channels [] inside)
+  named_body n.0 (read_body most_statements channels [] inside)
 
 -- a thread with a new name, and all names with it
 unfoldable pub read_new_thread : List (List ℕ) → List (List ℕ) → List Token → Read (Thread × List (List ℕ))
@@ -127,7 +130,7 @@ if_some (n ∷ ns) = Some tt
 abbrev pub none_or_channels : List Token → Option (List Token) → Read (List (List ℕ))
 none_or_channels ts None = Some ([], ts)
 none_or_channels ts (Some behind) = do
-  names ← read_names 256 [] behind
+  names ← read_names most_channels [] behind
   _ ← if_some names.0
   Some names
 
@@ -137,7 +140,7 @@ read_channels ts = none_or_channels ts (word_first words.Channels ts)
 unfoldable pub read_program : List Token → Read Program
 read_program ts = do
   channels ← read_channels ts
-  threads ← read_threads 64 channels.0 [] channels.1
+  threads ← read_threads most_threads channels.0 [] channels.1
   _ ← checked (nat_lt 0 (length threads.0))
   Some (record { channels = channels.0; threads = threads.0 }, threads.1)
 
@@ -149,7 +152,7 @@ if_end false ts = None
 -- the program that a text is read as
 unfoldable pub read_text : List ℕ → Option Program
 read_text bytes = do
-  _ ← checked (nat_le (length bytes) 1048576)
+  _ ← checked (nat_le (length bytes) most_bytes)
   p ← read_program (lexed bytes).tokens
   _ ← if_end (lexed bytes).whole p.1
   Some p.0

@@ -1,12 +1,14 @@
 ghost use Rattle.std.specs.Prelude.{◌≡◌, ◌↔◌, ◌<◌, ◌≤◌, [], length, IsTrue};
 ghost use Rattle.te_reader.specs.NameReads.{place_of, declared_in};
 ghost use Rattle.te_reader.specs.Answering.{DeclaresChannel};
+ghost use Rattle.te_script.specs.Limits.{most_channels};
 
 use crate::fault::ScriptFault;
 use crate::names::declare;
 use std::alloc::Global;
 use std::collections::BTreeMap;
 use std::marker::Model;
+use te_script::MOST_CHANNELS;
 use te_terms::{Name, Rows};
 
 /// The names of channels, of which there are at most 256, with an index by which their numbers are found.
@@ -42,7 +44,7 @@ impl<'a> Channels<'a> {
     /// Whether there is none.
     pub fn is_empty(&self) -> bool
         ensures empty { IsTrue result ↔ self.now ≡ [] }
-        ensures few { length self.now ≤ 256 }
+        ensures few { length self.now ≤ most_channels }
     {
         self.names.len() == 0
     }
@@ -58,14 +60,14 @@ impl<'a> Channels<'a> {
     /// bytes, and where it is among them.
     pub fn declare(self, name: &'a [u8]) -> Result<Channels<'a>, ScriptFault>
         requires { 0 < length name.now }
-        ensures { DeclaresChannel result (declared_in 256 self.entry name.now) }
+        ensures { DeclaresChannel result (declared_in most_channels self.entry name.now) }
     {
         let Channels {
             mut names,
             mut numbers,
         } = self;
         let number = names.len() as u32;
-        declare(256, &mut names, name)?;
+        declare(MOST_CHANNELS, &mut names, name)?;
         numbers.insert(name, number)?;
         Ok(Channels { names, numbers })
     }

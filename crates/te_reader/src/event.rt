@@ -2,6 +2,7 @@ ghost use Rattle.std.specs.Prelude.{◌≡◌, ◌+◌, ◌<◌, ◌≤◌, leng
 ghost use Rattle.te_reader.specs.Grammar.{alone, in_do, in_choose};
 ghost use Rattle.te_reader.specs.EventReads.{read_event, read_braced, read_part, read_do, read_choose, read_try, read_if};
 ghost use Rattle.te_reader.specs.Answering.{AnswersEvent};
+ghost use Rattle.te_terms.specs.Limits.{greatest_height};
 
 use crate::cursor::Cursor;
 use crate::fault::ScriptFault;
@@ -19,7 +20,7 @@ pub fn read_event(
     code: &mut EventCode,
     layers: u32,
 ) -> Result<u32, ScriptFault>
-    requires { length names.old.inners + layers ≤ 32 }
+    requires { length names.old.inners + layers ≤ greatest_height }
     ensures event { AnswersEvent result (length names.old.inners) code.old code.new cursor.old cursor.new
         (read_event layers alone names.old (length code.old) cursor.old.tokens) }
     ensures names { OnOk result (names.new ≡ names.old) }
@@ -51,7 +52,7 @@ fn read_braced(
     code: &mut EventCode,
     layers: u32,
 ) -> Result<u32, ScriptFault>
-    requires { length names.old.inners + layers ≤ 32 }
+    requires { length names.old.inners + layers ≤ greatest_height }
     ensures event { AnswersEvent result (length names.old.inners) code.old code.new cursor.old cursor.new
         (read_braced (read_event layers) names.old (length code.old) cursor.old.tokens) }
     ensures names { OnOk result (names.new ≡ names.old) }
@@ -75,7 +76,7 @@ fn read_do(
     code: &mut EventCode,
     layers: u32,
 ) -> Result<u32, ScriptFault>
-    requires { length names.old.inners + layers < 32 }
+    requires { length names.old.inners + layers < greatest_height }
     ensures event { AnswersEvent result (length names.old.inners) code.old code.new cursor.old cursor.new
         (read_do (read_event layers) names.old (length code.old) cursor.old.tokens) }
     ensures names { OnOk result (names.new ≡ names.old) }
@@ -100,7 +101,7 @@ fn read_part(
     layers: u32,
     name: &[u8],
 ) -> Result<u32, ScriptFault>
-    requires room { length names.old.inners + layers < 32 }
+    requires room { length names.old.inners + layers < greatest_height }
     requires named { 0 < length name.now }
     ensures event { AnswersEvent result (length names.old.inners) code.old code.new cursor.old cursor.new
         (read_part (read_event layers) names.old (length code.old) name.now cursor.old.tokens) }
@@ -128,7 +129,7 @@ fn read_rest(
     code: &mut EventCode,
     layers: u32,
 ) -> Result<u32, ScriptFault>
-    requires { length names.old.inners + layers ≤ 32 }
+    requires { length names.old.inners + layers ≤ greatest_height }
     ensures event { AnswersEvent result (length names.old.inners) code.old code.new cursor.old cursor.new
         (read_event layers in_do names.old (length code.old) cursor.old.tokens) }
     ensures names { OnOk result (names.new ≡ names.old) }
@@ -155,7 +156,7 @@ fn read_choose(
     code: &mut EventCode,
     layers: u32,
 ) -> Result<u32, ScriptFault>
-    requires { length names.old.inners + layers ≤ 32 }
+    requires { length names.old.inners + layers ≤ greatest_height }
     ensures event { AnswersEvent result (length names.old.inners) code.old code.new cursor.old cursor.new
         (read_choose (read_event layers) names.old (length code.old) cursor.old.tokens) }
     ensures names { OnOk result (names.new ≡ names.old) }
@@ -180,7 +181,7 @@ fn read_more(
     code: &mut EventCode,
     layers: u32,
 ) -> Result<u32, ScriptFault>
-    requires { length names.old.inners + layers ≤ 32 }
+    requires { length names.old.inners + layers ≤ greatest_height }
     ensures event { AnswersEvent result (length names.old.inners) code.old code.new cursor.old cursor.new
         (read_event layers in_choose names.old (length code.old) cursor.old.tokens) }
     ensures names { OnOk result (names.new ≡ names.old) }
@@ -208,7 +209,7 @@ fn read_try(
     code: &mut EventCode,
     layers: u32,
 ) -> Result<u32, ScriptFault>
-    requires { length names.old.inners + layers < 32 }
+    requires { length names.old.inners + layers < greatest_height }
     ensures event { AnswersEvent result (length names.old.inners) code.old code.new cursor.old cursor.new
         (read_try (read_event layers) names.old (length code.old) cursor.old.tokens) }
     ensures names { OnOk result (names.new ≡ names.old) }
@@ -235,7 +236,7 @@ fn read_if(
     code: &mut EventCode,
     layers: u32,
 ) -> Result<u32, ScriptFault>
-    requires { length names.old.inners + layers ≤ 32 }
+    requires { length names.old.inners + layers ≤ greatest_height }
     ensures event { AnswersEvent result (length names.old.inners) code.old code.new cursor.old cursor.new
         (read_if (read_event layers) names.old (length code.old) cursor.old.tokens) }
     ensures names { OnOk result (names.new ≡ names.old) }

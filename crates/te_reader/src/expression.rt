@@ -3,13 +3,14 @@ ghost use Rattle.te_terms.specs.Codes.{primitive_of, calculation_of, expression_
 ghost use Rattle.te_reader.specs.Integers.{integer_value};
 ghost use Rattle.te_reader.specs.ExpressionReads.{read_place, read_inner_part, read_named, read_primitive, arith_first, read_calculation, read_calculations, read_tuple, read_expression};
 ghost use Rattle.te_reader.specs.Answering.{Answers, TakesSome};
+ghost use Rattle.te_terms.specs.Limits.{most_atoms};
 
 use crate::cursor::Cursor;
 use crate::fault::ScriptFault;
 use crate::integer::integer;
 use crate::scope::Names;
 use crate::token::Sign;
-use te_terms::{Arith, Calc, Calcs, Expr, Prim, Var};
+use te_terms::{Arith, Calc, Calcs, Expr, MOST_ATOMS, Prim, Var};
 
 // A place of a value: 0, 1, 2 or 3.
 #[tactic(auto, unfolding(crate::specs::ExpressionReads::read_place, crate::specs::NameReads::integer_of))]
@@ -116,10 +117,10 @@ fn read_calculation(cursor: &mut Cursor<'_>, names: &Names<'_, '_>) -> Result<Ca
 
 // The calculations of a tuple, up to its end; there is at least one.
 fn read_calculations(cursor: &mut Cursor<'_>, names: &Names<'_, '_>) -> Result<Calcs, ScriptFault>
-    ensures { Answers result (λ cs. map calculation_of cs) cursor.old cursor.new (read_calculations 4 names.now cursor.old.tokens) }
+    ensures { Answers result (λ cs. map calculation_of cs) cursor.old cursor.new (read_calculations most_atoms names.now cursor.old.tokens) }
 {
-    let mut list = [Calc::One(Prim::Int(0)); 4];
-    for i in 0..4 {
+    let mut list = [Calc::One(Prim::Int(0)); MOST_ATOMS];
+    for i in 0..MOST_ATOMS {
         let calculation = read_calculation(cursor, names)?;
         list[i] = calculation;
         if cursor.take_sign(Sign::Close) {

@@ -9,6 +9,7 @@ mod fault;
 mod first_form;
 mod integer;
 mod lexing;
+mod limits;
 mod names;
 mod node;
 mod printing;
@@ -22,6 +23,8 @@ mod token;
 pub use fault::ScriptFault;
 #[doc(hidden)]
 pub use first_form::is_first_form;
+#[doc(hidden)]
+pub use limits::MOST_BYTES;
 pub use printing::print_script;
 pub use script::read_script;
 

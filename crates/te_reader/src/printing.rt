@@ -9,6 +9,7 @@ ghost use Rattle.te_reader.specs.Grammar.{Standing as Place, alone};
 ghost use Rattle.te_reader.specs.Answering.{leaf};
 ghost use Rattle.te_reader.specs.Printed.{standing_of, spelling};
 ghost use Rattle.te_reader.specs.Canonical.{name_at, inner_text, variable_text, primitive_text, arith_text, calculation_text, further_text, inside_text, expression_text, test_text, do_open, do_close, choose_open, choose_close, event_text, indent, closing, line_text, left_behind, lines_text, thread_text, spaced, channels_text, canonical_text};
+ghost use Rattle.te_terms.specs.Limits.{most_nodes};
 
 use itoa::Buffer;
 use std::alloc::Global;
@@ -250,7 +251,7 @@ fn put_event(
     standing: Standing,
 ) -> Result<(), NoMemory>
     requires root { root < length code.now }
-    requires low { level + root ≤ 4096 }
+    requires low { level + root ≤ most_nodes }
     ensures { OnOk result (out.new.items ≡ out.old.items ++ event_text (spelling names.now) (standing_of standing) (term_at code.now level root)) }
 {
     let Some(node) = code.node(root) else {
@@ -277,8 +278,8 @@ fn put_then(
 ) -> Result<(), NoMemory>
     requires first { a < length code.now }
     requires second { b < length code.now }
-    requires low { level + a < 4096 }
-    requires next { level + b < 4096 }
+    requires low { level + a < most_nodes }
+    requires next { level + b < most_nodes }
     ensures { OnOk result (out.new.items ≡ out.old.items ++ event_text (spelling names.now) (standing_of standing) (and_then (term_at code.now level a) level (term_at code.now (suc level) b))) }
 {
     put(out, do_open(standing))?;
@@ -302,8 +303,8 @@ fn put_choose(
 ) -> Result<(), NoMemory>
     requires first { a < length code.now }
     requires second { b < length code.now }
-    requires low { level + a < 4096 }
-    requires next { level + b < 4096 }
+    requires low { level + a < most_nodes }
+    requires next { level + b < most_nodes }
     ensures { OnOk result (out.new.items ≡ out.old.items ++ event_text (spelling names.now) (standing_of standing) (choose (term_at code.now level a) (term_at code.now level b))) }
 {
     put(out, choose_open(standing))?;
@@ -324,8 +325,8 @@ fn put_catch(
 ) -> Result<(), NoMemory>
     requires first { a < length code.now }
     requires second { b < length code.now }
-    requires low { level + a < 4096 }
-    requires next { level + b < 4096 }
+    requires low { level + a < most_nodes }
+    requires next { level + b < most_nodes }
     ensures { (at : Place) → OnOk result (out.new.items ≡ out.old.items ++ event_text (spelling names.now) at (catch (term_at code.now level a) level (term_at code.now (suc level) b))) }
 {
     put(out, b"try { ")?;
@@ -349,8 +350,8 @@ fn put_if(
 ) -> Result<(), NoMemory>
     requires first { a < length code.now }
     requires second { b < length code.now }
-    requires low { level + a < 4096 }
-    requires next { level + b < 4096 }
+    requires low { level + a < most_nodes }
+    requires next { level + b < most_nodes }
     ensures { (at : Place) → OnOk result (out.new.items ≡ out.old.items
         ++ event_text (spelling names.now) at (when c.now.test (primitive_of c.now.left) (primitive_of c.now.right) (term_at code.now level a) (term_at code.now level b))) }
 {

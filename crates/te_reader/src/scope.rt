@@ -4,6 +4,7 @@ ghost use Rattle.te_terms.specs.Codes.{variable_of};
 ghost use Rattle.te_reader.specs.Grammar.{Names as Scope, with_inner};
 ghost use Rattle.te_reader.specs.NameReads.{place_of, names_of, variable_named, bound_in};
 ghost use Rattle.te_reader.specs.Answering.{Binds};
+ghost use Rattle.te_terms.specs.Limits.{most_registers, greatest_height};
 
 use crate::channels::Channels;
 use crate::fault::ScriptFault;
@@ -23,13 +24,14 @@ pub struct Names<'a, 'b> {
 
 impl<'a, 'b> Model for Names<'a, 'b> {
     ghost use Rattle.std.specs.Prelude.{length, ◌≤◌};
+    ghost use Rattle.te_terms.specs.Limits.{most_registers, greatest_height};
     ghost use Rattle.te_reader.specs.Grammar.{Names as Scope};
 
     ghost Value = { Scope };
 
     ghost view = { λ n. record { channels = n.channels.now; registers = n.registers.now; inners = n.inners.items } };
 
-    ghost invariant = { λ n. (length n.registers.now ≤ 8) × (length n.inners.items ≤ 32) };
+    ghost invariant = { λ n. (length n.registers.now ≤ most_registers) × (length n.inners.items ≤ greatest_height) };
 }
 
 impl<'a, 'b> Names<'a, 'b> {
@@ -39,7 +41,7 @@ impl<'a, 'b> Names<'a, 'b> {
         channels: &'a Channels<'b>,
         registers: &'a Rows<Name>,
     ) -> Names<'a, 'b>
-        requires { length registers.now ≤ 8 }
+        requires { length registers.now ≤ most_registers }
         ensures { result ≡ names_of channels.now registers.now }
     {
         Names {
@@ -84,7 +86,7 @@ impl<'a, 'b> Names<'a, 'b> {
     /// it is that of a channel, a register or an inner name.
     #[tactic(auto, unfolding(crate::specs::NameReads::bound_in))]
     pub fn bind(&mut self, name: &[u8]) -> Result<(), ScriptFault>
-        requires room { length self.old.inners < 32 }
+        requires room { length self.old.inners < greatest_height }
         requires named { 0 < length name.now }
         ensures { Binds result self.new (bound_in self.old name.now) }
     {

@@ -4,10 +4,12 @@ ghost use Rattle.te_reader.specs.declared.fault.ScriptFault.TheVariants.{Refused
 ghost use Rattle.te_reader.specs.Text.{Text};
 ghost use Rattle.te_reader.specs.Reads.{read_names, read_channels, read_program, read_text};
 ghost use Rattle.te_reader.specs.Answering.{Answers, AnswersText};
+ghost use Rattle.te_script.specs.Limits.{most_channels};
 
 use crate::channels::Channels;
 use crate::cursor::Cursor;
 use crate::fault::ScriptFault;
+use crate::limits::MOST_BYTES;
 use crate::thread::read_threads;
 use crate::token::{Sign, Word};
 use std::alloc::Global;
@@ -15,7 +17,7 @@ use te_script::Script;
 
 // Names of channels, up to the `;`.
 fn read_names<'a>(alloc: Global, cursor: &mut Cursor<'a>) -> Result<Channels<'a>, ScriptFault>
-    ensures { Answers result (λ c. c) cursor.old cursor.new (read_names 256 [] cursor.old.tokens) }
+    ensures { Answers result (λ c. c) cursor.old cursor.new (read_names most_channels [] cursor.old.tokens) }
 {
     let mut channels = Channels::new(alloc);
     'names: while let Some(name) = cursor.take_name() {
@@ -31,7 +33,7 @@ fn read_names<'a>(alloc: Global, cursor: &mut Cursor<'a>) -> Result<Channels<'a>
 #[tactic(auto, unfolding(crate::specs::Reads::read_channels))]
 fn read_channels<'a>(alloc: Global, cursor: &mut Cursor<'a>) -> Result<Channels<'a>, ScriptFault>
     ensures channels { Answers result (λ c. c) cursor.old cursor.new (read_channels cursor.old.tokens) }
-    ensures few { IfOk result (λ c. length c ≤ 256) }
+    ensures few { IfOk result (λ c. length c ≤ most_channels) }
 {
     if !cursor.take_word(Word::Channels) {
         return Ok(Channels::new(alloc));
@@ -76,7 +78,7 @@ pub fn read_script(alloc: Global, bytes: &[u8]) -> Result<Script, ScriptFault>
 fn read_text(alloc: Global, bytes: &[u8]) -> Result<Script, ScriptFault>
     ensures { AnswersText result (read_text bytes.now) }
 {
-    if bytes.len() > 1_048_576 {
+    if bytes.len() > MOST_BYTES {
         return Err(ScriptFault::Refused);
     }
     let mut cursor = Cursor::new(bytes);

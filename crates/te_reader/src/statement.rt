@@ -3,6 +3,7 @@ ghost use Rattle.te_terms.specs.Codes.{expression_of, term_under};
 ghost use Rattle.te_script.specs.Texts.{statement_of, HasRoot};
 ghost use Rattle.te_reader.specs.Reads.{read_sync, read_emit, read_statement, register_of};
 ghost use Rattle.te_reader.specs.Answering.{Answers, DeclaresRegister};
+ghost use Rattle.te_terms.specs.Limits.{most_registers};
 
 use crate::channels::Channels;
 use crate::cursor::Cursor;
@@ -15,7 +16,7 @@ use crate::token::{Sign, Word};
 use std::alloc::Global;
 use std::sync::Arc;
 use te_script::Stmt;
-use te_terms::{EventCode, Expr, Name, Rows};
+use te_terms::{EventCode, Expr, GREATEST_HEIGHT, MOST_REGISTERS, Name, Rows};
 
 /// Reads a statement, and appends the name of its register where it is a new one.
 #[tactic(auto, unfolding(crate::specs::Reads::read_statement))]
@@ -25,10 +26,10 @@ pub fn read_statement(
     channels: &Channels<'_>,
     registers: &mut Rows<Name>,
 ) -> Result<Stmt, ScriptFault>
-    requires { length registers.old ≤ 8 }
+    requires { length registers.old ≤ most_registers }
     ensures statement { Answers result (λ s. (statement_of s, registers.new)) cursor.old cursor.new
         (read_statement channels.now registers.old cursor.old.tokens) }
-    ensures few { length registers.new ≤ 8 }
+    ensures few { length registers.new ≤ most_registers }
     ensures root { IfOk result HasRoot }
 {
     if cursor.take_word(Word::Emit) {
@@ -63,7 +64,7 @@ fn read_emit(
     channels: &Channels<'_>,
     registers: &Rows<Name>,
 ) -> Result<Expr, ScriptFault>
-    requires { length registers.now ≤ 8 }
+    requires { length registers.now ≤ most_registers }
     ensures { Answers result expression_of cursor.old cursor.new (read_emit channels.now registers.now cursor.old.tokens) }
 {
     let value = read_expression(cursor, &Names::new(alloc, channels, registers))?;
@@ -81,7 +82,7 @@ fn read_sync(
     channels: &Channels<'_>,
     registers: &Rows<Name>,
 ) -> Result<Nodes, ScriptFault>
-    requires { length registers.now ≤ 8 }
+    requires { length registers.now ≤ most_registers }
     ensures event { Answers result (λ e. term_under e.code e.root) cursor.old cursor.new (read_sync channels.now registers.now cursor.old.tokens) }
     ensures root { IfOk result (λ e. e.root < length e.code) }
 {
@@ -90,7 +91,7 @@ fn read_sync(
     }
     let mut names = Names::new(alloc, channels, registers);
     let mut code = EventCode::new(alloc);
-    let root = read_event(cursor, &mut names, &mut code, 32)?;
+    let root = read_event(cursor, &mut names, &mut code, GREATEST_HEIGHT)?;
     if !cursor.take_sign(Sign::Semicolon) {
         return Err(ScriptFault::Refused);
     }
@@ -104,10 +105,10 @@ fn register_of(
     registers: &mut Rows<Name>,
     name: &[u8],
 ) -> Result<u8, ScriptFault>
-    requires few { length registers.old ≤ 8 }
+    requires few { length registers.old ≤ most_registers }
     requires named { 0 < length name.now }
     ensures register { DeclaresRegister result registers.new (register_of channels.now registers.old name.now) }
-    ensures few { length registers.new ≤ 8 }
+    ensures few { length registers.new ≤ most_registers }
 {
     if channels.number_of(name).is_some() {
         return Err(ScriptFault::Refused);
@@ -116,6 +117,6 @@ fn register_of(
         return Ok(reg as u8);
     }
     let reg = registers.len() as u8;
-    declare(8, registers, name)?;
+    declare(MOST_REGISTERS, registers, name)?;
     Ok(reg)
 }

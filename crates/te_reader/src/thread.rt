@@ -1,6 +1,8 @@
 ghost use Rattle.std.specs.Prelude.{◌≡◌, ◌≤◌, [], ◌∷◌, length, map};
 ghost use Rattle.te_reader.specs.Reads.{named_body, read_body, read_thread, read_new_thread, read_threads};
 ghost use Rattle.te_reader.specs.Answering.{Answers};
+ghost use Rattle.te_terms.specs.Limits.{most_threads};
+ghost use Rattle.te_script.specs.Limits.{most_channels, most_statements};
 
 use crate::channels::Channels;
 use crate::cursor::Cursor;
@@ -10,8 +12,8 @@ use crate::statement::read_statement;
 use crate::token::{Sign, Word};
 use std::alloc::Global;
 use std::sync::Arc;
-use te_script::{Stmt, ThreadText};
-use te_terms::{Name, Rows};
+use te_script::{MOST_STATEMENTS, Stmt, ThreadText};
+use te_terms::{MOST_THREADS, Name, Rows};
 
 // A thread behind its first word.
 #[tactic(auto, unfolding(crate::specs::Reads::read_thread))]
@@ -20,7 +22,7 @@ fn read_thread(
     cursor: &mut Cursor<'_>,
     channels: &Channels<'_>,
 ) -> Result<ThreadText, ScriptFault>
-    requires { length channels.now ≤ 256 }
+    requires { length channels.now ≤ most_channels }
     ensures { Answers result (λ t. t) cursor.old cursor.new (read_thread channels.now cursor.old.tokens) }
 {
     let Some(name) = cursor.take_name() else {
@@ -42,13 +44,13 @@ fn read_body(
     channels: &Channels<'_>,
     name: Name,
 ) -> Result<ThreadText, ScriptFault>
-    requires { length channels.now ≤ 256 }
-    ensures { Answers result (λ t. t) cursor.old cursor.new (named_body name (read_body 1024 channels.now [] cursor.old.tokens)) }
+    requires { length channels.now ≤ most_channels }
+    ensures { Answers result (λ t. t) cursor.old cursor.new (named_body name (read_body most_statements channels.now [] cursor.old.tokens)) }
 {
     let mut regs = Rows::new(alloc);
     let mut stmts: Rows<Stmt> = Rows::new(alloc);
     'stmts: while !cursor.take_sign(Sign::CloseBrace) {
-        if stmts.len() >= 1024 {
+        if stmts.len() >= MOST_STATEMENTS {
             return Err(ScriptFault::Refused);
         }
         let stmt = read_statement(alloc, cursor, channels, &mut regs)?;
@@ -65,7 +67,7 @@ fn read_new_thread(
     channels: &Channels<'_>,
     names: &mut Rows<Name>,
 ) -> Result<Arc<ThreadText>, ScriptFault>
-    requires { length channels.now ≤ 256 }
+    requires { length channels.now ≤ most_channels }
     ensures { Answers result (λ a. (a.value, names.new)) cursor.old cursor.new (read_new_thread channels.now names.old cursor.old.tokens) }
 {
     let thread = read_thread(alloc, cursor, channels)?;
@@ -84,13 +86,13 @@ pub fn read_threads(
     cursor: &mut Cursor<'_>,
     channels: &Channels<'_>,
 ) -> Result<Rows<Arc<ThreadText>>, ScriptFault>
-    requires { length channels.now ≤ 256 }
-    ensures { Answers result (λ ts. map (λ a. a.value) ts) cursor.old cursor.new (read_threads 64 channels.now [] cursor.old.tokens) }
+    requires { length channels.now ≤ most_channels }
+    ensures { Answers result (λ ts. map (λ a. a.value) ts) cursor.old cursor.new (read_threads most_threads channels.now [] cursor.old.tokens) }
 {
     let mut names: Rows<Name> = Rows::new(alloc);
     let mut threads = Rows::new(alloc);
     'threads: while cursor.take_word(Word::Thread) {
-        if threads.len() >= 64 {
+        if threads.len() >= MOST_THREADS {
             return Err(ScriptFault::Refused);
         }
         let thread = read_new_thread(alloc, cursor, channels, &mut names)?;

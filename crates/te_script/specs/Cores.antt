@@ -12,6 +12,7 @@ use Rattle.te_script.specs.declared.wish.Spot.{Spot}
 use Rattle.te_script.specs.declared.wish.Round.{Round}
 use Rattle.te_script.specs.Scripts.{Statement, sync, emit, repeat, AreSyncs, IsRepeat, Thread}
 use Rattle.te_script.specs.Wishes.{Step, syncing, emitting, pass_over, passes_over, flat_from, flat, Doing, synchronises, ends, has_raised, Reached, Wish, wish_of}
+use Rattle.te_script.specs.Limits.{most_statements, most_times}
 
 -- ---- where a thread stands
 
@@ -158,7 +159,7 @@ pub record IsRound (place : ℕ) (r : Round) (ss : List Statement) : Type 0 wher
   pub inside : place < r.end
   pub within : r.end ≤ length ss
   pub more : r.pass < r.times
-  pub most : r.times ≤ 10000
+  pub most : r.times ≤ most_times
   pub body : AreSyncs (r.end - r.first) (drop r.first ss)
 
 -- the first statement is a sync, or there is none
@@ -211,7 +212,7 @@ pass_of (Some r) = r.pass
 
 -- a core stands at a sync or past the end, and has room for all that is still emitted
 pub record IsCore (t : Thread) (spot : Spot) (len room : ℕ) : Type 0 where
-  pub short : length t.statements ≤ 1024
+  pub short : length t.statements ≤ most_statements
   pub at : IsSpot spot t.statements
   pub fits : len + emits_left (left_at spot t.statements) ≤ room
 

@@ -1,3 +1,4 @@
+pub mod Limits
 pub mod Scripts
 pub mod Wishes
 pub mod Texts

@@ -4,7 +4,8 @@ use Rattle.std.specs.Prelude.{◌≡◌, ◌≢◌, ℕ, zero, suc, ◌<◌, ◌
 use Rattle.std.specs.List.{AllByRecursion}
 use Rattle.te_terms.specs.Expressions.{Variable, register, name, known, Primitive, int, chan, part, Calculation, one, both, Expression, whole, tuple}
 use Rattle.te_terms.specs.Terms.{Term, always, never, fresh, throw, send, recv, and_then, choose, catch, when}
-use Rattle.te_terms.specs.Limits.{IsWithinLimits}
+use Rattle.te_terms.specs.Limits.{IsWithinLimits, most_registers, most_threads, most_atoms}
+use Rattle.te_script.specs.Limits.{most_channels, most_statements, most_times}
 
 -- `sync r t` writes what the event t gives to register r; `emit e` adds the value of e; `repeat times count` does the next count statements so many times
 pub data Statement : Type 0 where
@@ -42,7 +43,7 @@ IsNamed s (known v) = ⊥
 abbrev pub IsPrimitive : Scope → Primitive → Type 0
 IsPrimitive s (int z) = Unit {0}
 IsPrimitive s (chan c) = c < s.channels
-IsPrimitive s (part x d) = IsNamed s x × (d < 4)
+IsPrimitive s (part x d) = IsNamed s x × (d < most_atoms)
 
 abbrev pub IsCalculation : Scope → Calculation → Type 0
 IsCalculation s (one p) = IsPrimitive s p
@@ -50,7 +51,7 @@ IsCalculation s (both o p q) = IsPrimitive s p × IsPrimitive s q
 
 abbrev pub IsExpression : Scope → Expression → Type 0
 IsExpression s (whole x) = IsNamed s x
-IsExpression s (tuple cs) = AllByRecursion (IsCalculation s) cs × (length cs ≤ 4)
+IsExpression s (tuple cs) = AllByRecursion (IsCalculation s) cs × (length cs ≤ most_atoms)
 
 abbrev pub IsEvent : Scope → Term → Type 0
 IsEvent s (always e) = IsExpression s e
@@ -81,7 +82,7 @@ AreSyncs (suc count) (repeat times more ∷ ss) = ⊥
 -- a repeat of the statements behind it, which are syncs
 pub record IsRepeat (times count : ℕ) (behind : List Statement) : Type 0 where
   pub some_times : 0 < times
-  pub most : times ≤ 10000
+  pub most : times ≤ most_times
   pub some : 0 < count
   pub body : AreSyncs count behind
 
@@ -102,9 +103,9 @@ AreDistinct (x ∷ xs) = AllByRecursion (λ y. x ≢ y) xs × AreDistinct xs
 
 -- what a thread keeps by itself, with this many channels
 pub record IsThread (channels : ℕ) (t : Thread) : Type 0 where
-  pub registers : length t.registers ≤ 8
+  pub registers : length t.registers ≤ most_registers
   pub distinct : AreDistinct t.registers
-  pub statements : length t.statements ≤ 1024
+  pub statements : length t.statements ≤ most_statements
   pub in_order : AreStatements channels (length t.registers) 0 t.statements
 
 abbrev pub thread_names : List Thread → List (List ℕ)
@@ -115,10 +116,10 @@ abbrev pub AreApart : List (List ℕ) → List (List ℕ) → Type 0
 AreApart xs ys = AllByRecursion (λ x. AllByRecursion (λ y. x ≢ y) ys) xs
 
 pub record IsProgram (p : Program) : Type 0 where
-  pub channels : length p.channels ≤ 256
+  pub channels : length p.channels ≤ most_channels
   pub channel_names : AreDistinct p.channels
   pub some_thread : 0 < length p.threads
-  pub threads : length p.threads ≤ 64
+  pub threads : length p.threads ≤ most_threads
   pub names : AreDistinct (thread_names p.threads)
   pub each : AllByRecursion (IsThread (length p.channels)) p.threads
   pub apart : AllByRecursion (λ t. AreApart t.registers p.channels) p.threads

@@ -6,6 +6,7 @@ use Rattle.te_script.specs.declared.wish.Want.{Want}
 use Rattle.te_script.specs.declared.wish.Want.TheVariants as wants
 use Rattle.te_script.specs.Scripts.{Thread, sync}
 use Rattle.te_script.specs.Wishes.{Wish, syncs, done, raised}
+use Rattle.te_terms.specs.Limits.{most_registers}
 
 abbrev pub IsWant : Wish → Want → Type 0
 IsWant (syncs t) (wants.Sync event) = t ≡ event
@@ -20,7 +21,7 @@ pub record IsOfStatement (t : Thread) (event : Term) : Type 0 where
   pub term : Term
   pub regs : List (List Atom)
   pub stands : slice_get t.statements place ≡ Some (sync register term)
-  pub eight : length regs ≡ 8
+  pub eight : length regs ≡ most_registers
   pub closed_so : event ≡ closed regs term
 
 abbrev pub IsOfText : Thread → Want → Type 0

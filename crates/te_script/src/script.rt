@@ -48,13 +48,14 @@ impl ThreadText {
     ghost use Rattle.std.specs.Prelude.{◌≡◌, map};
     ghost use Rattle.std.specs.List.{AllByRecursion};
     ghost use Rattle.te_script.specs.Texts.{statement_of, HasRoot};
+    ghost use Rattle.te_script.specs.Limits.{most_channels};
     ghost use Rattle.te_script.specs.Scripts.{IsThread};
     ghost use Rattle.te_script.specs.Cores.{HasBodies};
 
     // The statements, in order.
     pub(crate) fn statements(&self) -> &[Stmt]
         ensures value { map statement_of result.now ≡ self.now.statements }
-        ensures thread { IsThread 256 self.now }
+        ensures thread { IsThread most_channels self.now }
         ensures roots { AllByRecursion HasRoot result.now }
         ensures bodies { HasBodies (map statement_of result.now) }
     {

@@ -8,9 +8,7 @@ ghost use Rattle.tevents.specs.Causes.{AreSerial, IsStatus, IsDone, IsSilent, Is
 use crate::answering::answer;
 use std::alloc::Global;
 use te_io::{ReadFault, Sink, Source, read_up_to, write_whole};
-
-/// The most bytes that a script has.
-const MOST: usize = 1_048_576;
+use te_reader::MOST_BYTES;
 
 /// Runs the script that the source gives, as the words tell, writes the report of the run to the sink,
 /// and answers the status of the program. The words are those after the program's name, and the one
@@ -76,7 +74,7 @@ pub fn tevents<S: Source, K: Sink>(
     if !is_serial(words) {
         return 2;
     }
-    let bytes = match read_up_to(alloc, source, MOST) {
+    let bytes = match read_up_to(alloc, source, MOST_BYTES) {
         Ok(bytes) => bytes,
         Err(ReadFault::Failed) => return 3,
         Err(ReadFault::Memory) => return 9,

@@ -2,6 +2,7 @@ use crate::program::tevents;
 use std::alloc::{AllocError, Global};
 use std::test::Fail;
 use te_io::{MemSink, MemSource, SteadySink, SteadySource};
+use te_reader::MOST_BYTES;
 
 const EXCHANGE: &[u8] =
     b"channels c; thread a { x <- sync send c (7); } thread b { y <- sync recv c; emit y; }";
@@ -15,9 +16,6 @@ const EXCHANGE_REPORT: &[u8] = b"tevents report 1\n\
     6 end a done\n\
     7 end b done (7)\n\
     closed 7\n";
-
-/// The most bytes of a script.
-const MOST: usize = 1_048_576;
 
 fn words(alloc: Global, spelled: &[&str]) -> Result<Vec<String>, AllocError> {
     let mut words = Vec::new(alloc);
@@ -121,7 +119,7 @@ fn sixty_four_threads_end_and_one_more_is_refused(rt: HostRuntime) -> Result<(),
 #[test]
 fn a_script_has_at_most_its_limit_of_bytes(rt: HostRuntime) -> Result<(), Fail> {
     let mut script = Vec::from_slice(rt.alloc(), b"thread a { }")?;
-    script.resize(MOST, b' ')?;
+    script.resize(MOST_BYTES, b' ')?;
     let (status, sink) = serial(rt.alloc(), script.as_slice())?;
     assert_eq!(rt;
         sink.bytes(),

@@ -10,16 +10,16 @@ use Rattle.te_reader.proofs.ReadIsKept.{body_read}
 use Rattle.te_reader.proofs.LoopSteps.{body_ended, body_full, no_statement, more_statements}
 use Rattle.te_reader.proofs.thread.read_body.Goals as goal
 
-pub returns-then-len-ge1024 : goal.returns-then-len-ge1024
-returns-then-len-ge1024 c =
-    ap (named_body c.args.name) (body_full 1024 (length c.stmts.stmts) _ _ _ _ _ c.stmts.invariant.read c.stmts-test.ensures.0 (omega (arith, c.len.ensures, c.if-len-ge1024.true)))
+pub returns-then-len-ge-MOST_STATEMENTS : goal.returns-then-len-ge-MOST_STATEMENTS
+returns-then-len-ge-MOST_STATEMENTS c =
+    ap (named_body c.args.name) (body_full 1024 (length c.stmts.stmts) _ _ _ _ _ c.stmts.invariant.read c.stmts-test.ensures.0 (omega (arith, c.len.ensures, c.if-len-ge-MOST_STATEMENTS.true)))
 
 pub returns-in_err-stmt : goal.returns-in_err-stmt
 returns-in_err-stmt c =
     let p = err_from_is_err_and c.from_residual.result c.from_residual.ensures.1 in
     rw (p.1, p.2)
     (passed_on _ (λ s. (statement_of s, c.read_statement.new.registers)) _ c.take_sign.new.self c.read_statement.new.cursor _ _ (read_statement c.args.channels.now c.stmts.regs c.take_sign.new.self.tokens) _ c.in_err-stmt.ensures.statement
-    (λ none. ap (named_body c.args.name) (no_statement 1024 (length c.stmts.stmts) _ _ _ _ _ c.stmts.invariant.read c.stmts-test.ensures.0 (omega (arith, c.len.ensures, c.if-len-ge1024.false)) (rw c.stmts-test.ensures.1 at none))))
+    (λ none. ap (named_body c.args.name) (no_statement 1024 (length c.stmts.stmts) _ _ _ _ _ c.stmts.invariant.read c.stmts-test.ensures.0 (omega (arith, c.len.ensures, c.if-len-ge-MOST_STATEMENTS.false)) (rw c.stmts-test.ensures.1 at none))))
 
 -- one statement more has a root
 all_roots : (xs : List Stmt) (x : Stmt) → AllByRecursion HasRoot xs → HasRoot x → AllByRecursion HasRoot (xs ++ x ∷ [])
@@ -33,10 +33,10 @@ stmts-preserved c =
     record {
       read =
           rw (long, pushed, map-append statement_of c.stmts.stmts (c.in_ok-stmt.stmt ∷ []))
-          (more_statements 1024 (length c.stmts.stmts) _ _ _ _ _ c.stmts.invariant.read c.stmts-test.ensures.0 (omega (arith, c.len.ensures, c.if-len-ge1024.false)) _ _ _ (rw c.stmts-test.ensures.1 at c.in_ok-stmt.ensures.statement.0));
+          (more_statements 1024 (length c.stmts.stmts) _ _ _ _ _ c.stmts.invariant.read c.stmts-test.ensures.0 (omega (arith, c.len.ensures, c.if-len-ge-MOST_STATEMENTS.false)) _ _ _ (rw c.stmts-test.ensures.1 at c.in_ok-stmt.ensures.statement.0));
       whole = c.in_ok-stmt.ensures.statement.1 ∙ ap (λ s. s.whole) c.stmts-test.ensures.1 ∙ c.stmts.invariant.whole;
       few = c.in_ok-stmt.ensures.few;
-      most = omega (arith, long, c.len.ensures, c.if-len-ge1024.false);
+      most = omega (arith, long, c.len.ensures, c.if-len-ge-MOST_STATEMENTS.false);
       roots = rw pushed (all_roots c.stmts.stmts c.in_ok-stmt.stmt c.stmts.invariant.roots c.in_ok-stmt.ensures.root);
     }
 
