@@ -75,7 +75,8 @@ module _ (o : Origin) (cells : Cells) (count : ℕ) where
       pub taker_sees : f.values ≤ length cells.values
       taker_sees = resumes.fits.within
 
-      module _ (new : List ValueCell) (link : ℕ) (more : Extends cells.values new) (are : IsLinked value_parent new) (last : link ≡ length new) (inner : inner_at new link ≡ inner_at cells.values f.values ++ value_in r ∷ []) where
+      module _ (new : List ValueCell) (link : ℕ) (more : Extends cells.values new) (are : IsLinked value_parent new) (last : link ≡ length new)
+          (inner : inner_at new link ≡ inner_at cells.values f.values ++ value_in r ∷ []) where
         abbrev then_cells : Cells
         then_cells = record { values = new; frames = cells.frames }
 

@@ -14,12 +14,14 @@ module _ (cells : List FrameCell) (is_linked : IsLinked frame_parent cells) (o :
   pub is_taken : (k : ℕ) (f : FrameCell) → k ≢ 0 → slice_get cells (k - 1) ≡ Some f → takes f.awaits o ≡ true → rest_of cells (Some f) ≡ unwound o (frames_at cells k)
   is_taken zero f some e t = absurd (some refl)
   is_taken (suc i) f some e t =
-      sym (ap (unwound o) (chain_is frame_parent cells is_linked i f (subst (λ n. slice_get cells n ≡ Some f) (back i) e)) ∙ ap (λ r. or_outer f (frames_at cells f.parent) r (unwound o (frames_at cells f.parent))) t)
+      sym (ap (unwound o) (chain_is frame_parent cells is_linked i f (subst (λ n. slice_get cells n ≡ Some f) (back i) e)) ∙ ap (λ r.
+      or_outer f (frames_at cells f.parent) r (unwound o (frames_at cells f.parent))) t)
 
   pub is_passed : (k : ℕ) (f : FrameCell) → k ≢ 0 → slice_get cells (k - 1) ≡ Some f → takes f.awaits o ≡ false → unwound o (frames_at cells k) ≡ unwound o (frames_at cells f.parent)
   is_passed zero f some e t = absurd (some refl)
   is_passed (suc i) f some e t =
-      ap (unwound o) (chain_is frame_parent cells is_linked i f (subst (λ n. slice_get cells n ≡ Some f) (back i) e)) ∙ ap (λ r. or_outer f (frames_at cells f.parent) r (unwound o (frames_at cells f.parent))) t
+      ap (unwound o) (chain_is frame_parent cells is_linked i f (subst (λ n. slice_get cells n ≡ Some f) (back i) e)) ∙ ap (λ r.
+      or_outer f (frames_at cells f.parent) r (unwound o (frames_at cells f.parent))) t
 
   pub is_past : (k : ℕ) → k ≢ 0 → slice_get cells (k - 1) ≡ None → rest_of cells None ≡ unwound o (frames_at cells k)
   is_past zero some e = absurd (some refl)
@@ -28,7 +30,8 @@ module _ (cells : List FrameCell) (is_linked : IsLinked frame_parent cells) (o :
   pub is_below : (k : ℕ) (f : FrameCell) → k ≢ 0 → slice_get cells (k - 1) ≡ Some f → f.parent < k
   is_below k f some e = omega (arith, is_linked (k - 1) f e, some)
 
-pub frames_new : (cells : List FrameCell) → IsLinked frame_parent cells → (f : FrameCell) → f.parent ≤ length cells → (new : List FrameCell) (k : ℕ) → new ≡ cells ++ f ∷ [] → k ≡ length new → frames_at new k ≡ f ∷ frames_at cells f.parent
+pub frames_new : (cells : List FrameCell) → IsLinked frame_parent cells → (f : FrameCell) → f.parent ≤ length cells → (new : List FrameCell) (k : ℕ)
+    → new ≡ cells ++ f ∷ [] → k ≡ length new → frames_at new k ≡ f ∷ frames_at cells f.parent
 frames_new cells is_linked f h new k is at =
     ap (λ fs. frames_at fs k) is
     ∙ ap (frames_at (cells ++ f ∷ [])) (at ∙ ap length is ∙ long)

@@ -96,7 +96,8 @@ module _ (o : Origin) where
 
   -- ---- choices
 
-  module _ (forest : IsForest o.code) (cells : Cells) (s : Spot) (is : IsSpot o cells s) (i a b : ℕ) (at : s.node ≡ suc i) (within : i < length o.code) (node : slice_get o.code i ≡ Some (nodes.Choose a b)) where
+  module _ (forest : IsForest o.code) (cells : Cells) (s : Spot) (is : IsSpot o cells s) (i a b : ℕ) (at : s.node ≡ suc i)
+      (within : i < length o.code) (node : slice_get o.code i ≡ Some (nodes.Choose a b)) where
     abbrev inner_now : List (List Atom)
     inner_now = inner_at cells.values s.values
 
@@ -112,7 +113,8 @@ module _ (o : Origin) where
     part_next : (left : Bool) (j : ℕ) → chosen_from left (choose (part_term a) (part_term b)) ≡ Some (part_term j) →
         after_choice left (spelled o cells s).term ≡ Some (in_layers (layers_at o.code o.regs cells s.frames) (part_term j))
     part_next left j part =
-        ap (λ h. option_map (λ u. with_head u (spelled o cells s).term) (chosen_from left h)) (head_in_layers (layers_at o.code o.regs cells s.frames) (head_of o.code o.regs cells s) ∙ is.own_head ∙ at_choice)
+        ap (λ h. option_map (λ u. with_head u (spelled o cells s).term) (chosen_from left h)) (head_in_layers (layers_at o.code o.regs cells s.frames)
+        (head_of o.code o.regs cells s) ∙ is.own_head ∙ at_choice)
         ∙ ap (option_map (λ u. with_head u (spelled o cells s).term)) part
         ∙ ap Some (handed cells s is (part_term j))
 

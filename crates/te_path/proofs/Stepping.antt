@@ -145,7 +145,8 @@ module _ (o : Origin) (cells : Cells) (p : Place) (is : IsPlace o cells p) where
   makes at v n is_channel one_more =
       let channel : List Atom = Chan (fresh_channel o.thread o.ticket p.count) ∷ [] in
       let step : quiet_step (headed o cells p) ≡ Some (member_at o (suc p.count) (giving channel)) = ap (λ t. quiet_step (at_term (headed o cells p) t)) at in
-      rw (is_channel, one_more) (alike_in_layers around_it (headed o cells p) (member_at o (suc p.count) (giving channel)) (alike_by_step (headed o cells p) (member_at o (suc p.count) (giving channel)) step))
+      rw (is_channel, one_more) (alike_in_layers around_it (headed o cells p) (member_at o (suc p.count) (giving channel))
+      (alike_by_step (headed o cells p) (member_at o (suc p.count) (giving channel)) step))
 
   from_end : (m : Member) (new : Cells) (s : Spot) (went : Went) → Alike (placed o cells p) m →
       GoesOn o m (1 + left_at o.code cells p.frames) new s went → GoesOn o (placed o cells p) (nodes_left o.code cells p) new s went

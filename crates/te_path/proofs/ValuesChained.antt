@@ -33,7 +33,8 @@ inner_short cells k =
 
 -- ---- what is kept
 
-pub are_new : (cells : List ValueCell) → AreValues cells → (c : ValueCell) → c.parent ≤ length cells → suc (length cells) < 4294967296 → c.level ≡ length (inner_at cells c.parent) → AreValues (cells ++ c ∷ [])
+pub are_new : (cells : List ValueCell) → AreValues cells → (c : ValueCell) → c.parent ≤ length cells → suc (length cells) < 4294967296
+    → c.level ≡ length (inner_at cells c.parent) → AreValues (cells ++ c ∷ [])
 are_new cells are c h room level = record {
   few = omega (arith, room, length-append cells (c ∷ []));
   linked = linked_new value_parent cells are.linked c h;

@@ -4,6 +4,7 @@ ghost use Rattle.std.specs.Prelude.{◌≡◌, ◌<◌, length, Some, slice_get}
 ghost use Rattle.te_terms.specs.declared.event.Outcome.TheVariants.{Raises};
 ghost use Rattle.te_terms.specs.Values.{trap_value};
 ghost use Rattle.te_terms.specs.Shape.{IsForest};
+ghost use Rattle.te_terms.specs.Views.{expression_seen, node_seen, IsShort, IsShortNode};
 ghost use Rattle.te_path.specs.declared.looking.Next.TheVariants.{Ends};
 ghost use Rattle.te_path.specs.Chains.{inner_at};
 ghost use Rattle.te_path.specs.Origins.{origin_of};
@@ -16,7 +17,7 @@ use crate::place::Place;
 use crate::posted::Posted;
 use crate::spot::Stop;
 use crate::values::ValueCells;
-use te_terms::{EventCode, Expr, Node, Outcome, Prim, Scope, Trap, Value, Var};
+use te_terms::{EventCode, ExprView, NodeView, Outcome, Prim, Scope, Trap, Value, Var};
 
 /// What comes of the node at the head.
 #[derive(Clone, Copy)]
@@ -108,7 +109,7 @@ pub(crate) fn look(posted: &Posted, cells: &Cells, place: Place) -> Next
         top: place.values,
     };
     match node(posted.code, place.node) {
-        Node::Always(e) => match e.eval_in(&scope) {
+        NodeView::Always(e) => match e.eval_in(&scope) {
             Ok(value) => if place.frames == 0 {
                 Next::Stays(Stop::Done(value))
             } else {
@@ -116,7 +117,7 @@ pub(crate) fn look(posted: &Posted, cells: &Cells, place: Place) -> Next
             },
             Err(trap) => raised(trap),
         },
-        Node::Throw(e) => match e.eval_in(&scope) {
+        NodeView::Throw(e) => match e.eval_in(&scope) {
             Ok(value) => if place.frames == 0 {
                 Next::Stays(Stop::Raised(value))
             } else {
@@ -124,24 +125,24 @@ pub(crate) fn look(posted: &Posted, cells: &Cells, place: Place) -> Next
             },
             Err(trap) => raised(trap),
         },
-        Node::Send(p, e) => match to_send(&p, &e, &scope) {
+        NodeView::Send(p, e) => match to_send(&p, &e, &scope) {
             Ok(message) => Next::Stays(Stop::Send(message.channel, message.value)),
             Err(trap) => raised(trap),
         },
-        Node::Recv(p) => match p.channel_in(&scope) {
+        NodeView::Recv(p) => match p.channel_in(&scope) {
             Ok(channel) => Next::Stays(Stop::Recv(channel)),
             Err(_) => raised(Trap::Kind),
         },
-        Node::If(cond, a, b) => match cond.holds_in(&scope) {
+        NodeView::If(cond, a, b) => match cond.holds_in(&scope) {
             Ok(true) => Next::Goes(a),
             Ok(false) => Next::Goes(b),
             Err(trap) => raised(trap),
         },
-        Node::Then(a, b) => Next::Enters(Awaits::Given, a, b),
-        Node::Catch(a, b) => Next::Enters(Awaits::Raised, a, b),
-        Node::Choose(_, _) => Next::Stays(Stop::Choice),
-        Node::Never => Next::Stays(Stop::Dead),
-        Node::Fresh => Next::Fresh,
+        NodeView::Then(a, b) => Next::Enters(Awaits::Given, a, b),
+        NodeView::Catch(a, b) => Next::Enters(Awaits::Raised, a, b),
+        NodeView::Choose(_, _) => Next::Stays(Stop::Choice),
+        NodeView::Never => Next::Stays(Stop::Dead),
+        NodeView::Fresh => Next::Fresh,
     }
 }
 
@@ -152,7 +153,7 @@ pub(crate) fn turn_of(posted: &Posted, cells: &Cells, place: Place) -> Turn
     ensures turns { Turns (origin_of posted.now) cells.now place result }
 {
     match node(posted.code, place.node) {
-        Node::If(cond, a, b) => {
+        NodeView::If(cond, a, b) => {
             let scope = Linked {
                 regs: posted.regs,
                 values: &cells.values,
@@ -164,9 +165,9 @@ pub(crate) fn turn_of(posted: &Posted, cells: &Cells, place: Place) -> Turn
                 Err(_) => Turn::Other,
             }
         }
-        Node::Then(a, b) => Turn::Enters(Awaits::Given, a, b),
-        Node::Catch(a, b) => Turn::Enters(Awaits::Raised, a, b),
-        Node::Recv(p) => {
+        NodeView::Then(a, b) => Turn::Enters(Awaits::Given, a, b),
+        NodeView::Catch(a, b) => Turn::Enters(Awaits::Raised, a, b),
+        NodeView::Recv(p) => {
             let scope = Linked {
                 regs: posted.regs,
                 values: &cells.values,
@@ -177,26 +178,32 @@ pub(crate) fn turn_of(posted: &Posted, cells: &Cells, place: Place) -> Turn
                 Err(_) => Turn::Other,
             }
         }
-        Node::Choose(_, _) => Turn::Chooses,
-        Node::Never => Turn::Dead,
-        Node::Always(_) | Node::Throw(_) | Node::Send(_, _) | Node::Fresh => Turn::Other,
+        NodeView::Choose(_, _) => Turn::Chooses,
+        NodeView::Never => Turn::Dead,
+        NodeView::Always(_) | NodeView::Throw(_) | NodeView::Send(_, _) | NodeView::Fresh =>
+            Turn::Other,
     }
 }
 
-pub(crate) fn node(code: &EventCode, i: u32) -> Node
+/// The node of a number, where the code keeps it.
+#[inline(always)]
+pub(crate) fn node(code: &EventCode, i: u32) -> NodeView<'_>
     requires { i < length code.now }
-    ensures is { slice_get code.now i ≡ Some result }
+    ensures is { slice_get code.now i ≡ Some (node_seen result) }
+    ensures short { IsShortNode result }
     ensures forest { IsForest code.now }
 {
-    match code.node(i) {
+    match code.look(i) {
         Some(node) => node,
         None => unreachable!(),
     }
 }
 
 // What a send sends: its channel traps first.
-fn to_send(p: &Prim, e: &Expr, scope: &Linked) -> Result<Message, Trap>
-    ensures { Sends (channel_over scope.now.regs.now (inner_at scope.now.values.now scope.now.top) p.now) (value_over scope.now.regs.now (inner_at scope.now.values.now scope.now.top) e.now) result }
+fn to_send(p: &Prim, e: &ExprView, scope: &Linked) -> Result<Message, Trap>
+    requires { IsShort e.now }
+    ensures { Sends (channel_over scope.now.regs.now (inner_at scope.now.values.now scope.now.top) p.now)
+        (value_over scope.now.regs.now (inner_at scope.now.values.now scope.now.top) (expression_seen e.now)) result }
 {
     let Ok(channel) = p.channel_in(scope) else {
         return Err(Trap::Kind);

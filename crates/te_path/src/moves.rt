@@ -18,7 +18,7 @@ use crate::looking::node;
 use crate::place::{Place, Went, end, settle};
 use crate::posted::Posted;
 use crate::spot::{Spot, Stop};
-use te_terms::{NoMemory, Node, Outcome, Value};
+use te_terms::{NoMemory, NodeView, Outcome, Value};
 
 impl Cells {
     /// The path of the event under node `root`, after its quiet steps: the spot spells what the event settles
@@ -28,7 +28,8 @@ impl Cells {
         requires linked { AreLinked self.old }
         ensures grows { Grows self.old self.new }
         ensures spot { IfOk result (IsSpot (origin_of posted.now) self.new) }
-        ensures settles { IfOk result (λ spot. spelled (origin_of posted.now) self.new spot ≡ settled (member_at (origin_of posted.now) 0 (closed posted.now.regs.now (term_under posted.now.code.now root)))) }
+        ensures settles { IfOk result (λ spot. spelled (origin_of posted.now) self.new spot ≡ settled
+            (member_at (origin_of posted.now) 0 (closed posted.now.regs.now (term_under posted.now.code.now root)))) }
     {
         let is_node = root < posted.code.len();
         prove!(is_node);
@@ -56,10 +57,12 @@ impl Cells {
         requires choice { spot.old.stop ≡ Choice }
         ensures grows { Grows self.old self.new }
         ensures spot { OnOk result (IsSpot (origin_of posted.now) self.new spot.new) }
-        ensures step { OnOk result (StepsTo (spelled (origin_of posted.now) self.old spot.old) (after_choice left (spelled (origin_of posted.now) self.old spot.old).term) (spelled (origin_of posted.now) self.new spot.new)) }
+        ensures step { OnOk result (StepsTo (spelled (origin_of posted.now) self.old spot.old)
+            (after_choice left (spelled (origin_of posted.now) self.old spot.old).term) (spelled (origin_of posted.now)
+            self.new spot.new)) }
         ensures err { OnErr result (spot.new ≡ spot.old) }
     {
-        let Node::Choose(a, b) = node(posted.code, spot.node - 1) else {
+        let NodeView::Choose(a, b) = node(posted.code, spot.node - 1) else {
             unreachable!()
         };
         let place = Place {
@@ -78,7 +81,9 @@ impl Cells {
         requires send { IsSome (sending (spelled (origin_of posted.now) self.old spot.old).term) }
         ensures grows { Grows self.old self.new }
         ensures spot { OnOk result (IsSpot (origin_of posted.now) self.new spot.new) }
-        ensures step { OnOk result (StepsTo (spelled (origin_of posted.now) self.old spot.old) (after_sending (spelled (origin_of posted.now) self.old spot.old).term) (spelled (origin_of posted.now) self.new spot.new)) }
+        ensures step { OnOk result (StepsTo (spelled (origin_of posted.now) self.old spot.old)
+            (after_sending (spelled (origin_of posted.now) self.old spot.old).term) (spelled (origin_of posted.now)
+            self.new spot.new)) }
         ensures err { OnErr result (spot.new ≡ spot.old) }
     {
         hand(self, posted, spot, Value::unit())
@@ -96,7 +101,9 @@ impl Cells {
         requires receive { IsSome (receiving (spelled (origin_of posted.now) self.old spot.old).term) }
         ensures grows { Grows self.old self.new }
         ensures spot { OnOk result (IsSpot (origin_of posted.now) self.new spot.new) }
-        ensures step { OnOk result (StepsTo (spelled (origin_of posted.now) self.old spot.old) (after_receiving value (spelled (origin_of posted.now) self.old spot.old).term) (spelled (origin_of posted.now) self.new spot.new)) }
+        ensures step { OnOk result (StepsTo (spelled (origin_of posted.now) self.old spot.old)
+            (after_receiving value (spelled (origin_of posted.now) self.old spot.old).term)
+            (spelled (origin_of posted.now) self.new spot.new)) }
         ensures err { OnErr result (spot.new ≡ spot.old) }
     {
         hand(self, posted, spot, value)
@@ -108,7 +115,9 @@ fn hand(cells: &mut Cells, posted: &Posted, spot: &mut Spot, value: Value) -> Re
     requires { IsSpot (origin_of posted.now) cells.old spot.old }
     ensures grows { Grows cells.old cells.new }
     ensures spot { OnOk result (IsSpot (origin_of posted.now) cells.new spot.new) }
-    ensures alike { OnOk result (Alike (at_term (spelled (origin_of posted.now) cells.old spot.old) (with_head (giving value) (spelled (origin_of posted.now) cells.old spot.old).term)) (spelled (origin_of posted.now) cells.new spot.new)) }
+    ensures alike { OnOk result (Alike (at_term (spelled (origin_of posted.now) cells.old spot.old)
+        (with_head (giving value) (spelled (origin_of posted.now) cells.old spot.old).term))
+        (spelled (origin_of posted.now) cells.new spot.new)) }
     ensures err { OnErr result (spot.new ≡ spot.old) }
 {
     match end(

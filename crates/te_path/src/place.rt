@@ -67,7 +67,7 @@ pub(crate) fn settle(
 
 // Goes on while the node at the head has a part that comes next. It holds no large value, so a turn of its loop is
 // cheap.
-#[inline(never)]
+#[inline(always)]
 fn descend(cells: &mut Cells, posted: &Posted, from: Place) -> Result<Down, NoMemory>
     requires { IsPlace (origin_of posted.now) cells.old from }
     ensures grows { Grows cells.old cells.new }
@@ -99,7 +99,8 @@ fn arrive(cells: &mut Cells, posted: &Posted, down: Down, spot: &mut Spot) -> Re
     requires turn { Turns (origin_of posted.now) cells.old down.place down.turn }
     requires forest { IsForest posted.now.code.now }
     ensures grows { Grows cells.old cells.new }
-    ensures ok { IfOk result (λ went. GoesOn (origin_of posted.now) (placed (origin_of posted.now) cells.old down.place) (nodes_left posted.now.code.now cells.old down.place) cells.new spot.new went) }
+    ensures ok { IfOk result (λ went. GoesOn (origin_of posted.now) (placed (origin_of posted.now) cells.old down.place)
+        (nodes_left posted.now.code.now cells.old down.place) cells.new spot.new went) }
     ensures kept { IfOk result (Keeps spot.old spot.new) }
     ensures err { OnErr result (spot.new ≡ spot.old) }
 {
@@ -179,7 +180,8 @@ pub(crate) fn end(
     requires around { AreAround posted.now.code.now cells.old 0 frames }
     requires few { HasFewFresh (ending_in (origin_of posted.now) cells.old count frames outcome.now) }
     ensures grows { Grows cells.old cells.new }
-    ensures ok { IfOk result (λ went. GoesOn (origin_of posted.now) (ending_in (origin_of posted.now) cells.old count frames outcome.now) (1 + left_at posted.now.code.now cells.old frames) cells.new spot.new went) }
+    ensures ok { IfOk result (λ went. GoesOn (origin_of posted.now) (ending_in (origin_of posted.now) cells.old count
+        frames outcome.now) (1 + left_at posted.now.code.now cells.old frames) cells.new spot.new went) }
     ensures kept { IfOk result (Keeps spot.old spot.new) }
     ensures err { OnErr result (spot.new ≡ spot.old) }
 {

@@ -55,7 +55,8 @@ own_name n v = grind (arith, nat_tests)
 other_name : (n m : ℕ) (v : List Atom) → (m ≡ n → ⊥) → name_to n v (name m) ≡ name m
 other_name n m v differ = grind (arith, nat_tests)
 
-next_name : (inner : List (List Atom)) (v : List Atom) → name_to (length inner) v (or_name (slice_get inner (length inner)) (length inner)) ≡ or_name (slice_get (inner ++ v ∷ []) (length inner)) (length inner)
+next_name : (inner : List (List Atom)) (v : List Atom) → name_to (length inner) v (or_name (slice_get inner (length inner)) (length inner)) ≡ or_name
+    (slice_get (inner ++ v ∷ []) (length inner)) (length inner)
 next_name inner v = rw (slice_get_past inner (length inner) (omega arith), slice_get_seam inner v []) (own_name (length inner) v)
 
 any_name : (inner : List (List Atom)) (v : List Atom) (m : ℕ) → name_to (length inner) v (or_name (slice_get inner m) m) ≡ or_name (slice_get (inner ++ v ∷ []) m) m

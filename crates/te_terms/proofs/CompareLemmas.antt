@@ -36,7 +36,9 @@ pub nodes_differ : (code : List Node) (i : ℕ) (m : Node) (regs : List (List At
 nodes_differ code i m regs other j n others h k test = record {
   at = λ l. (
     λ t. absurd cc,
-    λ e. (test l).1 (heads_of (registers_to regs) (registers_to others) m n l (first_part (term_at code l) (children m)) (second_part (term_at code (second_level m l)) (children m)) (first_part (term_at other l) (children n)) (second_part (term_at other (second_level n l)) (children n))
+    λ e. (test l).1 (heads_of (registers_to regs) (registers_to others) m n l (first_part (term_at code l) (children m))
+        (second_part (term_at code (second_level m l)) (children m)) (first_part (term_at other l) (children n))
+        (second_part (term_at other (second_level n l)) (children n))
         (sym (ap (replaced (registers_to regs)) (whole code i m h l)) ∙ e ∙ ap (replaced (registers_to others)) (whole other j n k l))),
   );
 }
@@ -61,23 +63,27 @@ pub firsts_differ : (code : List Node) (i : ℕ) (m : Node) (regs : List (List A
 firsts_differ code i m regs other j n others h k a b c d two two' first = record {
   at = λ l. (
     λ t. absurd cc,
-    λ e. (first.at l).1 (first_of (registers_to regs) (registers_to others) m n l a b (term_at code l a) (term_at code (second_level m l) b) (term_at other l c) (term_at other (second_level n l) d) two
+    λ e. (first.at l).1 (first_of (registers_to regs) (registers_to others) m n l a b (term_at code l a) (term_at code (second_level m l) b)
+        (term_at other l c) (term_at other (second_level n l) d) two
         (sym (ap (replaced (registers_to regs)) (inner code i m h a b two l)) ∙ e ∙ ap (replaced (registers_to others)) (inner other j n k c d two' l))),
   );
 }
 
 pub seconds_tell : (code : List Node) (i : ℕ) (m : Node) (regs : List (List Atom)) (other : List Node) (j : ℕ) (n : Node) (others : List (List Atom)) → IsAt code i m → IsAt other j n →
-    (a b c d : ℕ) (test : Bool) → children m ≡ a ∷ b ∷ [] → children n ≡ c ∷ d ∷ [] → ((l : ℕ) → Heads regs m others n l) → Compares true code a regs other c others → Compares test code b regs other d others →
+    (a b c d : ℕ) (test : Bool) → children m ≡ a ∷ b ∷ [] → children n ≡ c ∷ d ∷ [] → ((l : ℕ) → Heads regs m others n l)
+    → Compares true code a regs other c others → Compares test code b regs other d others →
     Compares test code i regs other j others
 seconds_tell code i m regs other j n others h k a b c d test two two' same first second = record {
   at = λ l.
       let levels = levels_same (registers_to regs) (registers_to others) m n l (same l) in
       let left = ap (replaced (registers_to regs)) (inner code i m h a b two l) in
       let right = ap (replaced (registers_to others)) (inner other j n k c d two' l) in (
-        λ t. left ∙ joined (registers_to regs) (registers_to others) m n l (term_at code l a) (term_at code (second_level m l) b) (term_at other l c) (term_at other (second_level n l) d) (same l) ((first.at l).0 refl)
+        λ t. left ∙ joined (registers_to regs) (registers_to others) m n l (term_at code l a) (term_at code (second_level m l) b) (term_at other l c)
+            (term_at other (second_level n l) d) (same l) ((first.at l).0 refl)
             ((second.at (second_level m l)).0 t ∙ ap (λ x. replaced (registers_to others) (term_at other x d)) levels) ∙ sym right,
         λ e. (second.at (second_level m l)).1
-            (second_of (registers_to regs) (registers_to others) m n l a b (term_at code l a) (term_at code (second_level m l) b) (term_at other l c) (term_at other (second_level n l) d) two (sym left ∙ e ∙ right)
+            (second_of (registers_to regs) (registers_to others) m n l a b (term_at code l a) (term_at code (second_level m l) b) (term_at other l c)
+            (term_at other (second_level n l) d) two (sym left ∙ e ∙ right)
             ∙ sym (ap (λ x. replaced (registers_to others) (term_at other x d)) levels)),
       );
 }

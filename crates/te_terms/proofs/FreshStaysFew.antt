@@ -52,7 +52,8 @@ chosen_few false (choose e f) u p = let is : f ≡ u = cc in subst (λ x. fresh_
 chosen_few true _ u p = absurd cc
 chosen_few false _ u p = absurd cc
 
-choice_few_by : (t : Term) (o : Option Term) → ((u : Term) → o ≡ Some u → fresh_count u ≤ fresh_count (head t)) → (u : Term) → option_map (λ x. with_head x t) o ≡ Some u → fresh_count u ≤ fresh_count t
+choice_few_by : (t : Term) (o : Option Term) → ((u : Term) → o ≡ Some u → fresh_count u ≤ fresh_count (head t)) → (u : Term)
+    → option_map (λ x. with_head x t) o ≡ Some u → fresh_count u ≤ fresh_count t
 choice_few_by t None few u p = absurd cc
 choice_few_by t (Some x) few u p =
     let is : with_head x t ≡ u = cc in

@@ -219,7 +219,8 @@ kept_more code marks fresh node mark kept free fits new =
       as_many = omega (arith, length-adopted (children node) (marks ++ mark ∷ []), length-append marks (mark ∷ []), length-append code (node ∷ []), kept.as_many);
       tells = λ i other h.
           let was = before code marks node mark fresh kept free new i other h in
-          let marked = is_child-adopted (children node) (marks ++ mark ∷ []) i other (below_from (length (marks ++ mark ∷ [])) (children node) (λ c some. omega (arith, (free c some).0, kept.as_many, length-append marks (mark ∷ [])))) in
+          let marked = is_child-adopted (children node) (marks ++ mark ∷ []) i other (below_from (length (marks ++ mark ∷ [])) (children node)
+          (λ c some. omega (arith, (free c some).0, kept.as_many, length-append marks (mark ∷ [])))) in
           let named = times_named_push i code node in
           record {
             nodes_are = kept-adopted (λ m. m.nodes) (λ m. refl) (children node) (marks ++ mark ∷ []) i other ∙ was.0.nodes_are;

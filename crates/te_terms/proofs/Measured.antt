@@ -145,7 +145,8 @@ two_parts : (own : Term → ℕ) (join : ℕ → ℕ → ℕ) → SeesForms own 
 two_parts own join sees code s l m a b x y e =
     let p : x ≡ a = cc in
     let q : y ≡ b = cc in
-    joined join s _ _ s _ _ refl (counted-level own join sees code l x ∙ ap (λ i. counted own join (term_under code i)) p) (counted-level own join sees code m y ∙ ap (λ i. counted own join (term_under code i)) q)
+    joined join s _ _ s _ _ refl (counted-level own join sees code l x ∙ ap (λ i. counted own join (term_under code i)) p)
+    (counted-level own join sees code m y ∙ ap (λ i. counted own join (term_under code i)) q)
 
 -- and one with two joins what they count
 pub counted_two : (own : Term → ℕ) (join : ℕ → ℕ → ℕ) → SeesForms own → (code : List Node) (node : Node) (a b : ℕ) → children node ≡ a ∷ b ∷ [] →

@@ -27,7 +27,14 @@ IsPadded_more {room = room} {filler = filler} {len = len} {items = items} x p h 
 -- a padded array has the room's length
 pub length_padded : {A : Type 0} {room : ℕ} {filler : A} {len : ℕ} {items : List A} → IsPadded room filler len items → length items ≡ room
 length_padded {room = room} {filler = filler} {len = len} {items = items} p =
-    omega (arith, p.within, length_back p, ap length p.padded_so, length-append (take len items) (replicate (room - length (take len items)) filler), length-replicate (room - length (take len items)) filler)
+    omega (
+      arith,
+      p.within,
+      length_back p,
+      ap length p.padded_so,
+      length-append (take len items) (replicate (room - length (take len items)) filler),
+      length-replicate (room - length (take len items)) filler,
+    )
 
 -- a list copied over the fillers
 pub IsPadded-copied : {A : Type 0} (room : ℕ) (filler : A) (xs ys : List A) → ys ≡ xs → length xs ≤ room →

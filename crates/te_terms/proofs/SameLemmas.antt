@@ -38,7 +38,9 @@ over_formed g level (nodes.Catch a b) = refl
 over_formed g level (nodes.If t a b) = refl
 
 -- the same heads and the same parts make the same term
-pub joined : (A B : Variable → Variable) (m n : Node) (l : ℕ) (e f e' f' : Term) → replaced A (formed m l never never) ≡ replaced B (formed n l never never) → replaced A e ≡ replaced B e' → replaced A f ≡ replaced B f' → replaced A (formed m l e f) ≡ replaced B (formed n l e' f')
+pub joined : (A B : Variable → Variable) (m n : Node) (l : ℕ) (e f e' f' : Term)
+    → replaced A (formed m l never never) ≡ replaced B (formed n l never never) → replaced A e ≡ replaced B e' → replaced A f ≡ replaced B f'
+    → replaced A (formed m l e f) ≡ replaced B (formed n l e' f')
 joined A B (nodes.Always v) (nodes.Always v') l e f e' f' p q r = p
 joined A B nodes.Never nodes.Never l e f e' f' p q r = p
 joined A B nodes.Fresh nodes.Fresh l e f e' f' p q r = p
@@ -51,7 +53,8 @@ joined A B (nodes.Catch a b) (nodes.Catch a' b') l e f e' f' p q r = cc
 joined A B (nodes.If t a b) (nodes.If t' a' b') l e f e' f' p q r = cc
 joined A B _ _ l e f e' f' p q r = absurd cc
 
-pub heads_of : (A B : Variable → Variable) (m n : Node) (l : ℕ) (e f e' f' : Term) → replaced A (formed m l e f) ≡ replaced B (formed n l e' f') → replaced A (formed m l never never) ≡ replaced B (formed n l never never)
+pub heads_of : (A B : Variable → Variable) (m n : Node) (l : ℕ) (e f e' f' : Term) → replaced A (formed m l e f) ≡ replaced B (formed n l e' f')
+    → replaced A (formed m l never never) ≡ replaced B (formed n l never never)
 heads_of A B (nodes.Always v) (nodes.Always v') l e f e' f' p = p
 heads_of A B nodes.Never nodes.Never l e f e' f' p = p
 heads_of A B nodes.Fresh nodes.Fresh l e f e' f' p = p
@@ -64,7 +67,8 @@ heads_of A B (nodes.Catch a b) (nodes.Catch a' b') l e f e' f' p = refl
 heads_of A B (nodes.If t a b) (nodes.If t' a' b') l e f e' f' p = cc
 heads_of A B _ _ l e f e' f' p = absurd cc
 
-pub first_of : (A B : Variable → Variable) (m n : Node) (l x y : ℕ) (e f e' f' : Term) → children m ≡ x ∷ y ∷ [] → replaced A (formed m l e f) ≡ replaced B (formed n l e' f') → replaced A e ≡ replaced B e'
+pub first_of : (A B : Variable → Variable) (m n : Node) (l x y : ℕ) (e f e' f' : Term) → children m ≡ x ∷ y ∷ []
+    → replaced A (formed m l e f) ≡ replaced B (formed n l e' f') → replaced A e ≡ replaced B e'
 first_of A B (nodes.Always v) (nodes.Always v') l x y e f e' f' two p = absurd cc
 first_of A B nodes.Never nodes.Never l x y e f e' f' two p = absurd cc
 first_of A B nodes.Fresh nodes.Fresh l x y e f e' f' two p = absurd cc
@@ -77,7 +81,8 @@ first_of A B (nodes.Catch a b) (nodes.Catch a' b') l x y e f e' f' two p = cc
 first_of A B (nodes.If t a b) (nodes.If t' a' b') l x y e f e' f' two p = cc
 first_of A B _ _ l x y e f e' f' two p = absurd cc
 
-pub second_of : (A B : Variable → Variable) (m n : Node) (l x y : ℕ) (e f e' f' : Term) → children m ≡ x ∷ y ∷ [] → replaced A (formed m l e f) ≡ replaced B (formed n l e' f') → replaced A f ≡ replaced B f'
+pub second_of : (A B : Variable → Variable) (m n : Node) (l x y : ℕ) (e f e' f' : Term) → children m ≡ x ∷ y ∷ []
+    → replaced A (formed m l e f) ≡ replaced B (formed n l e' f') → replaced A f ≡ replaced B f'
 second_of A B (nodes.Always v) (nodes.Always v') l x y e f e' f' two p = absurd cc
 second_of A B nodes.Never nodes.Never l x y e f e' f' two p = absurd cc
 second_of A B nodes.Fresh nodes.Fresh l x y e f e' f' two p = absurd cc

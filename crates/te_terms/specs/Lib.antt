@@ -12,6 +12,7 @@ pub mod Stored
 pub mod Shape
 pub mod Kept
 pub mod Slots
+pub mod Views
 pub mod Made
 pub mod Sameness
 pub mod Settling

@@ -14,4 +14,11 @@ pub record IsPadded {A : Type 0} (room : ℕ) (filler : A) (len : ℕ) (items : 
 -- the list is as long as it says
 pub length_back : {A : Type 0} {room : ℕ} {filler : A} {len : ℕ} {items : List A} → IsPadded room filler len items → length (take len items) ≡ len
 length_back {room = room} {filler = filler} {len = len} {items = items} p =
-    omega (arith, p.within, length-take len items, length-append (take len items) (replicate (room - length (take len items)) filler), length-replicate (room - length (take len items)) filler, ap length p.padded_so)
+    omega (
+      arith,
+      p.within,
+      length-take len items,
+      length-append (take len items) (replicate (room - length (take len items)) filler),
+      length-replicate (room - length (take len items)) filler,
+      ap length p.padded_so,
+    )

@@ -1,5 +1,5 @@
 ghost use Rattle.std.specs.Prelude.{◌≡◌, ◌≢◌, ◌↔◌, ◌+◌, ◌<◌, ◌≤◌, ℕ, List, [], ◌∷◌, ◌++◌, length, slice_get, IfOk, IfErr, OnOk, OnErr, IfSome, IsTrue, Err, vec_len, vec_capacity};
-ghost use Rattle.std.specs.Option.{ForSome};
+ghost use Rattle.std.specs.Option.{ForSome, option_map};
 ghost use Rattle.te_terms.specs.declared.code.Node.{Node};
 ghost use Rattle.te_terms.specs.declared.code.Node.TheVariants as nodes;
 ghost use Rattle.te_terms.specs.declared.code.CodeFault.TheVariants as faults;
@@ -7,9 +7,11 @@ ghost use Rattle.te_terms.specs.Codes.{term_under};
 ghost use Rattle.te_terms.specs.Measures.{height, weight};
 ghost use Rattle.te_terms.specs.Limits.{most_nodes, greatest_height, most_fresh, IsWithinLimits};
 ghost use Rattle.te_terms.specs.Shape.{children, times_named, one_if_fresh, fresh_nodes, NamesEarlier, IsForest, HasFreeChildren, term_over};
+ghost use Rattle.te_terms.specs.Views.{node_seen, IsShortNode};
 ghost use Rattle.te_terms.specs.Kept.{Tells, TellsNew, IsLow, IsKept, IsFree, listed, own_weight, adopted};
 
 use crate::expr::{Calc, Cond, Expr, Operand};
+use crate::lent::NodeView;
 use crate::limits::{GREATEST_HEIGHT, MOST_FRESH, MOST_NODES};
 use crate::slot::{Form, Slot, store};
 use std::alloc::Global;
@@ -159,8 +161,24 @@ impl EventCode {
         ensures earlier { IfSome result (λ node. NamesEarlier i node) }
         ensures forest { IsForest self.now }
     {
+        match self.look(i) {
+            Some(view) => Some(view.node()),
+            None => None,
+        }
+    }
+
+    /// Node `i`, from 0, with its calculations where the code keeps them; `None` exactly where there is no such
+    /// node. It is public for the crates above alone.
+    #[doc(hidden)]
+    #[inline(always)]
+    pub fn look(&self, i: u32) -> Option<NodeView<'_>>
+        ensures value { option_map node_seen result ≡ slice_get self.now i }
+        ensures short { IfSome result IsShortNode }
+        ensures earlier { IfSome result (λ view. NamesEarlier i (node_seen view)) }
+        ensures forest { IsForest self.now }
+    {
         match self.slots.get(i as usize) {
-            Some(slot) => Some(slot.node(&self.calcs)),
+            Some(slot) => Some(slot.lend(&self.calcs)),
             None => None,
         }
     }

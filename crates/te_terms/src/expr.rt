@@ -7,7 +7,9 @@ ghost use Rattle.te_terms.specs.Expressions.{Variable, in_primitive, in_calculat
 ghost use Rattle.te_terms.specs.Limits.{most_atoms};
 ghost use Rattle.te_terms.specs.Terms.{scoped};
 ghost use Rattle.te_terms.specs.Codes.{variable_of, primitive_of, calculation_of, expression_of};
+ghost use Rattle.te_terms.specs.Views.{expression_seen, IsShort};
 
+use crate::lent::ExprView;
 use crate::limits::MOST_ATOMS;
 use crate::value::{Atom, Trap, Value};
 use std::marker::Model;
@@ -130,7 +132,7 @@ pub enum Calc {
 
 impl Calc {
     // Both operands are found before their kinds are tested.
-    fn atom<S: Scope>(&self, scope: &S) -> Result<Atom, Trap>
+    pub(crate) fn atom<S: Scope>(&self, scope: &S) -> Result<Atom, Trap>
         ensures { result ≡ calculation_atom (in_calculation (S.values scope.now) (calculation_of self.now)) }
     {
         match self {
@@ -212,26 +214,16 @@ impl Expr {
     pub fn eval(&self, regs: &[Value; 8], inner: &[Value]) -> Result<Value, Trap>
         ensures { result ≡ value_of (in_expression (scoped regs.now inner.now) (expression_of self.now)) }
     {
-        self.eval_in(&InRow { regs, inner })
+        self.lend().eval_in(&InRow { regs, inner })
     }
 
-    /// The value of the expression in the scope, or the same traps. It is public for the crates above alone.
-    #[doc(hidden)]
-    pub fn eval_in<S: Scope>(&self, scope: &S) -> Result<Value, Trap>
-        ensures { result ≡ value_of (in_expression (S.values scope.now) (expression_of self.now)) }
+    fn lend(&self) -> ExprView<'_>
+        ensures value { expression_seen result ≡ self.now }
+        ensures short { IsShort result }
     {
         match self {
-            Expr::Whole(x) => match scope.find(*x) {
-                Some(value) => Ok(*value),
-                None => Err(Trap::Kind),
-            },
-            Expr::Tuple(calcs) => {
-                let mut value = Value::unit();
-                for calc in calcs.as_slice() {
-                    value.push(calc.atom(scope)?);
-                }
-                Ok(value)
-            }
+            Expr::Whole(x) => ExprView::Whole(*x),
+            Expr::Tuple(calcs) => ExprView::Tuple(calcs.as_slice()),
         }
     }
 }

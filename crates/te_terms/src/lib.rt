@@ -5,6 +5,7 @@ mod code;
 mod event;
 mod expr;
 mod laws;
+mod lent;
 mod limits;
 mod memory;
 mod name;
@@ -20,6 +21,8 @@ pub use laws::{
     bindings_extend, first_parts_step, fresh_channels_stay_few, heads_are_replaced,
     members_do_one_thing, members_settle, quiet_steps_end, settled_members_stand, turns_end,
 };
+#[doc(hidden)]
+pub use lent::{ExprView, NodeView};
 #[doc(hidden)]
 pub use limits::{
     GREATEST_HEIGHT, LONGEST_NAME, MOST_ATOMS, MOST_FRESH, MOST_NODES, MOST_REGISTERS, MOST_THREADS,

@@ -6,9 +6,11 @@ ghost use Rattle.te_terms.specs.Expressions.{known, in_primitive, in_calculation
 ghost use Rattle.te_terms.specs.Terms.{never, replaced, registers_to};
 ghost use Rattle.te_terms.specs.Codes.{variable_of, primitive_of, calculation_of, expression_of, term_at};
 ghost use Rattle.te_terms.specs.Kept.{formed, Compares};
+ghost use Rattle.te_terms.specs.Views.{expression_seen, node_seen};
 
-use crate::code::{EventCode, Node};
-use crate::expr::{Calc, Cond, Expr, Operand, Var};
+use crate::code::EventCode;
+use crate::expr::{Calc, Cond, Operand, Var};
+use crate::lent::{ExprView, NodeView};
 use crate::value::Value;
 
 fn same_var(x: Var, regs: &[Value; 8], y: Var, others: &[Value; 8]) -> bool
@@ -74,23 +76,27 @@ fn same_calcs(list: &[Calc], regs: &[Value; 8], other: &[Calc], others: &[Value;
     }
 }
 
-fn same_expr(e: &Expr, regs: &[Value; 8], f: &Expr, others: &[Value; 8]) -> bool
-    ensures { IsTrue result ↔ (in_expression (registers_to regs.now) (expression_of e.now) ≡ in_expression (registers_to others.now) (expression_of f.now)) }
+fn same_expr(e: &ExprView, regs: &[Value; 8], f: &ExprView, others: &[Value; 8]) -> bool
+    ensures { IsTrue result ↔ (in_expression (registers_to regs.now) (expression_of (expression_seen e.now)) ≡ in_expression (registers_to others.now) (expression_of (expression_seen f.now))) }
 {
     match e {
-        Expr::Whole(x) => match f {
-            Expr::Whole(y) => same_var(*x, regs, *y, others),
-            Expr::Tuple(_) => false,
+        ExprView::Whole(x) => match f {
+            ExprView::Whole(y) => same_var(*x, regs, *y, others),
+            ExprView::Tuple(_) => false,
         },
-        Expr::Tuple(cs) => match f {
-            Expr::Whole(_) => false,
-            Expr::Tuple(ds) => same_calcs(cs.as_slice(), regs, ds.as_slice(), others),
+        ExprView::Tuple(cs) => match f {
+            ExprView::Whole(_) => false,
+            ExprView::Tuple(ds) => same_calcs(cs, regs, ds, others),
         },
     }
 }
 
 fn same_cond(c: &Cond, regs: &[Value; 8], d: &Cond, others: &[Value; 8]) -> bool
-    ensures { IsTrue result ↔ ((c.now.test ≡ d.now.test) × (in_primitive (registers_to regs.now) (primitive_of c.now.left) ≡ in_primitive (registers_to others.now) (primitive_of d.now.left)) × (in_primitive (registers_to regs.now) (primitive_of c.now.right) ≡ in_primitive (registers_to others.now) (primitive_of d.now.right))) }
+    ensures { IsTrue result ↔ ((c.now.test ≡ d.now.test)
+        × (in_primitive (registers_to regs.now) (primitive_of c.now.left) ≡ in_primitive (registers_to others.now)
+        (primitive_of d.now.left))
+        × (in_primitive (registers_to regs.now) (primitive_of c.now.right) ≡ in_primitive (registers_to others.now)
+        (primitive_of d.now.right))) }
 {
     c.test == d.test
         && same_operand(c.left, regs, d.left, others)
@@ -98,22 +104,23 @@ fn same_cond(c: &Cond, regs: &[Value; 8], d: &Cond, others: &[Value; 8]) -> bool
 }
 
 // Whether two nodes are the same but for their children.
-fn same_node(m: &Node, regs: &[Value; 8], n: &Node, others: &[Value; 8]) -> bool
-    ensures { (level : ℕ) → IsTrue result ↔ (replaced (registers_to regs.now) (formed m.now level never never) ≡ replaced (registers_to others.now) (formed n.now level never never)) }
+fn same_node(m: &NodeView, regs: &[Value; 8], n: &NodeView, others: &[Value; 8]) -> bool
+    ensures { (level : ℕ)
+        → IsTrue result ↔ (replaced (registers_to regs.now) (formed (node_seen m.now) level never never) ≡ replaced
+        (registers_to others.now) (formed (node_seen n.now) level never never)) }
 {
     match (m, n) {
-        (Node::Always(e), Node::Always(f)) | (Node::Throw(e), Node::Throw(f)) => same_expr(
-            e, regs, f, others,
-        ),
-        (Node::Send(p, e), Node::Send(q, f)) => same_operand(*p, regs, *q, others)
+        (NodeView::Always(e), NodeView::Always(f)) | (NodeView::Throw(e), NodeView::Throw(f)) =>
+            same_expr(e, regs, f, others),
+        (NodeView::Send(p, e), NodeView::Send(q, f)) => same_operand(*p, regs, *q, others)
             && same_expr(e, regs, f, others),
-        (Node::Recv(p), Node::Recv(q)) => same_operand(*p, regs, *q, others),
-        (Node::If(c, _, _), Node::If(d, _, _)) => same_cond(c, regs, d, others),
-        (Node::Never, Node::Never)
-        | (Node::Fresh, Node::Fresh)
-        | (Node::Then(_, _), Node::Then(_, _))
-        | (Node::Choose(_, _), Node::Choose(_, _))
-        | (Node::Catch(_, _), Node::Catch(_, _)) => true,
+        (NodeView::Recv(p), NodeView::Recv(q)) => same_operand(*p, regs, *q, others),
+        (NodeView::If(c, _, _), NodeView::If(d, _, _)) => same_cond(c, regs, d, others),
+        (NodeView::Never, NodeView::Never)
+        | (NodeView::Fresh, NodeView::Fresh)
+        | (NodeView::Then(_, _), NodeView::Then(_, _))
+        | (NodeView::Choose(_, _), NodeView::Choose(_, _))
+        | (NodeView::Catch(_, _), NodeView::Catch(_, _)) => true,
         _ => false,
     }
 }
@@ -131,7 +138,7 @@ pub(crate) fn same_under(
     requires second { j < length other.now }
     ensures { Compares result code.now i regs.now other.now j others.now }
 {
-    let (Some(m), Some(n)) = (code.node(i), other.node(j)) else {
+    let (Some(m), Some(n)) = (code.look(i), other.look(j)) else {
         return false;
     };
     if !same_node(&m, regs, &n, others) {

@@ -3,9 +3,11 @@
 ghost use Rattle.std.specs.Prelude.{◌≡◌, ◌+◌, ◌<◌, ◌≤◌, [], ◌∷◌, ◌++◌, length, drop, vec_len, vec_capacity};
 ghost use Rattle.te_terms.specs.Limits.{most_atoms, most_nodes};
 ghost use Rattle.te_terms.specs.Slots.{outline_of, form_of, listed_in, calculations_of, primitive_in, expression_in, node_in, node_of, nodes_of, count_in, needed, IsFew, IsWithin, IsStored};
+ghost use Rattle.te_terms.specs.Views.{expression_seen, node_seen, IsShort, IsShortNode};
 
 use crate::code::Node;
-use crate::expr::{Calc, Calcs, Cond, Expr, Operand, Test, Var};
+use crate::expr::{Calc, Cond, Expr, Operand, Test, Var};
+use crate::lent::{ExprView, NodeView};
 
 /// An expression but for its calculations.
 #[derive(Clone, Copy)]
@@ -36,17 +38,16 @@ impl Outline {
     }
 
     // The expression whose calculations stand first in the list.
-    fn expr(self, list: &[Calc]) -> Expr
+    #[inline(always)]
+    fn lend<'a>(self, list: &'a [Calc]) -> ExprView<'a>
         requires within { count_in self ≤ length list.now }
         requires few { count_in self ≤ most_atoms }
-        ensures { result ≡ expression_in self list.now }
+        ensures value { expression_seen result ≡ expression_in self list.now }
+        ensures short { IsShort result }
     {
         match self {
-            Outline::Whole(x) => Expr::Whole(x),
-            Outline::Tuple(n) => match Calcs::of(&list[..n as usize]) {
-                Some(calcs) => Expr::Tuple(calcs),
-                None => unreachable!(),
-            },
+            Outline::Whole(x) => ExprView::Whole(x),
+            Outline::Tuple(n) => ExprView::Tuple(&list[..n as usize]),
         }
     }
 }
@@ -100,28 +101,30 @@ impl Form {
     }
 
     // The node whose calculations stand first in the list.
-    fn node(self, list: &[Calc]) -> Node
+    #[inline(always)]
+    fn lend<'a>(self, list: &'a [Calc]) -> NodeView<'a>
         requires within { needed self ≤ length list.now }
         requires few { IsFew self }
-        ensures { result ≡ node_in self list.now }
+        ensures value { node_seen result ≡ node_in self list.now }
+        ensures short { IsShortNode result }
     {
         match self {
-            Form::Always(e) => Node::Always(e.expr(list)),
-            Form::Never => Node::Never,
-            Form::Throw(e) => Node::Throw(e.expr(list)),
+            Form::Always(e) => NodeView::Always(e.lend(list)),
+            Form::Never => NodeView::Never,
+            Form::Throw(e) => NodeView::Throw(e.lend(list)),
             Form::Send(e) => match list {
-                [channel, rest @ ..] => Node::Send(primitive(channel), e.expr(rest)),
+                [channel, rest @ ..] => NodeView::Send(primitive(channel), e.lend(rest)),
                 [] => unreachable!(),
             },
             Form::Recv => match list {
-                [channel, ..] => Node::Recv(primitive(channel)),
+                [channel, ..] => NodeView::Recv(primitive(channel)),
                 [] => unreachable!(),
             },
-            Form::Then(a, b) => Node::Then(a, b),
-            Form::Choose(a, b) => Node::Choose(a, b),
-            Form::Catch(a, b) => Node::Catch(a, b),
+            Form::Then(a, b) => NodeView::Then(a, b),
+            Form::Choose(a, b) => NodeView::Choose(a, b),
+            Form::Catch(a, b) => NodeView::Catch(a, b),
             Form::If(test, a, b) => match list {
-                [left, right, ..] => Node::If(
+                [left, right, ..] => NodeView::If(
                     Cond {
                         test,
                         left: primitive(left),
@@ -132,7 +135,7 @@ impl Form {
                 ),
                 _ => unreachable!(),
             },
-            Form::Fresh => Node::Fresh,
+            Form::Fresh => NodeView::Fresh,
         }
     }
 }
@@ -145,11 +148,13 @@ pub(crate) struct Slot {
 }
 
 impl Slot {
-    pub(crate) fn node(&self, list: &[Calc]) -> Node
+    #[inline(always)]
+    pub(crate) fn lend<'a>(&self, list: &'a [Calc]) -> NodeView<'a>
         requires { IsWithin list.now self.now }
-        ensures { result ≡ node_of list.now self.now }
+        ensures value { node_seen result ≡ node_of list.now self.now }
+        ensures short { IsShortNode result }
     {
-        self.form.node(behind(list, self.from as usize))
+        self.form.lend(behind(list, self.from as usize))
     }
 }
 

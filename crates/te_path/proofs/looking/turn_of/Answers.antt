@@ -1,23 +1,29 @@
 use Rattle.std.proofs.Common.{Some, Ok, sym, ap, ◌∙◌}
+use Rattle.te_terms.specs.Views.{node_seen}
 use Rattle.te_path.specs.Origins.{origin_of}
 use Rattle.te_path.proofs.NodesLead.{then_enters, catch_enters, true_goes, false_goes, choice_rests_in}
 use Rattle.te_path.proofs.looking.turn_of.Goals as goal
 
 pub returns-in-Ok-true-clause-turns : goal.returns-in-Ok-true-clause-turns
 returns-in-Ok-true-clause-turns c =
-    true_goes (origin_of c.args.posted.now) c.args.cells.now c.args.place c.node.ensures.forest c.requires c.in-If.cond c.in-If.a c.in-If.b (c.node.ensures.is ∙ ap Some c.in-If.is)
+    true_goes (origin_of c.args.posted.now) c.args.cells.now c.args.place c.node.ensures.forest c.requires c.in-If.cond c.in-If.a c.in-If.b
+    (c.node.ensures.is ∙ ap (λ v. Some (node_seen v)) c.in-If.is)
     (sym c.holds_in.ensures ∙ c.in-Ok-true.is ∙ ap Ok c.in-Ok-true.field-0-test)
 
 pub returns-in-Ok-false-clause-turns : goal.returns-in-Ok-false-clause-turns
 returns-in-Ok-false-clause-turns c =
-    false_goes (origin_of c.args.posted.now) c.args.cells.now c.args.place c.node.ensures.forest c.requires c.in-If.cond c.in-If.a c.in-If.b (c.node.ensures.is ∙ ap Some c.in-If.is)
+    false_goes (origin_of c.args.posted.now) c.args.cells.now c.args.place c.node.ensures.forest c.requires c.in-If.cond c.in-If.a c.in-If.b
+    (c.node.ensures.is ∙ ap (λ v. Some (node_seen v)) c.in-If.is)
     (sym c.holds_in.ensures ∙ c.in-Ok-false.is ∙ ap Ok c.in-Ok-false.field-0-test)
 
 pub returns-in-Then-clause-turns : goal.returns-in-Then-clause-turns
-returns-in-Then-clause-turns c = then_enters (origin_of c.args.posted.now) c.args.cells.now c.args.place c.node.ensures.forest c.requires c.in-Then.a c.in-Then.b (c.node.ensures.is ∙ ap Some c.in-Then.is)
+returns-in-Then-clause-turns c = then_enters (origin_of c.args.posted.now) c.args.cells.now c.args.place c.node.ensures.forest c.requires c.in-Then.a
+    c.in-Then.b (c.node.ensures.is ∙ ap (λ v. Some (node_seen v)) c.in-Then.is)
 
 pub returns-in-Catch-clause-turns : goal.returns-in-Catch-clause-turns
-returns-in-Catch-clause-turns c = catch_enters (origin_of c.args.posted.now) c.args.cells.now c.args.place c.node.ensures.forest c.requires c.in-Catch.a c.in-Catch.b (c.node.ensures.is ∙ ap Some c.in-Catch.is)
+returns-in-Catch-clause-turns c = catch_enters (origin_of c.args.posted.now) c.args.cells.now c.args.place c.node.ensures.forest c.requires
+    c.in-Catch.a c.in-Catch.b (c.node.ensures.is ∙ ap (λ v. Some (node_seen v)) c.in-Catch.is)
 
 pub returns-in-Choose-clause-turns : goal.returns-in-Choose-clause-turns
-returns-in-Choose-clause-turns c = choice_rests_in (origin_of c.args.posted.now) c.args.cells.now c.args.place c.node.ensures.forest c.requires c.in-Choose.field-0 c.in-Choose.field-1 (c.node.ensures.is ∙ ap Some c.in-Choose.is)
+returns-in-Choose-clause-turns c = choice_rests_in (origin_of c.args.posted.now) c.args.cells.now c.args.place c.node.ensures.forest c.requires
+    c.in-Choose.field-0 c.in-Choose.field-1 (c.node.ensures.is ∙ ap (λ v. Some (node_seen v)) c.in-Choose.is)

@@ -17,7 +17,8 @@ all-preserved c =
       place = on.0;
       alike = alike_on start here _ c.all.invariant.alike (alike_on here down _ c.in_ok-down.ensures.ok.alike on.1);
       kept = subst (Keeps c.all.spot c.arrive.new.spot) c.in-To.is c.in_ok-next.ensures.kept ∙ c.all.invariant.kept;
-      grows = grows_on c.args.cells.now c.all.cells c.arrive.new.cells c.all.invariant.grows (grows_on c.all.cells c.descend.new.cells c.arrive.new.cells c.descend.ensures.grows c.arrive.ensures.grows);
+      grows = grows_on c.args.cells.now c.all.cells c.arrive.new.cells c.all.invariant.grows (grows_on c.all.cells c.descend.new.cells
+          c.arrive.new.cells c.descend.ensures.grows c.arrive.ensures.grows);
     }
 
 pub returns-in-At-clause-alike : goal.returns-in-At-clause-alike

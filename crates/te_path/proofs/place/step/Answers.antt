@@ -28,10 +28,13 @@ fresh_value-requires c = room_for_one (origin_of c.args.posted.now) c.args.cells
 pub end-requires-in-Fresh-clause-few : goal.end-requires-in-Fresh-clause-few
 end-requires-in-Fresh-clause-few c =
     few_ending (origin_of c.args.posted.now) c.args.cells.now c.args.place c.requires (c.args.place.count + 1) (Gives c.fresh_value.result)
-    (makes (origin_of c.args.posted.now) c.args.cells.now c.args.place c.requires c.in-Fresh.ensures.leads c.fresh_value.result (c.args.place.count + 1) c.fresh_value.ensures (add-one c.args.place.count))
+    (makes (origin_of c.args.posted.now) c.args.cells.now c.args.place c.requires c.in-Fresh.ensures.leads c.fresh_value.result
+    (c.args.place.count + 1) c.fresh_value.ensures (add-one c.args.place.count))
 
 pub returns-in-Fresh-clause-ok : goal.returns-in-Fresh-clause-ok
 returns-in-Fresh-clause-ok c =
-    ends (origin_of c.args.posted.now) c.args.cells.now c.args.place c.requires (ending_in (origin_of c.args.posted.now) c.args.cells.now (c.args.place.count + 1) c.args.place.frames (Gives c.fresh_value.result))
+    ends (origin_of c.args.posted.now) c.args.cells.now c.args.place c.requires (ending_in (origin_of c.args.posted.now) c.args.cells.now
+    (c.args.place.count + 1) c.args.place.frames (Gives c.fresh_value.result))
     c.end-in-Fresh.new.cells c.end-in-Fresh.new.spot c.end-in-Fresh.result
-    (makes (origin_of c.args.posted.now) c.args.cells.now c.args.place c.requires c.in-Fresh.ensures.leads c.fresh_value.result (c.args.place.count + 1) c.fresh_value.ensures (add-one c.args.place.count)) c.end-in-Fresh.ensures.ok
+    (makes (origin_of c.args.posted.now) c.args.cells.now c.args.place c.requires c.in-Fresh.ensures.leads c.fresh_value.result
+    (c.args.place.count + 1) c.fresh_value.ensures (add-one c.args.place.count)) c.end-in-Fresh.ensures.ok

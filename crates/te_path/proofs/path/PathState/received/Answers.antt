@@ -14,4 +14,5 @@ invariant_of-self c =
 pub returns-clause-err : goal.returns-clause-err
 returns-clause-err c =
     let o : Origin = record { code = c.self.inside.code.value; regs = c.self.inside.regs; thread = c.self.inside.thread; ticket = c.self.inside.ticket } in
-    same_after c.received.result o c.self.inside.cells c.received.new.self c.self.inside.spot c.received.new.spot c.received.ensures.grows c.self.invariant c.args.self.now c.self.view_is c.received.ensures.err
+    same_after c.received.result o c.self.inside.cells c.received.new.self c.self.inside.spot c.received.new.spot c.received.ensures.grows
+    c.self.invariant c.args.self.now c.self.view_is c.received.ensures.err

@@ -9,7 +9,8 @@ use Rattle.te_terms.proofs.event.Event.weight.Goals as goal
 
 pub returns-clause-value : goal.returns-clause-value
 returns-clause-value c =
-    c.weight.ensures.value ∙ ap (λ code. weight (term_under code c.self.inside.root)) c.deref.ensures ∙ sym (weight-replaced (registers_to c.self.inside.regs) (term_under c.self.inside.code.value c.self.inside.root)) ∙ ap weight c.self.view_is
+    c.weight.ensures.value ∙ ap (λ code. weight (term_under code c.self.inside.root)) c.deref.ensures ∙ sym
+    (weight-replaced (registers_to c.self.inside.regs) (term_under c.self.inside.code.value c.self.inside.root)) ∙ ap weight c.self.view_is
 
 pub returns-clause-limits : goal.returns-clause-limits
 returns-clause-limits c =

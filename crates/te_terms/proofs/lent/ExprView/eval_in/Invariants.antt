@@ -1,6 +1,6 @@
 use Rattle.std.proofs.Common.{◌≡◌, length, drop}
 use Rattle.te_terms.proofs.Evaluating.{behind, atoms_of}
-use Rattle.te_terms.proofs.expr.Expr.eval_in.Given as goal
+use Rattle.te_terms.proofs.lent.ExprView.eval_in.Given as goal
 
 abbrev pub invariant-loop-calc : goal.invariant-loop-calc
 invariant-loop-calc g l = record {
