@@ -59,7 +59,8 @@ with_ends go l letters s (Some e) None still left right more = stays s (l ∷ le
 letters_end : (i : ℕ) (m : Member) (letters : List Bool) → Ends (by_letters i m letters)
 letters_end i m [] = without_ends i (settled m) (after_choice true (settled m).term) (after_choice false (settled m).term) (settled_is_settled m) refl refl
 letters_end i m (l ∷ letters) =
-    with_ends (λ n. by_letters i n letters) l letters (settled m) (after_choice true (settled m).term) (after_choice false (settled m).term) (settled_is_settled m) refl refl (λ n. letters_end i n letters)
+    with_ends (λ n. by_letters i n letters) l letters (settled m) (after_choice true (settled m).term) (after_choice false (settled m).term)
+    (settled_is_settled m) refl refl (λ n. letters_end i n letters)
 
 pub advance_ends : (i : ℕ) (p : Player) (a : Advance) → advanced i p ≡ Ok a → HasEnded a.player.member
 advance_ends i p a e = letters_end i p.member p.letters a (sym (advanced_is i p) ∙ e)

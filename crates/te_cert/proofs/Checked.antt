@@ -52,7 +52,8 @@ starts_are (m ∷ ms) [] = refl
 starts_are (m ∷ ms) (l ∷ ls) = ap (λ ps. start_of (entering m l) ∷ ps) (starts_are ms ls)
 
 -- parts that are the same make the same certificate
-pub same_certificate : (ms ns : List Member) (mts nts : List Meeting) (cert : Certificate) → ms ≡ ns → mts ≡ nts → record { members = ns; meets = nts } ≡ cert → record { members = ms; meets = mts } ≡ cert
+pub same_certificate : (ms ns : List Member) (mts nts : List Meeting) (cert : Certificate) → ms ≡ ns → mts ≡ nts
+    → record { members = ns; meets = nts } ≡ cert → record { members = ms; meets = mts } ≡ cert
 same_certificate ms ns mts nts cert members meets is = rw (members, meets) is
 
 module _ (ms : List Member) (mts : List Meeting) (ls : List Lent) where
@@ -60,7 +61,8 @@ module _ (ms : List Member) (mts : List Meeting) (ls : List Lent) where
   cert = record { members = ms; meets = mts }
 
   played_so : played cert (lent_terms ls) ≡ played_by (all_entering ms ls) mts
-  played_so = ap (λ ps. all_advanced 0 ps >>= λ start. all_meet 0 mts (record { players = start.players; word = start.word }) >>= λ last. endings 0 last.players >>= λ os. Ok (record { outcomes = os; word = last.word })) (starts_are ms ls)
+  played_so = ap (λ ps. all_advanced 0 ps >>= λ start. all_meet 0 mts (record { players = start.players; word = start.word }) >>= λ last.
+      endings 0 last.players >>= λ os. Ok (record { outcomes = os; word = last.word })) (starts_are ms ls)
 
   pub checked_play : IsFormed cert → (r : Result (List Outcome) CertFault) → PlaysTo (played_by (all_entering ms ls) mts) r → IsChecked cert (lent_terms ls) r
   checked_play formed (Ok os) plays = (formed, record { word = plays.0; plays = played_so ∙ plays.1 })

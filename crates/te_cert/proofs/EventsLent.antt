@@ -9,7 +9,8 @@ terms_behind : (ls : List Lent) (l : Lent) → lent_terms (ls ++ l ∷ []) ≡ l
 terms_behind [] l = refl
 terms_behind (k ∷ ls) l = ap (λ ts. lent_term k ∷ ts) (terms_behind ls l)
 
-pub terms_more : (ls : List Lent) (l : Lent) (es : List Term) (i : ℕ) (e : Term) → i < length es → e ≡ get_or es i e → lent_terms ls ≡ take i es → lent_term l ≡ e → lent_terms (ls ++ l ∷ []) ≡ take (i + 1) es
+pub terms_more : (ls : List Lent) (l : Lent) (es : List Term) (i : ℕ) (e : Term) → i < length es → e ≡ get_or es i e → lent_terms ls ≡ take i es
+    → lent_term l ≡ e → lent_terms (ls ++ l ∷ []) ≡ take (i + 1) es
 terms_more ls l es i e within is so_far one =
     terms_behind ls l ∙ ap (λ ts. ts ++ lent_term l ∷ []) so_far ∙ ap (λ t. take i es ++ t ∷ []) (one ∙ is) ∙ sym (take-suc es i e within) ∙ ap (λ k. take k es) (sym (add-one i))
 

@@ -40,7 +40,8 @@ cannot_choose m stops.Dead at other left = (never_is_alone m m.term at).1 left
 standing_turn : (m : Member) → after_choice true m.term ≡ None → turn_at m ≡ stands
 standing_turn m e = ap (λ o. choice_of m o (after_choice false m.term)) e
 
-stand_with : (i : ℕ) (s : Member) (letters : List Bool) (turn : Turn) → turn ≡ stands → settled s ≡ s → turn_at s ≡ turn → by_letters i s letters ≡ Ok (record { player = record { member = s; letters = letters }; word = [] })
+stand_with : (i : ℕ) (s : Member) (letters : List Bool) (turn : Turn) → turn ≡ stands → settled s ≡ s → turn_at s ≡ turn
+    → by_letters i s letters ≡ Ok (record { player = record { member = s; letters = letters }; word = [] })
 stand_with i s [] turn e still is = rw (still, is, e) refl
 stand_with i s (left ∷ letters) turn e still is = rw (still, is, e) refl
 
@@ -113,7 +114,8 @@ comes_to_lack p q as_far still at none i =
     so_far.1 ∙ ap (λ r. with_labels so_far.0 (by_letters i q.member r)) none ∙ ap (with_labels so_far.0) (lacks_letter i q.member still at) ∙ labels_of_err so_far.0 (no_letter i)
 
 -- it goes on by one letter more
-pub goes_on : (p q r : Player) (left : Bool) → AdvancesAs p q → IsSettled q.member → IsChoice q.member.term → q.letters ≡ left ∷ r.letters → StepsTo q.member (after_choice left q.member.term) r.member → AdvancesAs p r
+pub goes_on : (p q r : Player) (left : Bool) → AdvancesAs p q → IsSettled q.member → IsChoice q.member.term → q.letters ≡ left ∷ r.letters
+    → StepsTo q.member (after_choice left q.member.term) r.member → AdvancesAs p r
 goes_on p q r left as_far still at letters to i =
     let so_far = as_far i in (
       so_far.0 ++ choice q.member.thread left ∷ [],

@@ -133,7 +133,8 @@ module _ (j : ℕ) (mt : Meeting) (ps : List Player) (a b : Stop) (sender : Stan
 
       both_go : (last : List Player) → GoesOn mt.receiver v after last → (word : List Label) → BecomesTable (meets j mt (at word)) last
       both_go last got word =
-          let so : advanced mt.receiver (handed v q) ≡ Ok (record { player = got.end; word = got.word }) = ap (λ x. advanced mt.receiver (handed v x)) (sym (one_receiver got.player got.is_there)) ∙ got.advances in
+          let so : advanced mt.receiver (handed v q) ≡ Ok (record { player = got.end; word = got.word }) = ap (λ x. advanced mt.receiver (handed v x))
+          (sym (one_receiver got.player got.is_there)) ∙ got.advances in
           let players : slice_set (slice_set ps mt.sender went.end) mt.receiver got.end ≡ last = sym (got.then_so ∙ ap (λ xs. slice_set xs mt.receiver got.end) went.then_so) in
           (word ++ (meeting p.member.thread q.member.thread ∷ went.word) ++ got.word, they_go word ∙ rw (sender_goes, so, players) refl)
 

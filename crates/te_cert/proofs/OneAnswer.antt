@@ -69,7 +69,8 @@ one_verdict cert events (plays r) disorder a b = absurd (b.1 a.0.order.rise)
 one_verdict cert events (plays r) (astray k) a b = absurd (b.1.astray (a.0.between k b.1.meeting b.1.is_there))
 one_verdict cert events (plays r) (plays s) a b = ap plays (sym a.1 ∙ b.1)
 
-pub one_answer : (cert : Certificate) (events : List Term) (r s : Result (List Outcome) CertFault) → IsChecked cert events r → IsChecked cert events s → (r ≡ s) ⊎ (r ≡ Err faults.Memory) ⊎ (s ≡ Err faults.Memory)
+pub one_answer : (cert : Certificate) (events : List Term) (r s : Result (List Outcome) CertFault) → IsChecked cert events r → IsChecked cert events s
+    → (r ≡ s) ⊎ (r ≡ Err faults.Memory) ⊎ (s ≡ Err faults.Memory)
 one_answer cert events r s a b = elim (decided cert events r a) [
   | inl memory ↦ inr (inl memory)
   | inr first ↦ elim (decided cert events s b) [

@@ -47,12 +47,14 @@ meets_itself = refl
 -- ---- the order of a play
 
 -- a letter that lacks after a meeting
-pub letter_after_meeting : play (come_to 0 0 0 (and_then (send (chan 0) (single 1)) 0 (choose (always (single 2)) (always (single 3)))) ∷ come_to 1 0 0 (recv (chan 0)) ∷ []) two_silent (record { sender = 0; receiver = 1 } ∷ [])
+pub letter_after_meeting : play (come_to 0 0 0 (and_then (send (chan 0) (single 1)) 0 (choose (always (single 2)) (always (single 3)))) ∷ come_to 1 0
+    0 (recv (chan 0)) ∷ []) two_silent (record { sender = 0; receiver = 1 } ∷ [])
     ≡ Err (no_letter 0)
 letter_after_meeting = refl
 
 -- both lack one, and the sender advances before the receiver
-pub sender_advances_first : play (come_to 0 0 0 (and_then (recv (chan 0)) 0 (choose never never)) ∷ come_to 1 0 0 (and_then (send (chan 0) (single 1)) 0 (choose never never)) ∷ []) two_silent (record { sender = 1; receiver = 0 } ∷ [])
+pub sender_advances_first : play (come_to 0 0 0 (and_then (recv (chan 0)) 0 (choose never never)) ∷ come_to 1 0 0 (and_then (send (chan 0) (single 1))
+    0 (choose never never)) ∷ []) two_silent (record { sender = 1; receiver = 0 } ∷ [])
     ≡ Err (no_letter 1)
 sender_advances_first = refl
 

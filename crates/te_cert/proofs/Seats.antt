@@ -26,7 +26,8 @@ comes_from p q r false same letters comes = λ i.
     by_settled i p.member q.member p.letters same ∙ ap (λ ls. by_letters i q.member ls) letters ∙ comes i
 
 -- the step of an end of a meeting
-pub passes_on : {A : Type 0} (v : List Atom) (p q : Player) (o : Option A) → IsSome o → StepsTo p.member (option_map (λ x. with_head (giving v) p.member.term) o) q.member → p.letters ≡ q.letters → PassesOn v p q
+pub passes_on : {A : Type 0} (v : List Atom) (p q : Player) (o : Option A) → IsSome o
+    → StepsTo p.member (option_map (λ x. with_head (giving v) p.member.term) o) q.member → p.letters ≡ q.letters → PassesOn v p q
 passes_on v p q None some to letters = absurd cc
 passes_on v p q (Some x) some to letters =
     let same : to.next ≡ with_head (giving v) p.member.term = let both : Some (with_head (giving v) p.member.term) ≡ Some to.next = to.steps in cc in
@@ -52,7 +53,8 @@ seated_so i e q cells k is letters comes seat =
     let there = starts e q (seat_of cells e k) true is letters comes i in
     record { word = there.0; advances = advanced_is i (start_of e) ∙ there.1; seat = seat }
 
-pub takes_seat : (i : ℕ) (e : Entering) (q : Player) (cells : Cells) (k : Seat) (before after : List Seat) → q.member ≡ settled (start_of e).member → q.letters ≡ e.letters → Comes q true (seat_of cells e k) → IsSeat cells e k →
+pub takes_seat : (i : ℕ) (e : Entering) (q : Player) (cells : Cells) (k : Seat) (before after : List Seat) → q.member ≡ settled (start_of e).member
+    → q.letters ≡ e.letters → Comes q true (seat_of cells e k) → IsSeat cells e k →
     after ≡ before ++ k ∷ [] → TakesSeat i e cells before after
 takes_seat i e q cells k before after is letters comes seat put = record { seat = k; seated = seated_so i e q cells k is letters comes seat; put = put }
 

@@ -59,7 +59,8 @@ is_seat cells (d ∷ es) (l ∷ ks) zero e k seated p q =
     rw (← a, ← b) seated.0
 is_seat cells (d ∷ es) (l ∷ ks) (suc i) e k seated p q = is_seat cells es ks i e k seated.1 p q
 
-pub seat_there : (cells : Cells) (es : List Entering) (ks : List Seat) (i : ℕ) (e : Entering) (k : Seat) → slice_get es i ≡ Some e → slice_get ks i ≡ Some k → slice_get (seats_of cells es ks) i ≡ Some (seat_of cells e k)
+pub seat_there : (cells : Cells) (es : List Entering) (ks : List Seat) (i : ℕ) (e : Entering) (k : Seat) → slice_get es i ≡ Some e
+    → slice_get ks i ≡ Some k → slice_get (seats_of cells es ks) i ≡ Some (seat_of cells e k)
 seat_there cells [] ks i e k p q = absurd cc
 seat_there cells (d ∷ es) [] i e k p q = absurd cc
 seat_there cells (d ∷ es) (l ∷ ks) zero e k p q =
@@ -68,13 +69,15 @@ seat_there cells (d ∷ es) (l ∷ ks) zero e k p q =
     rw (a, b) refl
 seat_there cells (d ∷ es) (l ∷ ks) (suc i) e k p q = seat_there cells es ks i e k p q
 
-pub still_seated : (cells : Cells) (es : List Entering) (ks : List Seat) (i : ℕ) (e : Entering) (k : Seat) → AreSeated cells es ks → slice_get es i ≡ Some e → IsSeat cells e k → AreSeated cells es (slice_set ks i k)
+pub still_seated : (cells : Cells) (es : List Entering) (ks : List Seat) (i : ℕ) (e : Entering) (k : Seat) → AreSeated cells es ks
+    → slice_get es i ≡ Some e → IsSeat cells e k → AreSeated cells es (slice_set ks i k)
 still_seated cells [] ks i e k seated p seat = absurd cc
 still_seated cells (d ∷ es) [] i e k seated p seat = absurd seated
 still_seated cells (d ∷ es) (l ∷ ks) zero e k seated p seat = let a : d ≡ e = cc in (rw a seat, seated.1)
 still_seated cells (d ∷ es) (l ∷ ks) (suc i) e k seated p seat = (seated.0, still_seated cells es ks i e k seated.1 p seat)
 
-pub seat_set : (cells : Cells) (es : List Entering) (ks : List Seat) (i : ℕ) (e : Entering) (k : Seat) → slice_get es i ≡ Some e → seats_of cells es (slice_set ks i k) ≡ slice_set (seats_of cells es ks) i (seat_of cells e k)
+pub seat_set : (cells : Cells) (es : List Entering) (ks : List Seat) (i : ℕ) (e : Entering) (k : Seat) → slice_get es i ≡ Some e
+    → seats_of cells es (slice_set ks i k) ≡ slice_set (seats_of cells es ks) i (seat_of cells e k)
 seat_set cells [] ks i e k p = absurd cc
 seat_set cells (d ∷ es) [] i e k p = refl
 seat_set cells (d ∷ es) (l ∷ ks) zero e k p = let a : d ≡ e = cc in rw a refl
@@ -88,7 +91,8 @@ read_again old new read len many same is = is ∙ ap (λ n. take n (new ++ drop 
 pub has_seat : (cells : Cells) (ms : List Member) (ls : List Lent) (ks : List Seat) (i : ℕ) → length ms ≡ length ls → AreSeated cells (all_entering ms ls) ks → i < length ms → i < length ks
 has_seat cells ms ls ks i many seated within = omega (arith, within, as_many_enter ms ls many, as_many_seats cells (all_entering ms ls) ks seated)
 
-pub seat_read : (cells : Cells) (ms : List Member) (ls : List Lent) (ks : List Seat) (i : ℕ) (k : Seat) → length ms ≡ length ls → AreSeated cells (all_entering ms ls) ks → i < length ms → k ≡ get_or ks i k → slice_get ks i ≡ Some k
+pub seat_read : (cells : Cells) (ms : List Member) (ls : List Lent) (ks : List Seat) (i : ℕ) (k : Seat) → length ms ≡ length ls
+    → AreSeated cells (all_entering ms ls) ks → i < length ms → k ≡ get_or ks i k → slice_get ks i ≡ Some k
 seat_read cells ms ls ks i k many seated within is = found_here ks i k (has_seat cells ms ls ks i many seated within) is
 
 -- ---- cells put behind the others
@@ -117,7 +121,8 @@ pub record Standing (ps : List Player) (i : ℕ) (stop : Stop) : Type 0 where
   pub is_there : slice_get ps i ≡ Some player
   pub stands : StandsAt player.member.term stop
 
-pub standing : (cells : Cells) (ms : List Member) (ls : List Lent) (ks : List Seat) (i : ℕ) (k : Seat) → length ms ≡ length ls → AreSeated cells (all_entering ms ls) ks → i < length ms → k ≡ get_or ks i k →
+pub standing : (cells : Cells) (ms : List Member) (ls : List Lent) (ks : List Seat) (i : ℕ) (k : Seat) → length ms ≡ length ls
+    → AreSeated cells (all_entering ms ls) ks → i < length ms → k ≡ get_or ks i k →
     Standing (seats_of cells (all_entering ms ls) ks) i k.spot.stop
 standing cells ms ls ks i k many seated within is =
     let here = seat_read cells ms ls ks i k many seated within is in
@@ -130,7 +135,8 @@ standing cells ms ls ks i k many seated within is =
 
 -- ---- one member goes on from an end of a meeting
 
-module _ (old new : Cells) (es : List Entering) (ks : List Seat) (i : ℕ) (e : Entering) (k : Seat) (v : List Atom) (seated : AreSeated old es ks) (e_is : slice_get es i ≡ Some e) (k_is : slice_get ks i ≡ Some k) where
+module _ (old new : Cells) (es : List Entering) (ks : List Seat) (i : ℕ) (e : Entering) (k : Seat) (v : List Atom) (seated : AreSeated old es ks)
+    (e_is : slice_get es i ≡ Some e) (k_is : slice_get ks i ≡ Some k) where
   pub went_on : (end : Seat) → Grows old new → Comes (handed v (seat_of old e k)) true (seat_of new e end) → GoesOn i v (seats_of old es ks) (seats_of new es (slice_set ks i end))
   went_on end grows comes =
       let there = comes i in

@@ -56,7 +56,8 @@ seated_more cells (d ∷ es) (l ∷ ks) e k at seat = (at.0, seated_more cells e
 seated_more cells [] (l ∷ ks) e k at seat = absurd at
 seated_more cells (d ∷ es) [] e k at seat = absurd at
 
-seats_more : (cells : Cells) (es : List Entering) (ks : List Seat) (e : Entering) (k : Seat) → AreSeated cells es ks → seats_of cells (es ++ e ∷ []) (ks ++ k ∷ []) ≡ seats_of cells es ks ++ seat_of cells e k ∷ []
+seats_more : (cells : Cells) (es : List Entering) (ks : List Seat) (e : Entering) (k : Seat) → AreSeated cells es ks
+    → seats_of cells (es ++ e ∷ []) (ks ++ k ∷ []) ≡ seats_of cells es ks ++ seat_of cells e k ∷ []
 seats_more cells [] [] e k at = refl
 seats_more cells (d ∷ es) (l ∷ ks) e k at = ap (λ ps. seat_of cells d l ∷ ps) (seats_more cells es ks e k at.1)
 seats_more cells [] (l ∷ ks) e k at = absurd at
@@ -71,7 +72,8 @@ pub record HaveAdvanced (cells : Cells) (es : List Entering) (ks : List Seat) (i
 pub advanced_none : (cells : Cells) (es : List Entering) → HaveAdvanced cells es [] 0
 advanced_none cells es = record { seated = tt; word = []; so_far = sym (none_before (all_advanced 0 (starts_of es))) }
 
-pub advanced_more : (old new : Cells) (es : List Entering) (ks : List Seat) (i : ℕ) (e : Entering) (k : Seat) → slice_get es i ≡ Some e → Grows old new → HaveAdvanced old es ks i → IsSeatedAt i e new k →
+pub advanced_more : (old new : Cells) (es : List Entering) (ks : List Seat) (i : ℕ) (e : Entering) (k : Seat) → slice_get es i ≡ Some e
+    → Grows old new → HaveAdvanced old es ks i → IsSeatedAt i e new k →
     HaveAdvanced new es (ks ++ k ∷ []) (i + 1)
 advanced_more old new es ks i e k e_is grows have at =
     let old_seated : AreSeated new (take i es) ks = seated_stay old new (take i es) ks grows have.seated in
@@ -88,7 +90,8 @@ advanced_more old new es ks i e k e_is grows have at =
           ∙ ap (λ ps. players_before ps (have.word ++ at.word) (all_advanced (suc i) (starts_of (drop (suc i) es)))) seats;
     })
 
-pub advances_fail : (cells : Cells) (es : List Entering) (ks : List Seat) (i : ℕ) (e : Entering) (fault : CertFault) → slice_get es i ≡ Some e → HaveAdvanced cells es ks i → TellsFault (advanced i (start_of e)) fault →
+pub advances_fail : (cells : Cells) (es : List Entering) (ks : List Seat) (i : ℕ) (e : Entering) (fault : CertFault) → slice_get es i ≡ Some e
+    → HaveAdvanced cells es ks i → TellsFault (advanced i (start_of e)) fault →
     TellsFault (all_advanced 0 (starts_of es)) fault
 advances_fail cells es ks i e fault e_is have fails =
     rw (have.so_far, from_here es i e e_is) (advance_fails i (seats_of cells (take i es) ks) have.word e (drop (suc i) es) fault fails)
@@ -114,11 +117,13 @@ meet_fails j mt mts t fault (inr failed) = inr (failed.0, rw failed.1 refl, fail
 here : (mts : List Meeting) (j : ℕ) (d : Meeting) → j < length mts → drop j mts ≡ get_or mts j d ∷ drop (j + 1) mts
 here mts j d within = drop-cons mts j d within ∙ ap (λ k. get_or mts j d ∷ drop k mts) (sym (add-one j))
 
-pub meets_on : (mts : List Meeting) (j : ℕ) (d : Meeting) (t u : Table) (r : Result Table PlayFault) → j < length mts → r ≡ all_meet j (drop j mts) t → meets j (get_or mts j d) t ≡ Ok u → r ≡ all_meet (j + 1) (drop (j + 1) mts) u
+pub meets_on : (mts : List Meeting) (j : ℕ) (d : Meeting) (t u : Table) (r : Result Table PlayFault) → j < length mts → r ≡ all_meet j (drop j mts) t
+    → meets j (get_or mts j d) t ≡ Ok u → r ≡ all_meet (j + 1) (drop (j + 1) mts) u
 meets_on mts j d t u r within so_far met =
     so_far ∙ ap (λ ms. all_meet j ms t) (here mts j d within) ∙ meet_on j (get_or mts j d) (drop (j + 1) mts) t u met ∙ ap (λ k. all_meet k (drop (j + 1) mts) u) (sym (add-one j))
 
-pub meets_fail : (mts : List Meeting) (j : ℕ) (d : Meeting) (t : Table) (r : Result Table PlayFault) (fault : CertFault) → j < length mts → r ≡ all_meet j (drop j mts) t → TellsFault (meets j (get_or mts j d) t) fault → TellsFault r fault
+pub meets_fail : (mts : List Meeting) (j : ℕ) (d : Meeting) (t : Table) (r : Result Table PlayFault) (fault : CertFault) → j < length mts
+    → r ≡ all_meet j (drop j mts) t → TellsFault (meets j (get_or mts j d) t) fault → TellsFault r fault
 meets_fail mts j d t r fault within so_far fails = rw (so_far, here mts j d within) (meet_fails j (get_or mts j d) (drop (j + 1) mts) t fault fails)
 
 -- ---- all end
@@ -143,12 +148,14 @@ tells_err : {A : Type 0} (r : Result A PlayFault) (fault : CertFault) → Tells 
 tells_err (Ok y) fault told = absurd cc
 tells_err (Err f) fault told = let same : fault ≡ _ = cc in inr (f, refl, same)
 
-ends_badly : (i : ℕ) (os : List Outcome) (p : Player) (ps : List Player) (fault : CertFault) → TellsFault (ending i (outcome_of p.member.term) p.letters) fault → TellsFault (outcomes_before os (endings i (p ∷ ps))) fault
+ends_badly : (i : ℕ) (os : List Outcome) (p : Player) (ps : List Player) (fault : CertFault)
+    → TellsFault (ending i (outcome_of p.member.term) p.letters) fault → TellsFault (outcomes_before os (endings i (p ∷ ps))) fault
 ends_badly i os p ps fault (inl memory) = inl memory
 ends_badly i os p ps fault (inr failed) = inr (failed.0, rw failed.1 refl, failed.2)
 
 -- the last loop: one member more
-module _ (cells : Cells) (es : List Entering) (ks : List Seat) (os : List Outcome) (i : ℕ) (e : Entering) (k : Seat) (r : Result (List Outcome) PlayFault) (e_is : slice_get es i ≡ Some e) (k_is : slice_get ks i ≡ Some k)
+module _ (cells : Cells) (es : List Entering) (ks : List Seat) (os : List Outcome) (i : ℕ) (e : Entering) (k : Seat) (r : Result (List Outcome)
+    PlayFault) (e_is : slice_get es i ≡ Some e) (k_is : slice_get ks i ≡ Some k)
     (so_far : r ≡ outcomes_before os (endings i (seats_of cells (drop i es) (drop i ks)))) where
   here_so : r ≡ outcomes_before os (endings i (seat_of cells e k ∷ seats_of cells (drop (suc i) es) (drop (suc i) ks)))
   here_so =
@@ -166,7 +173,8 @@ module _ (cells : Cells) (es : List Entering) (ks : List Seat) (os : List Outcom
   pub ended_fails : (fault : CertFault) → Tells (ending i (outcome_of (seat_of cells e k).member.term) (seat_of cells e k).letters) (Err fault) → TellsFault r fault
   ended_fails fault told =
       rw here_so
-      (ends_badly i os (seat_of cells e k) (seats_of cells (drop (suc i) es) (drop (suc i) ks)) fault (tells_err (ending i (outcome_of (seat_of cells e k).member.term) (seat_of cells e k).letters) fault told))
+      (ends_badly i os (seat_of cells e k) (seats_of cells (drop (suc i) es) (drop (suc i) ks)) fault
+      (tells_err (ending i (outcome_of (seat_of cells e k).member.term) (seat_of cells e k).letters) fault told))
 
 -- with none left
 pub all_ended : (cells : Cells) (es : List Entering) (ks : List Seat) (os : List Outcome) (i : ℕ) → length es ≤ i →

@@ -22,18 +22,25 @@ pub fn plays_reduce()
 
 /// A group that reduces plays by the certificate of its labels, to the same outcomes.
 pub fn reductions_play()
-    ensures { (group : List Member) (word : List Label) (outcomes : List Outcome) → IsGroup group → Reduces group word outcomes → (played : List Label) × (play group (choices_of group word) (meetings_of group word) ≡ Ok (record { outcomes = outcomes; word = played })) }
+    ensures { (group : List Member) (word : List Label) (outcomes : List Outcome) → IsGroup group
+        → Reduces group word outcomes → (played : List Label)
+        × (play group (choices_of group word) (meetings_of group word) ≡ Ok
+        (record { outcomes = outcomes; word = played })) }
 {}
 
 /// But for want of memory, a check accepts each certificate with members, their threads rising, whose play gives
 /// outcomes, and answers these.
 pub fn checks_accept()
-    ensures { (cert : Certificate) (events : List Term) (outcomes : List Outcome) (answer : Result (List Outcome) CertFault) → length cert.members ≡ length events → IsChecked cert events answer → HasOrder cert → Gives cert events outcomes → (answer ≡ Ok outcomes) ⊎ (answer ≡ Err Memory) }
+    ensures { (cert : Certificate) (events : List Term) (outcomes : List Outcome) (answer : Result (List Outcome)
+        CertFault) → length cert.members ≡ length events → IsChecked cert events answer → HasOrder cert
+        → Gives cert events outcomes → (answer ≡ Ok outcomes) ⊎ (answer ≡ Err Memory) }
 {}
 
 /// But for want of memory, two checks of one certificate on the same events have one answer.
 pub fn checks_are_one()
-    ensures { (cert : Certificate) (events : List Term) (answer other : Result (List Outcome) CertFault) → IsChecked cert events answer → IsChecked cert events other → (answer ≡ other) ⊎ (answer ≡ Err Memory) ⊎ (other ≡ Err Memory) }
+    ensures { (cert : Certificate) (events : List Term) (answer other : Result (List Outcome) CertFault)
+        → IsChecked cert events answer → IsChecked cert events other → (answer ≡ other) ⊎ (answer ≡ Err Memory)
+        ⊎ (other ≡ Err Memory) }
 {}
 
 /// An advance ends where no quiet step is left and there is no choice: where the member is final, or stands at a

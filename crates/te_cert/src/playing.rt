@@ -98,7 +98,9 @@ pub(crate) fn meet_all(
     requires few { length meetings.now < 2 ^ 32 }
     ensures grows { Grows cells.old cells.new }
     ensures seated { OnOk result (AreSeated cells.new (of_group group.now) seats.new) }
-    ensures ok { OnOk result ((word : List Label) → BecomesTable (all_meet 0 meetings.now (table_of cells.old (of_group group.now) seats.old word)) (seats_of cells.new (of_group group.now) seats.new)) }
+    ensures ok { OnOk result ((word : List Label)
+        → BecomesTable (all_meet 0 meetings.now (table_of cells.old (of_group group.now) seats.old word))
+        (seats_of cells.new (of_group group.now) seats.new)) }
     ensures err { IfErr result (λ e. (word : List Label) → TellsFault (all_meet 0 meetings.now (table_of cells.old (of_group group.now) seats.old word)) e) }
 {
     for j in 0..meetings.len() {

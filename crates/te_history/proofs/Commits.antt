@@ -82,7 +82,8 @@ touch_among t (m ∷ ms) (g ∷ gs) (o ∷ os) s rise events many =
         (is_named t m (Some o) (given_among t m.ticket ms os) same ∙ ap (λ (xs : List (Option Outcome)). Some o ∷ xs) (rest.1 m.ticket))
         (λ other apart. other_ticket t other m (Some o) (given_among t other ms os) same apart ∙ rest.1 other)
 
-    tail : m.thread ≢ t → Touch t ms os (with_standing m.thread (given m.ticket o) s) (with_given ms os (with_standing m.thread (given m.ticket o) s)) → Touch t (m ∷ ms) (o ∷ os) s (with_given ms os (with_standing m.thread (given m.ticket o) s))
+    tail : m.thread ≢ t → Touch t ms os (with_standing m.thread (given m.ticket o) s) (with_given ms os (with_standing m.thread (given m.ticket o) s))
+        → Touch t (m ∷ ms) (o ∷ os) s (with_given ms os (with_standing m.thread (given m.ticket o) s))
     tail apart (untouched same none) =
         untouched (same ∙ stands_other s m.thread t (given m.ticket o) apart)
         (λ ticket. not_named t ticket m (Some o) (given_among t ticket ms os) apart ∙ none ticket)

@@ -43,7 +43,9 @@ same_after : (callers : ℕ) (h : List Entry) (t : ℕ) (e : Entry) → IsOnce c
 same_after callers h t e once none park give take = record {
   fresh = λ ticket high. let more = counted_above (is_post_by t e) (posts_by t h) in same ticket [] (once.fresh ticket (omega (arith, counts, more)));
   parked_so = λ ticket event stands. by_post ticket event (park ticket event (subst (λ (s : State). Stands s t (parked ticket event)) (state-after callers h e) stands));
-  given_so = λ ticket outcome stands. higher ticket outcome (once.given_so ticket outcome (give ticket outcome (subst (λ (s : State). Stands s t (given ticket outcome)) (state-after callers h e) stands)));
+  given_so = λ ticket outcome stands.
+      higher ticket outcome (once.given_so ticket outcome (give ticket outcome (subst (λ (s : State). Stands s t (given ticket outcome))
+      (state-after callers h e) stands)));
   taken_so = λ ticket outcome k is. by_place ticket outcome k (in_longer h k (Take t ticket outcome) e is);
 }
   where

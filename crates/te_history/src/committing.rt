@@ -12,7 +12,21 @@ ghost use Rattle.te_history.specs.declared.status.Status.{Status as Stance};
 ghost use Rattle.te_history.specs.declared.status.Status.TheVariants.{Parked};
 ghost use Rattle.te_history.specs.Histories.{now, HasStatus};
 ghost use Rattle.te_history.specs.Follows.{Commits};
-ghost use Rattle.te_history.specs.Refusals.{AreCallers, AreAllParked, AreParked, IsFirstStranger, IsFirstStale, IsFirstOther, CanPlay, IsPlayed, RefusesMembers, RefusesPlay, RefusesCommit, IsUnordered, IsUnsound};
+ghost use Rattle.te_history.specs.Refusals.{
+  AreCallers,
+  AreAllParked,
+  AreParked,
+  IsFirstStranger,
+  IsFirstStale,
+  IsFirstOther,
+  CanPlay,
+  IsPlayed,
+  RefusesMembers,
+  RefusesPlay,
+  RefusesCommit,
+  IsUnordered,
+  IsUnsound,
+};
 
 use crate::entry::StepFault;
 use crate::history::Hist;

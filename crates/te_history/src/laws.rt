@@ -17,8 +17,14 @@ ghost use Rattle.te_history.specs.Room.{room, claimed, freed};
 /// The number of entries and the reserved room together rise by a post alone, and by 3. The reserved room is how many
 /// entries the callers may still need; it is this project's own.
 pub fn posts_alone_raise_room()
-    ensures others { (callers : ℕ) (history : List Entry) (e : Entry) → LooselyFollows callers history e → ((by ticket : ℕ) (event : Term) → e ≢ Post by ticket event) → length (history ++ e ∷ []) + room (state callers (history ++ e ∷ [])) ≤ length history + room (state callers history) }
-    ensures posts { (callers : ℕ) (history : List Entry) (by ticket : ℕ) (event : Term) → LooselyFollows callers history (Post by ticket event) → length (history ++ Post by ticket event ∷ []) + room (state callers (history ++ Post by ticket event ∷ [])) ≡ length history + room (state callers history) + 3 }
+    ensures others { (callers : ℕ) (history : List Entry) (e : Entry) → LooselyFollows callers history e
+        → ((by ticket : ℕ) (event : Term) → e ≢ Post by ticket event)
+        → length (history ++ e ∷ []) + room (state callers (history ++ e ∷ [])) ≤ length history + room
+        (state callers history) }
+    ensures posts { (callers : ℕ) (history : List Entry) (by ticket : ℕ) (event : Term)
+        → LooselyFollows callers history (Post by ticket event)
+        → length (history ++ Post by ticket event ∷ []) + room (state callers (history ++ Post by ticket event ∷ [])) ≡
+        length history + room (state callers history) + 3 }
 {}
 
 /// Exactly how the reserved room goes by an entry: it rises by what the entry claims, and falls by what it gives back.
@@ -36,9 +42,13 @@ pub fn refusals_are_one()
 /// In a loose history, so in a legal one, a caller and a ticket that was taken, or is given and not yet taken, is named
 /// by exactly one member of exactly one commit, with that outcome; while the caller is parked under the ticket, by none.
 pub fn tickets_are_given_once()
-    ensures taken { (callers : ℕ) (history : List Entry) (t ticket : ℕ) (outcome : Outcome) (k : ℕ) → IsLoose callers history → slice_get history k ≡ Some (Take t ticket outcome) → givings t ticket history ≡ Some outcome ∷ [] }
-    ensures due { (callers : ℕ) (history : List Entry) (t ticket : ℕ) (outcome : Outcome) → IsLoose callers history → Stands (state callers history) t (given ticket outcome) → givings t ticket history ≡ Some outcome ∷ [] }
-    ensures waiting { (callers : ℕ) (history : List Entry) (t ticket : ℕ) (event : Term) → IsLoose callers history → Stands (state callers history) t (parked ticket event) → givings t ticket history ≡ [] }
+    ensures taken { (callers : ℕ) (history : List Entry) (t ticket : ℕ) (outcome : Outcome) (k : ℕ)
+        → IsLoose callers history → slice_get history k ≡ Some (Take t ticket outcome)
+        → givings t ticket history ≡ Some outcome ∷ [] }
+    ensures due { (callers : ℕ) (history : List Entry) (t ticket : ℕ) (outcome : Outcome) → IsLoose callers history
+        → Stands (state callers history) t (given ticket outcome) → givings t ticket history ≡ Some outcome ∷ [] }
+    ensures waiting { (callers : ℕ) (history : List Entry) (t ticket : ℕ) (event : Term) → IsLoose callers history
+        → Stands (state callers history) t (parked ticket event) → givings t ticket history ≡ [] }
 {}
 
 /// A caller that has ended stays so, whatever follows.
@@ -48,7 +58,8 @@ pub fn ended_stays()
 
 /// On a stuck board every caller is parked or has ended.
 pub fn stuck_boards_wait()
-    ensures { (callers : ℕ) (history : List Entry) → IsLoose callers history → (state callers history).stuck ≡ true → (t : ℕ) (standing : Standing) → Stands (state callers history) t standing → IsParkedOrEnded standing }
+    ensures { (callers : ℕ) (history : List Entry) → IsLoose callers history → (state callers history).stuck ≡ true
+        → (t : ℕ) (standing : Standing) → Stands (state callers history) t standing → IsParkedOrEnded standing }
 {}
 
 /// A board is stuck, or resting, exactly where an entry that says so stands in its history.

@@ -16,7 +16,8 @@ use Rattle.te_lock.proofs.OneView.{set_at, each_set}
 use Rattle.te_lock.proofs.Changing.{maker_stays, numbers_stay}
 use Rattle.te_lock.proofs.Looking.{looks_at, half_held}
 
-module _ {V E : Type 0} (entries : V → List E) (members : V → ℕ) (author : E → ℕ) (lawful : ℕ → List E → Type 0) (callers id : ℕ) (me : Me (Option V) (View E)) (k : ℕ) (role : me.0.role ≡ Caller k) (idle : me.0.has_turn ≡ false)
+module _ {V E : Type 0} (entries : V → List E) (members : V → ℕ) (author : E → ℕ) (lawful : ℕ → List E
+    → Type 0) (callers id : ℕ) (me : Me (Option V) (View E)) (k : ℕ) (role : me.0.role ≡ Caller k) (idle : me.0.has_turn ≡ false)
     (s : State (Option V) (View E)) (h : IsKept entries members author lawful callers s) (at : get_elem? s.views id ≡ some me.0) where
   mine : IsSo author callers h.count h.log me.0
   mine = h.views id me.0 at

@@ -67,7 +67,8 @@ module _ {E : Type 0} (author : E → ℕ) where
 
 module _ {V E : Type 0} (entries : V → List E) (members : V → ℕ) (author : E → ℕ) (lawful : ℕ → List E → Type 0) where
   -- where every caller number stands in one view without the turn, the value is at home, and all that the view says is so of its list
-  pub ends : (callers id : ℕ) (v : View E) (s : State (Option V) (View E)) → IsKept entries members author lawful callers s → get_elem? s.views id ≡ some v → v.has_turn ≡ false → ((k : ℕ) → k < callers → Stands k v)
+  pub ends : (callers id : ℕ) (v : View E) (s : State (Option V) (View E)) → IsKept entries members author lawful callers s
+      → get_elem? s.views id ≡ some v → v.has_turn ≡ false → ((k : ℕ) → k < callers → Stands k v)
       → (value : V) × (get_elem? s.homes 0 ≡ some (some (Some value))) × (members value ≡ callers) × lawful callers (entries value) × Sees author (entries value) v
       × ((k : ℕ) → callers ≤ k → entries_by author k (entries value) ≡ [])
   ends callers id v s h at idle everyone =
@@ -100,7 +101,8 @@ pub record IsLast {V E : Type 0} (entries : V → List E) (members : V → ℕ) 
   pub unmade : (k : ℕ) → callers ≤ k → entries_by author k (entries value) ≡ []
 
 module _ {V E : Type 0} (entries : V → List E) (members : V → ℕ) (author : E → ℕ) (lawful : ℕ → List E → Type 0) where
-  pub last_slot : (callers id : ℕ) (v : View E) (words : List ℕ) (slots : List (Option V)) (slot : Option V) → Final (Seen (IsKept entries members author lawful callers) id v) words slots → v.has_turn ≡ false → ((k : ℕ) → k < callers → Stands k v)
+  pub last_slot : (callers id : ℕ) (v : View E) (words : List ℕ) (slots : List (Option V)) (slot : Option V)
+      → Final (Seen (IsKept entries members author lawful callers) id v) words slots → v.has_turn ≡ false → ((k : ℕ) → k < callers → Stands k v)
       → get_elem? slots 0 ≡ some slot → IsLast entries members author lawful callers v slot
   last_slot callers id v words slots slot f idle everyone at =
       let e = ends entries members author lawful callers id v f.0 f.1.0 f.1.1 idle everyone in record {

@@ -68,7 +68,8 @@ module _ {E : Type 0} (views : List (View E)) (id other : ℕ) (v u : View E) (a
           let now = still_there (Stands k) views id v (joined v u) at (stays_joined k v u) was.0 was.1 was.2 was.3 in
           (was.0, now.0, set_else (set views id (joined v u)) other was.0 spent ne ∙ now.1, now.2))
 
-      once : (k i j : ℕ) (x y : View E) → get_elem? (set (set views id (joined v u)) other spent) i ≡ some x → get_elem? (set (set views id (joined v u)) other spent) j ≡ some y → Stands k x → Stands k y → i ≡ j
+      once : (k i j : ℕ) (x y : View E) → get_elem? (set (set views id (joined v u)) other spent) i ≡ some x
+          → get_elem? (set (set views id (joined v u)) other spent) j ≡ some y → Stands k x → Stands k y → i ≡ j
       once k i j x y e f s t =
           let a = origin k i x e s in
           let b = origin k j y f t in

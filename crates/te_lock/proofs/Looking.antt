@@ -81,7 +81,8 @@ module _ {V E : Type 0} (entries : V → List E) (members : V → ℕ) (author :
   loads callers slots id me idle s h _ at _ =
       let found = slice_index s.words 0 in
       let half : found / 2 ≡ length h.log = ⊎_elim (half_free callers h.log s) (half_held h.log s) h.turn in
-      let stays : slice_set s.words 0 found ≡ s.words = ⊎_elim (λ (f : IsFree entries members callers h.log s). word_stays s.words _ f.word) (λ (f : IsHeld h.log s). word_stays s.words _ f.word) h.turn in
+      let stays : slice_set s.words 0 found ≡ s.words = ⊎_elim (λ (f : IsFree entries members callers h.log s). word_stays s.words _ f.word)
+      (λ (f : IsHeld h.log s). word_stays s.words _ f.word) h.turn in
       let step = looks_at callers id me idle s h at found found half stays in
       (looked found me.0, keeps, tt, step.0, step.1)
 

@@ -20,7 +20,8 @@ module _ {V E : Type 0} (entries : V → List E) (members : V → ℕ) (author :
   one_only P a p (suc i) v e = absurd (some-ne-none v (sym e))
 
   -- a new table, with a value of an empty list
-  pub opens : (callers : ℕ) (value : V) → entries value ≡ [] → members value ≡ callers → lawful callers [] → IsKept entries members author lawful callers (opening (0 ∷ []) (Some value ∷ []) (maker_of 0 callers))
+  pub opens : (callers : ℕ) (value : V) → entries value ≡ [] → members value ≡ callers → lawful callers []
+      → IsKept entries members author lawful callers (opening (0 ∷ []) (Some value ∷ []) (maker_of 0 callers))
   opens callers value empty number law =
       let m : View E = maker_of 0 callers in record {
         log = [];

@@ -36,7 +36,8 @@ module _ {E : Type 0} where
   closed_kept c Spent own closed h = h
 
   closes_of_cases : (k : ℕ) (o : List E) (r : Role) (own : List E) (closed : List (ℕ × List E)) → Contains (closes_of r own closed) (k, o) → (r ≡ Caller k) ⊎ Contains closed (k, o)
-  closes_of_cases k o (Caller n) own closed h = ⊎_elim (λ (e : (n, own) ≡ (k, o)). inl (ap (λ (c : ℕ × List E). Caller c.0) e)) (λ (c : Contains closed (k, o)). inr c) (contains_cons (n, own) closed (k, o) h)
+  closes_of_cases k o (Caller n) own closed h = ⊎_elim (λ (e : (n, own) ≡ (k, o)). inl (ap (λ (c : ℕ × List E). Caller c.0) e))
+      (λ (c : Contains closed (k, o)). inr c) (contains_cons (n, own) closed (k, o) h)
   closes_of_cases k o (Maker n) own closed h = inr h
   closes_of_cases k o Note own closed h = inr h
   closes_of_cases k o Spent own closed h = inr h
@@ -66,7 +67,9 @@ module _ {E : Type 0} where
       (λ (c : Closes k (joined v u)).
       ⊎_elim
       (λ (a : Contains v.closed (k, c.0)). inl (inr (c.0, a)))
-      (λ (b : Contains (closes_of u.role u.own u.closed) (k, c.0)). inr (⊎_elim (λ (r : u.role ≡ Caller k). inl r) (λ (d : Contains u.closed (k, c.0)). inr (c.0, d)) (closes_of_cases k c.0 u.role u.own u.closed b)))
+      (λ (b : Contains (closes_of u.role u.own u.closed) (k, c.0)).
+      inr (⊎_elim (λ (r : u.role ≡ Caller k). inl r) (λ (d : Contains u.closed (k, c.0)). inr (c.0, d)) (closes_of_cases k c.0 u.role u.own
+      u.closed b)))
       (Contains-append_cases v.closed (closes_of u.role u.own u.closed) (k, c.0) c.1))
 
   pub all_closes_of_back : (P : ℕ × List E → Type 0) (r : Role) (own : List E) (closed : List (ℕ × List E)) → All P (closes_of r own closed) → ((k : ℕ) → r ≡ Caller k → P (k, own)) × All P closed

@@ -20,8 +20,11 @@ others_stay : {E : Type 0} (author : E → ℕ) (k j : ℕ) (log more : List E) 
 others_stay author k j log more apart all =
     entries_by-append author j log more ∙ ap (λ w. entries_by author j log ++ w) (none_by author j k (λ e. apart (sym e)) more all) ∙ append-nil (entries_by author j log)
 
-module _ {V E : Type 0} (entries : V → List E) (members : V → ℕ) (author : E → ℕ) (lawful : ℕ → List E → Type 0) (callers id : ℕ) (me : Me (Option V) (View E)) (k : ℕ) (role : me.0.role ≡ Caller k) (alone : me.0.closed ≡ []) (turn : me.0.has_turn ≡ true)
-    (value : V) (slot : me.1 ≡ (0, Some value) ∷ []) (number : members value ≡ me.0.callers) (law : lawful me.0.callers (entries value)) (goes : GoesOnBy author k me.0.read (entries value)) (new : ℕ) (twice : new ≡ 2 * length (entries value))
+module _ {V E : Type 0} (entries : V → List E) (members : V → ℕ) (author : E → ℕ) (lawful : ℕ → List E
+    → Type 0) (callers id : ℕ) (me : Me (Option V) (View E)) (k : ℕ) (role : me.0.role ≡ Caller k) (alone : me.0.closed ≡ [])
+    (turn : me.0.has_turn ≡ true)
+    (value : V) (slot : me.1 ≡ (0, Some value) ∷ []) (number : members value ≡ me.0.callers) (law : lawful me.0.callers (entries value))
+    (goes : GoesOnBy author k me.0.read (entries value)) (new : ℕ) (twice : new ≡ 2 * length (entries value))
     (s : State (Option V) (View E)) (h : IsKept entries members author lawful callers s) (at : get_elem? s.views id ≡ some me.0) where
   releases_held : (f : IsHeld h.log s)
       → (w : View E) × (a : Act (Option V)) × Valid s.homes me.1 a × IsKept entries members author lawful callers (stepped s 0 new id me.1 w a)

@@ -51,7 +51,8 @@ returns-then-not-is_that c =
     let other = c.is_that.ensures.not c.if-not-is_that.true has.0 has.1 in (
       λ is. absurd cc,
       λ same. absurd (another s c.loop-thread.thread c.loop-thread.next c.in-Parked.ticket has.0 c.args.parked.now c.in-Some.that.now c.loop-thread.invariant
-          (found_at c.args.parked.now c.loop-thread.next c.in-Some.that.now _ (within c.loop-thread.next (length c.args.parked.now) c.in-Some.ensures.lookup.0) c.in-Some.ensures.lookup.1) has.1 other same),
+          (found_at c.args.parked.now c.loop-thread.next c.in-Some.that.now _ (within c.loop-thread.next (length c.args.parked.now)
+          c.in-Some.ensures.lookup.0) c.in-Some.ensures.lookup.1) has.1 other same),
     )
 
 pub loop-thread-preserved : goal.loop-thread-preserved

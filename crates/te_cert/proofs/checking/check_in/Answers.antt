@@ -9,7 +9,8 @@ use Rattle.te_cert.proofs.checking.check_in.Goals as goal
 module _ (c : goal.After-play) where
   view : record { members = c.as_slice-members.result.now; meets = c.as_slice-meetings.result.now } ≡ c.args.cert.now
   view =
-      same_certificate c.as_slice-members.result.now c.cert.inside.members c.as_slice-meetings.result.now c.cert.inside.meets c.args.cert.now c.as_slice-members.ensures c.as_slice-meetings.ensures c.cert.view_is
+      same_certificate c.as_slice-members.result.now c.cert.inside.members c.as_slice-meetings.result.now c.cert.inside.meets c.args.cert.now
+      c.as_slice-members.ensures c.as_slice-meetings.ensures c.cert.view_is
 
   formed : IsFormed (record { members = c.as_slice-members.result.now; meets = c.as_slice-meetings.result.now })
   formed = record { order = record { some_member = c.in_ok-in_order.ensures.some; rise = c.in_ok-in_order.ensures.rise }; between = c.in_ok-all_between.ensures.ok }

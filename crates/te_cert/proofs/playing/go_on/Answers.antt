@@ -11,12 +11,14 @@ bounds-seats-i-in-Ok-true c = has_seat c.args.cells.now c.args.group.now.members
 
 pub hand-requires-clause-seat : goal.hand-requires-clause-seat
 hand-requires-clause-seat c =
-    let here = seat_read c.args.cells.now c.args.group.now.members.now c.args.group.now.lents.now c.args.seats.now c.args.i c.index-seats-i.result c.requires.as_many c.requires.seated c.requires.within c.index-seats-i.is in
+    let here = seat_read c.args.cells.now c.args.group.now.members.now c.args.group.now.lents.now c.args.seats.now c.args.i c.index-seats-i.result
+    c.requires.as_many c.requires.seated c.requires.within c.index-seats-i.is in
     is_seat c.args.cells.now (of_group c.args.group.now) c.args.seats.now c.args.i (entered c.entrant.result) c.index-seats-i.result c.requires.seated c.entrant.ensures.is here
 
 pub hand-requires-clause-stands : goal.hand-requires-clause-stands
 hand-requires-clause-stands c =
-    let here = seat_read c.args.cells.now c.args.group.now.members.now c.args.group.now.lents.now c.args.seats.now c.args.i c.index-seats-i.result c.requires.as_many c.requires.seated c.requires.within c.index-seats-i.is in
+    let here = seat_read c.args.cells.now c.args.group.now.members.now c.args.group.now.lents.now c.args.seats.now c.args.i c.index-seats-i.result
+    c.requires.as_many c.requires.seated c.requires.within c.index-seats-i.is in
     c.requires.stands (seat_of c.args.cells.now (entered c.entrant.result) c.index-seats-i.result)
     (seat_there c.args.cells.now (of_group c.args.group.now) c.args.seats.now c.args.i (entered c.entrant.result) c.index-seats-i.result c.entrant.ensures.is here)
 
@@ -27,19 +29,23 @@ returns-in-Ok-true-clause-seated c =
 
 pub returns-in-Ok-true-clause-ok : goal.returns-in-Ok-true-clause-ok
 returns-in-Ok-true-clause-ok c =
-    let here = seat_read c.args.cells.now c.args.group.now.members.now c.args.group.now.lents.now c.args.seats.now c.args.i c.index-seats-i.result c.requires.as_many c.requires.seated c.requires.within c.index-seats-i.is in
+    let here = seat_read c.args.cells.now c.args.group.now.members.now c.args.group.now.lents.now c.args.seats.now c.args.i c.index-seats-i.result
+    c.requires.as_many c.requires.seated c.requires.within c.index-seats-i.is in
     let start = seat_of c.args.cells.now (entered c.entrant.result) c.index-seats-i.result in
     let end = seat_of c.hand.new.cells (entered c.entrant.result) c.hand.new.seat in
-    went_on c.args.cells.now c.hand.new.cells (of_group c.args.group.now) c.args.seats.now c.args.i (entered c.entrant.result) c.index-seats-i.result (value_at c.args.end) c.requires.seated c.entrant.ensures.is here
+    went_on c.args.cells.now c.hand.new.cells (of_group c.args.group.now) c.args.seats.now c.args.i (entered c.entrant.result) c.index-seats-i.result
+    (value_at c.args.end) c.requires.seated c.entrant.ensures.is here
     c.hand.new.seat c.in-Ok-true.ensures.grows (subst (λ (done : Bool). Comes (handed (value_at c.args.end) start) done end) c.in-Ok-true.field-0-test c.in-Ok-true.ensures.comes)
 
 pub returns-in-Ok-false-clause-err : goal.returns-in-Ok-false-clause-err
 returns-in-Ok-false-clause-err c =
-    let here = seat_read c.args.cells.now c.args.group.now.members.now c.args.group.now.lents.now c.args.seats.now c.args.i c.index-seats-i.result c.requires.as_many c.requires.seated c.requires.within c.index-seats-i.is in
+    let here = seat_read c.args.cells.now c.args.group.now.members.now c.args.group.now.lents.now c.args.seats.now c.args.i c.index-seats-i.result
+    c.requires.as_many c.requires.seated c.requires.within c.index-seats-i.is in
     let start = seat_of c.args.cells.now (entered c.entrant.result) c.index-seats-i.result in
     let end = seat_of c.hand.new.cells (entered c.entrant.result) c.hand.new.seat in
     inr (
       refl,
-      lacked c.args.cells.now c.hand.new.cells (of_group c.args.group.now) c.args.seats.now c.args.i (entered c.entrant.result) c.index-seats-i.result (value_at c.args.end) c.requires.seated c.entrant.ensures.is here
+      lacked c.args.cells.now c.hand.new.cells (of_group c.args.group.now) c.args.seats.now c.args.i (entered c.entrant.result) c.index-seats-i.result
+          (value_at c.args.end) c.requires.seated c.entrant.ensures.is here
           end (subst (λ (done : Bool). Comes (handed (value_at c.args.end) start) done end) c.in-Ok-false.field-0-test c.in-Ok-false.ensures.comes),
     )

@@ -9,5 +9,6 @@ abbrev pub invariant-loop-j : goal.invariant-loop-j
 invariant-loop-j l = record {
   grows : Grows l.initial.cells l.cells;
   seated : AreSeated l.cells (of_group l.group) l.seats;
-  so_far : (first : List Label) → (word : List Label) × (all_meet 0 l.meetings (table_of l.initial.cells (of_group l.group) l.initial.seats first) ≡ all_meet l.j (drop l.j l.meetings) (table_of l.cells (of_group l.group) l.seats word));
+  so_far : (first : List Label) → (word : List Label) × (all_meet 0 l.meetings (table_of l.initial.cells (of_group l.group) l.initial.seats first) ≡
+      all_meet l.j (drop l.j l.meetings) (table_of l.cells (of_group l.group) l.seats word));
 }

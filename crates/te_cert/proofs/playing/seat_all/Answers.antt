@@ -15,7 +15,8 @@ loop-i-init c = record {
 pub returns-in_err-take_seat-clause-err : goal.returns-in_err-take_seat-clause-err
 returns-in_err-take_seat-clause-err c =
     let p = err_from_is_err_and c.from_residual.result c.from_residual.ensures.1 in
-    rw (p.1, p.2) (advances_fail c.loop-i.cells (of_group c.args.group.now) c.loop-i.seats.items c.loop-i.i (entered c.entrant.result) _ c.entrant.ensures.is c.loop-i.invariant.so_far c.in_err-take_seat.ensures.err)
+    rw (p.1, p.2) (advances_fail c.loop-i.cells (of_group c.args.group.now) c.loop-i.seats.items c.loop-i.i (entered c.entrant.result) _
+    c.entrant.ensures.is c.loop-i.invariant.so_far c.in_err-take_seat.ensures.err)
 
 pub loop-i-preserved : goal.loop-i-preserved
 loop-i-preserved c =
@@ -23,7 +24,8 @@ loop-i-preserved c =
     record {
       grows = grows_on c.args.cells.now c.loop-i.cells c.take_seat.new.cells c.loop-i.invariant.grows c.in_ok-take_seat.ensures.grows;
       so_far = rw taken.put
-          (advanced_more c.loop-i.cells c.take_seat.new.cells (of_group c.args.group.now) c.loop-i.seats.items c.loop-i.i (entered c.entrant.result) taken.seat c.entrant.ensures.is c.in_ok-take_seat.ensures.grows c.loop-i.invariant.so_far taken.seated);
+          (advanced_more c.loop-i.cells c.take_seat.new.cells (of_group c.args.group.now) c.loop-i.seats.items c.loop-i.i (entered c.entrant.result)
+          taken.seat c.entrant.ensures.is c.in_ok-take_seat.ensures.grows c.loop-i.invariant.so_far taken.seated);
     }
 
 pub returns-clause-seated : goal.returns-clause-seated

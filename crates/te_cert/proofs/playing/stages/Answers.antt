@@ -13,8 +13,11 @@ pub returns-in_err-meet_all-clause-plays : goal.returns-in_err-meet_all-clause-p
 returns-in_err-meet_all-clause-plays c =
     let p = err_from_is_err_and c.from_residual-in_err-meet_all.result c.from_residual-in_err-meet_all.ensures.1 in
     let advanced = c.in_ok-seat_all.ensures.ok in
-    let fails = subst (λ (ks : List Seat). (word : List Label) → TellsFault (all_meet 0 c.args.meetings.now (table_of c.seat_all.new.cells (of_group c.args.group.now) ks word)) c.in_err-meet_all.field-0.0) c.deref_mut.ensures.value c.in_err-meet_all.ensures.err in
-    rw (p.1, p.2) (meets_fail (of_group c.args.group.now) c.args.meetings.now (seats_of c.seat_all.new.cells (of_group c.args.group.now) c.seat_all.new.seats.items) advanced.0 advanced.1 c.in_err-meet_all.field-0.0 (fails advanced.0))
+    let fails = subst (λ (ks : List Seat). (word : List Label)
+    → TellsFault (all_meet 0 c.args.meetings.now (table_of c.seat_all.new.cells (of_group c.args.group.now) ks word)) c.in_err-meet_all.field-0.0)
+    c.deref_mut.ensures.value c.in_err-meet_all.ensures.err in
+    rw (p.1, p.2) (meets_fail (of_group c.args.group.now) c.args.meetings.now (seats_of c.seat_all.new.cells (of_group c.args.group.now)
+    c.seat_all.new.seats.items) advanced.0 advanced.1 c.in_err-meet_all.field-0.0 (fails advanced.0))
 
 pub returns-clause-plays : goal.returns-clause-plays
 returns-clause-plays c =
@@ -22,10 +25,13 @@ returns-clause-plays c =
     let old = c.seat_all.new.seats.items in
     let new = c.meet_all.new.seats in
     let advanced = c.in_ok-seat_all.ensures.ok in
-    let meets = subst (λ (ks : List Seat). (word : List Label) → BecomesTable (all_meet 0 c.args.meetings.now (table_of c.seat_all.new.cells (of_group c.args.group.now) ks word)) (seats_of c.meet_all.new.cells (of_group c.args.group.now) new)) c.deref_mut.ensures.value c.in_ok-meet_all.ensures.ok in
+    let meets = subst (λ (ks : List Seat). (word : List Label)
+    → BecomesTable (all_meet 0 c.args.meetings.now (table_of c.seat_all.new.cells (of_group c.args.group.now) ks word))
+    (seats_of c.meet_all.new.cells (of_group c.args.group.now) new)) c.deref_mut.ensures.value c.in_ok-meet_all.ensures.ok in
     let met = meets advanced.0 in
     let same : length old ≡ length new = sym (as_many_seats c.seat_all.new.cells es old c.in_ok-seat_all.ensures.seated) ∙ as_many_seats c.meet_all.new.cells es new c.in_ok-meet_all.ensures.seated in
-    let read : c.deref.result.now ≡ new = read_again old new c.deref.result.now c.seat_all.new.seats.len (ap length (sym c.deref_mut.ensures.value) ∙ c.deref_mut.ensures.len) same c.deref.ensures.value in
+    let read : c.deref.result.now ≡ new = read_again old new c.deref.result.now c.seat_all.new.seats.len (ap length (sym c.deref_mut.ensures.value) ∙
+    c.deref_mut.ensures.len) same c.deref.ensures.value in
     ends_so es c.args.meetings.now (seats_of c.seat_all.new.cells es old) advanced.0 advanced.1 (seats_of c.meet_all.new.cells es new) met.0 met.1 c.outcomes.result
     (subst (λ (ks : List Seat). IfOk c.outcomes.result (λ os. endings 0 (seats_of c.meet_all.new.cells (of_group c.args.group.now) ks) ≡ Ok os)) read c.outcomes.ensures.ok)
     (subst (λ (ks : List Seat). IfErr c.outcomes.result (λ e. TellsFault (endings 0 (seats_of c.meet_all.new.cells (of_group c.args.group.now) ks)) e)) read c.outcomes.ensures.err)

@@ -32,7 +32,8 @@ letters-preserved c =
     record {
       seat = record { spot = c.in_ok-choose.ensures.spot; within = omega (arith, within) };
       grows = grows_on c.args.cells.now c.letters.cells c.choose.new.self c.letters.invariant.grows c.in_ok-choose.ensures.grows;
-      as_far = goes_on (seat_of c.args.cells.now e c.args.seat.now) (seat_of c.letters.cells e c.letters.seat) (seat_of c.choose.new.self e (record { spot = c.choose.new.spot; used = c.letters.seat.used + 1 })) c.in-Some.left.now
+      as_far = goes_on (seat_of c.args.cells.now e c.args.seat.now) (seat_of c.letters.cells e c.letters.seat) (seat_of c.choose.new.self e
+          (record { spot = c.choose.new.spot; used = c.letters.seat.used + 1 })) c.in-Some.left.now
           c.letters.invariant.as_far c.letters.invariant.seat.spot.settled at (letters_here c.args.entrant.now.choices.now c.letters.seat.used c.in-Some.left.now within c.in-Some.ensures.lookup.1)
           c.in_ok-choose.ensures.step;
     }
@@ -41,4 +42,5 @@ pub returns-clause-comes : goal.returns-clause-comes
 returns-clause-comes c =
     let e = entered c.args.entrant.now in
     let other : c.letters.seat.spot.stop ≢ Choice = λ is. let so : false ≡ true = c.letters-test.ensures.1 is in absurd cc in
-    comes_to_stand (seat_of c.args.cells.now e c.args.seat.now) (seat_of c.letters.cells e c.letters.seat) c.letters.seat.spot.stop c.letters.invariant.as_far c.letters.invariant.seat.spot.settled c.letters.invariant.seat.spot.stands other
+    comes_to_stand (seat_of c.args.cells.now e c.args.seat.now) (seat_of c.letters.cells e c.letters.seat) c.letters.seat.spot.stop
+    c.letters.invariant.as_far c.letters.invariant.seat.spot.settled c.letters.invariant.seat.spot.stands other

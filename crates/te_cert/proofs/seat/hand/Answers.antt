@@ -9,5 +9,6 @@ returns-clause-grows c = grows_on c.args.cells.now c.pass_on.new.cells c.advance
 pub returns-clause-comes : goal.returns-clause-comes
 returns-clause-comes c =
     let e = entered c.args.entrant.now in
-    handed_comes_so (value_at c.args.end) (seat_of c.args.cells.now e c.args.seat.now) (seat_of c.pass_on.new.cells e c.pass_on.new.seat) (seat_of c.advance.new.cells e c.advance.new.seat) c.advance.result
+    handed_comes_so (value_at c.args.end) (seat_of c.args.cells.now e c.args.seat.now) (seat_of c.pass_on.new.cells e c.pass_on.new.seat)
+    (seat_of c.advance.new.cells e c.advance.new.seat) c.advance.result
     c.in_ok-pass_on.ensures.passed c.advance.ensures.comes
