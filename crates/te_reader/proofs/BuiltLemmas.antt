@@ -1,47 +1,70 @@
 -- A code that grew by the nodes of one event: by a node without parts, and by a node over two events.
-use Rattle.std.proofs.Common.{◌≡◌, ℕ, zero, suc, ◌+◌, ◌<◌, ◌≤◌, ◌⊎◌, inl, inr, true, false, cond, eqb, zero-add, List, [], ◌∷◌, ◌++◌, length, refl, sym, ◌∙◌, ap, append_assoc, length-append, arith}
-use Rattle.std.specs.Prelude.{Option, Some, None, Result, Ok, Err, ◌==◌, slice_get}
+use Rattle.std.proofs.Common.{◌≡◌, ℕ, zero, suc, ◌+◌, ◌<◌, ◌≤◌, ◌⊎◌, inl, inr, Bool, true, false, cond, eqb, zero-add, List, [], ◌∷◌, ◌++◌, length, refl, sym, ◌∙◌, ap, append_assoc, length-append, arith}
+use Rattle.std.specs.Prelude.{Option, Some, None, Result, Ok, Err, ◌==◌, ◌&&◌, nat_le, slice_get}
 use Rattle.std.specs.List.{count_by}
+use Rattle.std.proofs.lemmas.List.Sums.{sum_by_push}
 use Rattle.std.proofs.lemmas.Bool.Decides.{nat_tests}
 use Rattle.te_terms.specs.declared.code.Node.{Node}
 use Rattle.te_terms.specs.declared.code.Node.TheVariants as nodes
 use Rattle.te_terms.specs.Terms.{Term, always, never, fresh, throw, send, recv, and_then, choose, catch, when}
 use Rattle.te_terms.specs.Codes.{over, term_within, term_at}
-use Rattle.te_terms.specs.Shape.{children, times_in, HasFreeChildren, term_over}
-use Rattle.te_terms.specs.Measures.{height, node_count}
+use Rattle.te_terms.specs.Shape.{children, times_in, one_if_fresh, fresh_nodes, HasFreeChildren, term_over}
+use Rattle.te_terms.specs.Measures.{height, node_count, fresh_count}
 use Rattle.te_terms.specs.Kept.{second_level, formed}
 use Rattle.te_terms.proofs.TermLemmas.{term_at-append, term_at_new}
 use Rattle.te_terms.proofs.ChildLemmas.{times_named_push, leaf_is_free, two_free}
 use Rattle.te_terms.proofs.KeptLemmas.{free_earlier}
 use Rattle.te_reader.proofs.NoneNamed.{none_named}
-use Rattle.te_reader.specs.declared.fault.ScriptFault.{ScriptFault}
-use Rattle.te_reader.specs.declared.fault.ScriptFault.TheVariants as faults
+use Rattle.te_reader.proofs.TallyLemmas.{tally_same}
+use Rattle.te_reader.specs.declared.refusal.Refusal.{Refusal}
+use Rattle.te_reader.specs.declared.refusal.Refusal.TheVariants as faults
 use Rattle.te_reader.specs.Lexed.{Stream}
 use Rattle.te_reader.specs.Grammar.{Names}
 use Rattle.te_reader.specs.NameReads.{Read}
+use Rattle.te_reader.specs.Tallies.{Tally, HasRoom, tally, with_event}
 use Rattle.te_reader.specs.EventReads.{is_within, made, read_leaf, read_one}
 use Rattle.te_reader.specs.Answering.{leaf, IsBuilt, AnswersEvent, Puts}
 
 -- ---- limits
 
-pub made_within : (used : ℕ) (t : Term) (ts : List _) → used + node_count t ≤ 4096 → height t ≤ 32 → made used t ts ≡ Some (t, ts)
-unfolding made
-made_within used t ts few low = let fits : is_within used t ≡ true = grind (arith, nat_tests, few, low) in rw fits refl
+second_false : (a c : Bool) → (a && false && c) ≡ false
+second_false true c = refl
+second_false false c = refl
 
-pub made_beyond : (used : ℕ) (t : Term) (ts : List _) → (4096 < used + node_count t) ⊎ (32 < height t) → made used t ts ≡ None
+third_false : (a b : Bool) → (a && b && false) ≡ false
+third_false true true = refl
+third_false true false = refl
+third_false false b = refl
+
+pub made_within : (used : Tally) (t : Term) (ts : List _) → HasRoom used t → height t ≤ 32 → made used t ts ≡ Some (t, ts)
 unfolding made
-made_beyond used t ts (inl many) = let over : is_within used t ≡ false = grind (arith, nat_tests, many) in rw over refl
-made_beyond used t ts (inr high) = let over : is_within used t ≡ false = grind (arith, nat_tests, high) in rw over refl
+made_within used t ts few low =
+    let a : nat_le (used.nodes + node_count t) 4096 ≡ true = grind (arith, nat_tests, few.0) in
+    let b : nat_le (used.fresh + fresh_count t) 16 ≡ true = grind (arith, nat_tests, few.1) in
+    let c : nat_le (height t) 32 ≡ true = grind (arith, nat_tests, low) in
+    rw (a, b, c) refl
+
+pub made_beyond : (used : Tally) (t : Term) (ts : List _) → (4096 < used.nodes + node_count t) ⊎ ((16 < used.fresh + fresh_count t) ⊎ (32 < height t)) → made used t ts ≡ None
+unfolding made
+made_beyond used t ts (inl many) = let a : nat_le (used.nodes + node_count t) 4096 ≡ false = grind (arith, nat_tests, many) in rw a refl
+made_beyond used t ts (inr (inl many)) =
+    let b : nat_le (used.fresh + fresh_count t) 16 ≡ false = grind (arith, nat_tests, many) in
+    let over : is_within used t ≡ false = rw b (second_false (nat_le (used.nodes + node_count t) 4096) (nat_le (height t) 32)) in
+    rw over refl
+made_beyond used t ts (inr (inr high)) =
+    let c : nat_le (height t) 32 ≡ false = grind (arith, nat_tests, high) in
+    let over : is_within used t ≡ false = rw c (third_false (nat_le (used.nodes + node_count t) 4096) (nat_le (used.fresh + fresh_count t) 16)) in
+    rw over refl
 
 -- ---- a node without parts
 
-leaf_size : (node : Node) → children node ≡ [] → (node_count (leaf node) ≡ 1) × (height (leaf node) ≡ 1)
-leaf_size (nodes.Always e) h = (refl, refl)
-leaf_size nodes.Never h = (refl, refl)
-leaf_size nodes.Fresh h = (refl, refl)
-leaf_size (nodes.Throw e) h = (refl, refl)
-leaf_size (nodes.Send p e) h = (refl, refl)
-leaf_size (nodes.Recv p) h = (refl, refl)
+leaf_size : (node : Node) → children node ≡ [] → (node_count (leaf node) ≡ 1) × (height (leaf node) ≡ 1) × (fresh_count (leaf node) ≡ one_if_fresh node)
+leaf_size (nodes.Always e) h = (refl, refl, refl)
+leaf_size nodes.Never h = (refl, refl, refl)
+leaf_size nodes.Fresh h = (refl, refl, refl)
+leaf_size (nodes.Throw e) h = (refl, refl, refl)
+leaf_size (nodes.Send p e) h = (refl, refl, refl)
+leaf_size (nodes.Recv p) h = (refl, refl, refl)
 leaf_size (nodes.Then a b) h = absurd cc
 leaf_size (nodes.Choose a b) h = absurd cc
 leaf_size (nodes.Catch a b) h = absurd cc
@@ -62,16 +85,17 @@ leaf_over under level (nodes.If c a b) h = absurd cc
 times_none : (c : ℕ) (cs : List ℕ) → cs ≡ [] → count_by (λ x. x == c) cs ≡ 0
 times_none c cs e = rw e refl
 
-pub leaf_built : (r : Result ℕ ScriptFault) (level : ℕ) (before after : List Node) (node : Node) (s : Names) (old new : Stream) → children node ≡ [] → Puts r before after node → read_leaf s old.tokens ≡ Some (leaf node, new.tokens) → new.whole ≡ old.whole
-    → AnswersEvent r level before after old new (read_one s (length before) old.tokens)
+pub leaf_built : (r : Result ℕ Refusal) (level : ℕ) (before after : List Node) (node : Node) (s : Names) (old new : Stream) → children node ≡ [] → Puts r before after node → read_leaf s old.tokens ≡ Some (leaf node, new.tokens) → new.whole ≡ old.whole
+    → AnswersEvent r level before after old new (read_one s (tally before) old.tokens)
 unfolding read_one
 leaf_built (Ok root) level before after node s old new none put read whole =
     let size = leaf_size node none in
     let forest = put.4 in
     let free = leaf_is_free before node none in
     let term : term_at after level root ≡ leaf node = rw (put.0, put.1) (term_at_new before node forest.earlier (free_earlier before node free) level ∙ leaf_over (term_at before) level node none) in
-    let long : length after ≡ length before + 1 = rw put.1 (length-append before (node ∷ [])) in (
-      (rw read (made_within (length before) (leaf node) new.tokens (omega (arith, put.2, size.0)) (omega (arith, size.1)))) ∙ ap (λ t. Some (t, new.tokens)) (sym term),
+    let long : length after ≡ length before + 1 = rw put.1 (length-append before (node ∷ [])) in
+    let channels : fresh_nodes after ≡ fresh_nodes before + one_if_fresh node = rw put.1 (sum_by_push one_if_fresh before node) in (
+      (rw read (made_within (tally before) (leaf node) new.tokens (omega (arith, put.2, size.0), omega (arith, channels, size.2, put.5.few_fresh)) (omega (arith, size.1)))) ∙ ap (λ t. Some (t, new.tokens)) (sym term),
       whole,
       record {
         forest = put.5;
@@ -79,15 +103,17 @@ leaf_built (Ok root) level before after node s old new none put read whole =
         appended = put.1;
         last = omega (arith, long, put.0);
         nodes = omega (arith, long, ap node_count term, size.0);
+        fresh = omega (arith, channels, ap fresh_count term, size.2);
         free = rw put.1 (omega (arith, times_named_push root before node, none_named before root forest.earlier (omega (arith, put.0)), times_none root (children node) none));
         others = λ c h. rw put.1 (omega (arith, times_named_push c before node, times_none c (children node) none));
       },
     )
 leaf_built (Err faults.Refused) level before after node s old new none put read whole =
     let size = leaf_size node none in
-    rw read (made_beyond (length before) (leaf node) new.tokens elim put [
+    rw read (made_beyond (tally before) (leaf node) new.tokens elim put [
       | inl many ↦ inl (omega (arith, many, size.0))
-      | inr high ↦ absurd (omega (arith, high, ap height (leaf_over (term_at before) 0 node none), size.1))
+      | inr (inl many) ↦ inr (inl (omega (arith, many.1, size.2, ap one_if_fresh many.0)))
+      | inr (inr high) ↦ absurd (omega (arith, high, ap height (leaf_over (term_at before) 0 node none), size.1))
     ])
 leaf_built (Err faults.Memory) level before after node s old new none put read whole = tt
 
@@ -138,6 +164,34 @@ formed_count (nodes.Choose c d) a b level e f h = refl
 formed_count (nodes.Catch c d) a b level e f h = refl
 formed_count (nodes.If q c d) a b level e f h = refl
 
+formed_fresh : (node : Node) (a b level : ℕ) (e f : Term) → children node ≡ a ∷ b ∷ [] → fresh_count (formed node level e f) ≡ fresh_count e + fresh_count f
+formed_fresh (nodes.Always x) a b level e f h = absurd cc
+formed_fresh nodes.Never a b level e f h = absurd cc
+formed_fresh nodes.Fresh a b level e f h = absurd cc
+formed_fresh (nodes.Throw x) a b level e f h = absurd cc
+formed_fresh (nodes.Send p x) a b level e f h = absurd cc
+formed_fresh (nodes.Recv p) a b level e f h = absurd cc
+formed_fresh (nodes.Then c d) a b level e f h = omega arith
+formed_fresh (nodes.Choose c d) a b level e f h = omega arith
+formed_fresh (nodes.Catch c d) a b level e f h = omega arith
+formed_fresh (nodes.If q c d) a b level e f h = omega arith
+
+not_fresh : (node : Node) (a b : ℕ) → children node ≡ a ∷ b ∷ [] → one_if_fresh node ≡ 0
+not_fresh (nodes.Always x) a b h = refl
+not_fresh nodes.Never a b h = refl
+not_fresh nodes.Fresh a b h = absurd cc
+not_fresh (nodes.Throw x) a b h = refl
+not_fresh (nodes.Send p x) a b h = refl
+not_fresh (nodes.Recv p) a b h = refl
+not_fresh (nodes.Then c d) a b h = refl
+not_fresh (nodes.Choose c d) a b h = refl
+not_fresh (nodes.Catch c d) a b h = refl
+not_fresh (nodes.If q c d) a b h = refl
+
+-- the nodes behind an event
+pub tallied : {level root : ℕ} {before after : List Node} → IsBuilt level before after root → tally after ≡ with_event (tally before) (term_at after level root)
+tallied b = tally_same _ _ b.nodes b.fresh
+
 pub some_node : (t : Term) → 1 ≤ node_count t
 some_node (always e) = omega arith
 some_node never = omega arith
@@ -171,6 +225,10 @@ module _ (node : Node) (a b level up : ℕ) (before mid last : List Node) (two :
   is_formed =
       over_formed (term_at last) level a b node two ∙ ap (λ l. formed node level (term_at last level a) (term_at last l b)) (sym raised) ∙ ap (λ t. formed node level t (term_at last up b)) first_stays
 
+  -- the fresh channels that the new one comes to
+  channels : fresh_nodes before + fresh_count (formed node level (term_at mid level a) (term_at last up b)) ≡ fresh_nodes last
+  channels = omega (arith, formed_fresh node a b level (term_at mid level a) (term_at last up b) two, first.fresh, second.fresh)
+
   -- the nodes that the new one comes to
   size : length before + node_count (formed node level (term_at mid level a) (term_at last up b)) ≡ length last + 1
   size = omega (arith, formed_count node a b level (term_at mid level a) (term_at last up b) two, first.nodes, second.nodes)
@@ -178,14 +236,16 @@ module _ (node : Node) (a b level up : ℕ) (before mid last : List Node) (two :
   height_is : height (term_over last node) ≡ height (formed node level (term_at mid level a) (term_at last up b))
   height_is = over_height (term_at last) (height_at last) 0 level (Some node) ∙ ap height is_formed
 
-  pub joined : (r : Result ℕ ScriptFault) (after : List Node) (old new : Stream) (o : Read Term) → Puts r last after node → o ≡ made (length before) (formed node level (term_at mid level a) (term_at last up b)) new.tokens → new.whole ≡ old.whole
+  pub joined : (r : Result ℕ Refusal) (after : List Node) (old new : Stream) (o : Read Term) → Puts r last after node → o ≡ made (tally before) (formed node level (term_at mid level a) (term_at last up b)) new.tokens → new.whole ≡ old.whole
       → AnswersEvent r level before after old new o
   joined (Ok root) after old new o put read whole =
       let forest = put.4 in
       let term : term_at after level root ≡ formed node level (term_at mid level a) (term_at last up b) =
       rw (put.0, put.1) (term_at_new last node forest.earlier (free_earlier last node has_free_children) level ∙ is_formed) in
-      let long : length after ≡ length last + 1 = rw put.1 (length-append last (node ∷ [])) in (
-        read ∙ made_within (length before) _ new.tokens (omega (arith, size, put.2)) (omega (arith, height_is, put.3)) ∙ ap (λ t. Some (t, new.tokens)) (sym term),
+      let long : length after ≡ length last + 1 = rw put.1 (length-append last (node ∷ [])) in
+      let pushed : fresh_nodes (last ++ node ∷ []) ≡ fresh_nodes last + one_if_fresh node = sum_by_push one_if_fresh last node in
+      let same : fresh_nodes after ≡ fresh_nodes last = rw put.1 (omega (arith, pushed, not_fresh node a b two)) in (
+        read ∙ made_within (tally before) _ new.tokens (omega (arith, size, put.2), omega (arith, channels, same, put.5.few_fresh)) (omega (arith, height_is, put.3)) ∙ ap (λ t. Some (t, new.tokens)) (sym term),
         whole,
         record {
           forest = put.5;
@@ -193,6 +253,7 @@ module _ (node : Node) (a b level up : ℕ) (before mid last : List Node) (two :
           appended = put.1 ∙ ap (λ xs. xs ++ node ∷ []) (second.appended ∙ ap (λ xs. xs ++ second.added) first.appended) ∙ append_assoc (before ++ first.added) second.added (node ∷ []) ∙ append_assoc before first.added (second.added ++ node ∷ []);
           last = omega (arith, long, put.0);
           nodes = omega (arith, long, ap node_count term, size);
+          fresh = omega (arith, same, ap fresh_count term, channels);
           free = rw put.1 (omega (arith, times_named_push root last node, none_named last root forest.earlier (omega (arith, put.0)), none_new root put.0));
           others = λ c h. rw put.1 (omega (arith, times_named_push c last node, other_new c h) ∙ second.others c (omega (arith, h, first.nodes)) ∙ first.others c h);
         },
@@ -209,8 +270,9 @@ module _ (node : Node) (a b level up : ℕ) (before mid last : List Node) (two :
         other_new : (c : ℕ) → c < length before → times_in c node ≡ 0
         other_new c h = times_other c a b (children node) two (omega (arith, h, first.last, first.nodes, some_node (term_at mid level a))) (omega (arith, h, first.last, first.nodes, apart, some_node (term_at mid level a)))
   joined (Err faults.Refused) after old new o put read whole =
-      read ∙ made_beyond (length before) _ new.tokens elim put [
+      read ∙ made_beyond (tally before) _ new.tokens elim put [
         | inl many ↦ inl (omega (arith, many, size))
-        | inr high ↦ inr (omega (arith, high, height_is))
+        | inr (inl many) ↦ absurd (omega (arith, not_fresh node a b two, ap one_if_fresh many.0))
+        | inr (inr high) ↦ inr (inr (omega (arith, high, height_is)))
       ]
   joined (Err faults.Memory) after old new o put read whole = tt

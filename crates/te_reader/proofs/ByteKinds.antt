@@ -2,7 +2,8 @@
 use Rattle.std.proofs.Common.{◌≡◌, ℕ, true, false, nat_eq, arith}
 use Rattle.std.proofs.lemmas.Bool.Decides.{nat_tests}
 use Rattle.std.specs.Char.{is_ascii_alphabetic, is_ascii_digit}
-use Rattle.te_reader.specs.Tokens.{is_word_byte, is_blank}
+use Rattle.te_script.specs.Names.{is_word_byte}
+use Rattle.te_reader.specs.Tokens.{is_blank}
 
 pub letter_is_no_gap : (b : ℕ) → is_ascii_alphabetic b ≡ true → (is_blank b ≡ false) × (nat_eq b 35 ≡ false)
 letter_is_no_gap b e = grind (arith, nat_tests)

@@ -5,7 +5,7 @@ use Rattle.te_terms.specs.declared.expr.Test.{Test}
 use Rattle.te_terms.specs.declared.expr.Test.TheVariants as tests
 use Rattle.te_terms.specs.Expressions.{Primitive, Expression}
 use Rattle.te_terms.specs.Terms.{Term, always, never, fresh, throw, send, recv, and_then, choose, catch, when}
-use Rattle.te_terms.specs.Measures.{height, node_count}
+use Rattle.te_terms.specs.Measures.{height}
 use Rattle.te_script.specs.Scripts.{Scope, IsEvent}
 use Rattle.te_reader.specs.declared.token.Word.{Word}
 use Rattle.te_reader.specs.declared.token.Word.TheVariants as words
@@ -14,6 +14,7 @@ use Rattle.te_reader.specs.Tokens.{Token, word, sign}
 use Rattle.te_reader.specs.Heads.{word_first, sign_first}
 use Rattle.te_reader.specs.Grammar.{Names, bound, with_inner, IsFree, Standing, alone, in_do, in_choose, closed, test_sign, spells_primitive, spells_event}
 use Rattle.te_reader.specs.ExpressionReads.{read_primitive, read_expression}
+use Rattle.te_reader.specs.Tallies.{Tally, HasRoom, with_event}
 use Rattle.te_reader.specs.EventReads.{read_leaf, Parts, read_braced, read_part, read_do, read_second, read_choose, read_try, test_first, read_condition, read_if, read_one, read_alone, read_in_do, read_in_choose, read_standing, read_event}
 use Rattle.te_reader.proofs.BuiltLemmas.{made_within}
 use Rattle.te_reader.proofs.ReadIsSpelled.{scope_of}
@@ -21,8 +22,8 @@ use Rattle.te_reader.proofs.EventIsSpelled.{inner_scope}
 use Rattle.te_reader.proofs.SpelledIsRead.{takes_sign, other_sign, takes_word, other_word, takes_bound, no_bound, InScope, one_more_in_scope, binds, no_dot_at_expression, primitive_is_read, expression_is_read}
 
 -- an event that would stand behind so many nodes is within the limits, and in at most so many layers
-pub record Fits (layers used : ℕ) (t : Term) : Type 0 where
-  pub few : used + node_count t ≤ 4096
+pub record Fits (layers : ℕ) (used : Tally) (t : Term) : Type 0 where
+  pub few : HasRoom used t
   pub low : height t ≤ 32
   pub layered : height t ≤ layers
 
@@ -42,7 +43,7 @@ some_height (when test p q e f) = omega arith
 begins_with_word : (s : Names) (t : Term) (ts rest : List Token) → spells_event true alone s t ts rest → (w : Word) × (behind : List Token) × (ts ≡ word w ∷ behind)
 begins_with_word s (always e) ts rest h = (words.Always, h.0, h.1)
 begins_with_word s never ts rest h = (words.Never, rest, h)
-begins_with_word s fresh ts rest h = absurd h
+begins_with_word s fresh ts rest h = (words.Fresh, rest, h)
 begins_with_word s (throw e) ts rest h = (words.Throw, h.0, h.1)
 begins_with_word s (send p e) ts rest h = (words.Send, h.0, h.1)
 begins_with_word s (recv p) ts rest h = (words.Recv, h.0, h.1)
@@ -58,10 +59,10 @@ takes_test tests.Less ts rest e = rw e (refl, refl)
 
 -- ---- events of one node
 
-module _ (next : Parts) (s : Names) (used : ℕ) (ts : List Token) where
+module _ (next : Parts) (s : Names) (used : Tally) (ts : List Token) where
   -- none of the words of an event with parts
   one_is_read : (t : Term) (w : Word) (behind rest : List Token) → ts ≡ word w ∷ behind → word_first words.Do ts ≡ None → word_first words.Choose ts ≡ None → word_first words.Try ts ≡ None → word_first words.If ts ≡ None → read_leaf s ts ≡ Some (t, rest)
-      → used + node_count t ≤ 4096 → height t ≤ 32 → read_alone next s used ts ≡ Some (t, rest)
+      → HasRoom used t → height t ≤ 32 → read_alone next s used ts ≡ Some (t, rest)
   unfolding read_alone read_one
   one_is_read t w behind rest begins no_do no_choose no_try no_if read few low = rw (no_do, no_choose, no_try, no_if, read) (made_within used t rest few low)
 
@@ -86,13 +87,13 @@ module _ (next : Parts) (s : Names) (used : ℕ) (ts : List Token) where
 
   -- ---- parts
 
-  part_is_read : (e f : Term) (n : List ℕ) (a b c rest : List Token) → ts ≡ sign signs.Arrow ∷ a → next alone s used a ≡ Some (e, b) → b ≡ sign signs.Semicolon ∷ c → IsFree s n → next in_do (with_inner s n) (used + node_count e) c ≡ Some (f, rest)
-      → used + node_count (and_then e (length s.inners) f) ≤ 4096 → height (and_then e (length s.inners) f) ≤ 32 → read_part next s used n ts ≡ Some (and_then e (length s.inners) f, rest)
+  part_is_read : (e f : Term) (n : List ℕ) (a b c rest : List Token) → ts ≡ sign signs.Arrow ∷ a → next alone s used a ≡ Some (e, b) → b ≡ sign signs.Semicolon ∷ c → IsFree s n → next in_do (with_inner s n) (with_event used e) c ≡ Some (f, rest)
+      → HasRoom used (and_then e (length s.inners) f) → height (and_then e (length s.inners) f) ≤ 32 → read_part next s used n ts ≡ Some (and_then e (length s.inners) f, rest)
   unfolding read_part
   part_is_read e f n a b c rest arrow first semicolon free second few low =
       rw (takes_sign signs.Arrow ts a arrow, first, takes_sign signs.Semicolon b c semicolon, binds s n free, second) (made_within used (and_then e (length s.inners) f) rest few low)
 
-  second_is_read : (e f : Term) (rest : List Token) → next in_choose s (used + node_count e) ts ≡ Some (f, rest) → used + node_count (choose e f) ≤ 4096 → height (choose e f) ≤ 32 → read_second next s used e ts ≡ Some (choose e f, rest)
+  second_is_read : (e f : Term) (rest : List Token) → next in_choose s (with_event used e) ts ≡ Some (f, rest) → HasRoom used (choose e f) → height (choose e f) ≤ 32 → read_second next s used e ts ≡ Some (choose e f, rest)
   unfolding read_second
   second_is_read e f rest second few low = rw second (made_within used (choose e f) rest few low)
 
@@ -100,14 +101,14 @@ module _ (next : Parts) (s : Names) (used : ℕ) (ts : List Token) where
   unfolding read_braced
   braced_is_read e a b rest opened inside close = rw (takes_sign signs.OpenBrace ts a opened, inside, takes_sign signs.CloseBrace b rest close) refl
 
-  catch_is_read : (e h : Term) (n : List ℕ) (a b c rest : List Token) → read_braced next s used ts ≡ Some (e, a) → a ≡ word words.Catch ∷ b → bound n b c → IsFree s n → read_braced next (with_inner s n) (used + node_count e) c ≡ Some (h, rest)
-      → used + node_count (catch e (length s.inners) h) ≤ 4096 → height (catch e (length s.inners) h) ≤ 32 → read_try next s used ts ≡ Some (catch e (length s.inners) h, rest)
+  catch_is_read : (e h : Term) (n : List ℕ) (a b c rest : List Token) → read_braced next s used ts ≡ Some (e, a) → a ≡ word words.Catch ∷ b → bound n b c → IsFree s n → read_braced next (with_inner s n) (with_event used e) c ≡ Some (h, rest)
+      → HasRoom used (catch e (length s.inners) h) → height (catch e (length s.inners) h) ≤ 32 → read_try next s used ts ≡ Some (catch e (length s.inners) h, rest)
   unfolding read_try
   catch_is_read e h n a b c rest first caught name free second few low =
       rw (first, takes_word words.Catch a b caught, takes_bound n b c name, binds s n free, second) (made_within used (catch e (length s.inners) h) rest few low)
 
-  when_is_read : (test : Test) (p q : Primitive) (e f : Term) (a b c rest : List Token) → read_condition s ts ≡ Some ((test, p, q), a) → read_braced next s used a ≡ Some (e, b) → b ≡ word words.Else ∷ c → read_braced next s (used + node_count e) c ≡ Some (f, rest)
-      → used + node_count (when test p q e f) ≤ 4096 → height (when test p q e f) ≤ 32 → read_if next s used ts ≡ Some (when test p q e f, rest)
+  when_is_read : (test : Test) (p q : Primitive) (e f : Term) (a b c rest : List Token) → read_condition s ts ≡ Some ((test, p, q), a) → read_braced next s used a ≡ Some (e, b) → b ≡ word words.Else ∷ c → read_braced next s (with_event used e) c ≡ Some (f, rest)
+      → HasRoom used (when test p q e f) → height (when test p q e f) ≤ 32 → read_if next s used ts ≡ Some (when test p q e f, rest)
   unfolding read_if
   when_is_read test p q e f a b c rest condition first other second few low =
       rw (condition, first, takes_word words.Else b c other, second) (made_within used (when test p q e f) rest few low)
@@ -165,13 +166,18 @@ module _ (s : Names) (keeps : InScope s) (ts behind rest : List Token) where
   unfolding read_leaf
   send_is_read p e middle begins channel read = rw (other_word words.Always words.Send ts behind begins refl, takes_word words.Send ts behind begins, channel, read) refl
 
+  fresh_is_read : ts ≡ word words.Fresh ∷ behind → read_leaf s ts ≡ Some (fresh, behind)
+  unfolding read_leaf
+  fresh_is_read begins =
+      rw (other_word words.Always words.Fresh ts behind begins refl, other_word words.Send words.Fresh ts behind begins refl, other_word words.Never words.Fresh ts behind begins refl, other_word words.Throw words.Fresh ts behind begins refl, takes_word words.Fresh ts behind begins) refl
+
   recv_is_read : (p : Primitive) → ts ≡ word words.Recv ∷ behind → read_primitive s behind ≡ Some (p, rest) → read_leaf s ts ≡ Some (recv p, rest)
   unfolding read_leaf
   recv_is_read p begins read =
-      rw (other_word words.Always words.Recv ts behind begins refl, other_word words.Send words.Recv ts behind begins refl, other_word words.Never words.Recv ts behind begins refl, other_word words.Throw words.Recv ts behind begins refl, takes_word words.Recv ts behind begins, read) refl
+      rw (other_word words.Always words.Recv ts behind begins refl, other_word words.Send words.Recv ts behind begins refl, other_word words.Never words.Recv ts behind begins refl, other_word words.Throw words.Recv ts behind begins refl, other_word words.Fresh words.Recv ts behind begins refl, takes_word words.Recv ts behind begins, read) refl
 
 -- a word that begins no event with parts
-module _ (next : Parts) (s : Names) (used : ℕ) (ts behind rest : List Token) (t : Term) (few : used + node_count t ≤ 4096) (low : height t ≤ 32) where
+module _ (next : Parts) (s : Names) (used : Tally) (ts behind rest : List Token) (t : Term) (few : HasRoom used t) (low : height t ≤ 32) where
   by_always : ts ≡ word words.Always ∷ behind → read_leaf s ts ≡ Some (t, rest) → read_alone next s used ts ≡ Some (t, rest)
   by_always e read = one_is_read next s used ts t words.Always behind rest e (other_word words.Do words.Always ts behind e refl) (other_word words.Choose words.Always ts behind e refl) (other_word words.Try words.Always ts behind e refl) (other_word words.If words.Always ts behind e refl) read few low
 
@@ -183,6 +189,9 @@ module _ (next : Parts) (s : Names) (used : ℕ) (ts behind rest : List Token) (
 
   by_send : ts ≡ word words.Send ∷ behind → read_leaf s ts ≡ Some (t, rest) → read_alone next s used ts ≡ Some (t, rest)
   by_send e read = one_is_read next s used ts t words.Send behind rest e (other_word words.Do words.Send ts behind e refl) (other_word words.Choose words.Send ts behind e refl) (other_word words.Try words.Send ts behind e refl) (other_word words.If words.Send ts behind e refl) read few low
+
+  by_fresh : ts ≡ word words.Fresh ∷ behind → read_leaf s ts ≡ Some (t, rest) → read_alone next s used ts ≡ Some (t, rest)
+  by_fresh e read = one_is_read next s used ts t words.Fresh behind rest e (other_word words.Do words.Fresh ts behind e refl) (other_word words.Choose words.Fresh ts behind e refl) (other_word words.Try words.Fresh ts behind e refl) (other_word words.If words.Fresh ts behind e refl) read few low
 
   by_recv : ts ≡ word words.Recv ∷ behind → read_leaf s ts ≡ Some (t, rest) → read_alone next s used ts ≡ Some (t, rest)
   by_recv e read = one_is_read next s used ts t words.Recv behind rest e (other_word words.Do words.Recv ts behind e refl) (other_word words.Choose words.Recv ts behind e refl) (other_word words.Try words.Recv ts behind e refl) (other_word words.If words.Recv ts behind e refl) read few low
@@ -196,9 +205,9 @@ module _ (m : ℕ) where
 
   -- what is spelled of this event, in scope and within the limits, is read
   abbrev pub IsRead : Term → Type 0
-  IsRead t = (layers used : ℕ) (at : Standing) (s : Names) (ts rest : List Token) → InScope s → IsEvent (scope_of m s) t → Fits layers used t → sign_first signs.Dot rest ≡ None → spells_event true at s t ts rest → read_event layers at s used ts ≡ Some (t, rest)
+  IsRead t = (layers : ℕ) (used : Tally) (at : Standing) (s : Names) (ts rest : List Token) → InScope s → IsEvent (scope_of m s) t → Fits layers used t → sign_first signs.Dot rest ≡ None → spells_event true at s t ts rest → read_event layers at s used ts ≡ Some (t, rest)
 
-  then_is_read : (e f : Term) (n : ℕ) → IsRead e → IsRead f → (layers used : ℕ) (at : Standing) (s : Names) (ts rest : List Token) → InScope s → IsEvent (scope_of m s) (and_then e n f) → Fits (suc layers) used (and_then e n f) → sign_first signs.Dot rest ≡ None → spells_event true at s (and_then e n f) ts rest
+  then_is_read : (e f : Term) (n : ℕ) → IsRead e → IsRead f → (layers : ℕ) (used : Tally) (at : Standing) (s : Names) (ts rest : List Token) → InScope s → IsEvent (scope_of m s) (and_then e n f) → Fits (suc layers) used (and_then e n f) → sign_first signs.Dot rest ≡ None → spells_event true at s (and_then e n f) ts rest
       → read_event (suc layers) at s used ts ≡ Some (and_then e n f, rest)
   unfolding read_event
   then_is_read e f n read_e read_f layers used at s ts rest keeps scoped fits no_dot h = by at no_dot h where
@@ -207,8 +216,8 @@ module _ (m : ℕ) where
     parts n' all within last dot free k =
         let i = k.2 in
         let j = i.2 in
-        let first = read_e layers used alone s k.0 i.0 keeps scoped.1 (record { few = omega (arith, fits.few); low = omega (arith, fits.low); layered = omega (arith, fits.layered) }) (other_sign signs.Dot signs.Semicolon i.0 j.0 j.1 refl) i.1 in
-        let second = read_f layers (used + node_count e) in_do (with_inner s n') j.0 last (one_more_in_scope s n' keeps free) (in_inner_scope s n' f scoped.2) (record { few = omega (arith, fits.few); low = omega (arith, fits.low); layered = omega (arith, fits.layered) }) dot j.2 in
+        let first = read_e layers used alone s k.0 i.0 keeps scoped.1 (record { few = (omega (arith, fits.few.0), omega (arith, fits.few.1)); low = omega (arith, fits.low); layered = omega (arith, fits.layered) }) (other_sign signs.Dot signs.Semicolon i.0 j.0 j.1 refl) i.1 in
+        let second = read_f layers (with_event used e) in_do (with_inner s n') j.0 last (one_more_in_scope s n' keeps free) (in_inner_scope s n' f scoped.2) (record { few = (omega (arith, fits.few.0), omega (arith, fits.few.1)); low = omega (arith, fits.low); layered = omega (arith, fits.layered) }) dot j.2 in
         let level : length s.inners ≡ n = sym scoped.0 in
         subst (λ (x : ℕ). read_part (read_event layers) s used n' within ≡ Some (and_then e x f, last)) level
         (part_is_read (read_event layers) s used within e f n' k.0 i.0 j.0 last k.1 first j.1 free second fits.few fits.low)
@@ -228,13 +237,13 @@ module _ (m : ℕ) where
         let c = k.1.1 in
         more_in_do (read_event layers) s used ts (and_then e n f) k.0 c.0 rest c.1 (parts k.0 ts c.0 rest dot k.1.0 c.2)
 
-  choice_is_read : (e f : Term) → IsRead e → IsRead f → (layers used : ℕ) (at : Standing) (s : Names) (ts rest : List Token) → InScope s → IsEvent (scope_of m s) (choose e f) → Fits (suc layers) used (choose e f) → sign_first signs.Dot rest ≡ None → spells_event true at s (choose e f) ts rest
+  choice_is_read : (e f : Term) → IsRead e → IsRead f → (layers : ℕ) (used : Tally) (at : Standing) (s : Names) (ts rest : List Token) → InScope s → IsEvent (scope_of m s) (choose e f) → Fits (suc layers) used (choose e f) → sign_first signs.Dot rest ≡ None → spells_event true at s (choose e f) ts rest
       → read_event (suc layers) at s used ts ≡ Some (choose e f, rest)
   unfolding read_event
   choice_is_read e f read_e read_f layers used at s ts rest keeps scoped fits no_dot h = by at no_dot h where
     second : (within last : List Token) → sign_first signs.Dot last ≡ None → spells_event true in_choose s f within last → read_second (read_event layers) s used e within ≡ Some (choose e f, last)
     second within last dot k =
-        let later = read_f layers (used + node_count e) in_choose s within last keeps scoped.1 (record { few = omega (arith, fits.few); low = omega (arith, fits.low); layered = omega (arith, fits.layered) }) dot k in
+        let later = read_f layers (with_event used e) in_choose s within last keeps scoped.1 (record { few = (omega (arith, fits.few.0), omega (arith, fits.few.1)); low = omega (arith, fits.low); layered = omega (arith, fits.layered) }) dot k in
         second_is_read (read_event layers) s used within e f last later fits.few fits.low
 
     whole : (last : List Token) → sign_first signs.Dot last ≡ None → spells_event true alone s (choose e f) ts last → read_alone (read_event layers) s used ts ≡ Some (choose e f, last)
@@ -242,7 +251,7 @@ module _ (m : ℕ) where
         let i = k.2 in
         let j = i.2 in
         let b = j.2 in
-        let first = read_e layers used alone s i.0 j.0 keeps scoped.0 (record { few = omega (arith, fits.few); low = omega (arith, fits.low); layered = omega (arith, fits.layered) }) (other_sign signs.Dot signs.Bar j.0 b.0 b.1 refl) j.1 in
+        let first = read_e layers used alone s i.0 j.0 keeps scoped.0 (record { few = (omega (arith, fits.few.0), omega (arith, fits.few.1)); low = omega (arith, fits.low); layered = omega (arith, fits.layered) }) (other_sign signs.Dot signs.Bar j.0 b.0 b.1 refl) j.1 in
         choose_is_read (read_event layers) s used ts e (choose e f) k.0 i.0 j.0 b.0 last k.1 i.1 first b.1 (second b.0 last dot b.2)
 
     by : (at : Standing) → sign_first signs.Dot rest ≡ None → spells_event true at s (choose e f) ts rest → read_standing (read_event layers) at s used ts ≡ Some (choose e f, rest)
@@ -251,10 +260,10 @@ module _ (m : ℕ) where
     by in_choose dot (inl k) = closed_is_read (read_event layers) s used ts (choose e f) in_choose rest whole dot k
     by in_choose dot (inr k) =
         let b = k.2 in
-        let first = read_e (suc layers) used alone s ts k.0 keeps scoped.0 (record { few = omega (arith, fits.few); low = omega (arith, fits.low); layered = omega (arith, fits.layered) }) (other_sign signs.Dot signs.Bar k.0 b.0 b.1 refl) k.1 in
+        let first = read_e (suc layers) used alone s ts k.0 keeps scoped.0 (record { few = (omega (arith, fits.few.0), omega (arith, fits.few.1)); low = omega (arith, fits.low); layered = omega (arith, fits.layered) }) (other_sign signs.Dot signs.Bar k.0 b.0 b.1 refl) k.1 in
         more_in_choose (read_event layers) s used ts e (choose e f) k.0 b.0 rest first b.1 (second b.0 rest dot b.2)
 
-  caught_is_read : (e f : Term) (n : ℕ) → IsRead e → IsRead f → (layers used : ℕ) (at : Standing) (s : Names) (ts rest : List Token) → InScope s → IsEvent (scope_of m s) (catch e n f) → Fits (suc layers) used (catch e n f) → sign_first signs.Dot rest ≡ None → spells_event true at s (catch e n f) ts rest
+  caught_is_read : (e f : Term) (n : ℕ) → IsRead e → IsRead f → (layers : ℕ) (used : Tally) (at : Standing) (s : Names) (ts rest : List Token) → InScope s → IsEvent (scope_of m s) (catch e n f) → Fits (suc layers) used (catch e n f) → sign_first signs.Dot rest ≡ None → spells_event true at s (catch e n f) ts rest
       → read_event (suc layers) at s used ts ≡ Some (catch e n f, rest)
   unfolding read_event
   caught_is_read e f n read_e read_f layers used at s ts rest keeps scoped fits no_dot h = closed_is_read (read_event layers) s used ts (catch e n f) at rest whole no_dot h where
@@ -269,15 +278,15 @@ module _ (m : ℕ) where
         let c = b.1.1 in
         let d = c.2 in
         let g = d.2 in
-        let first = read_e layers used alone s x.0 y.0 keeps scoped.1 (record { few = omega (arith, fits.few); low = omega (arith, fits.low); layered = omega (arith, fits.layered) }) (other_sign signs.Dot signs.CloseBrace y.0 i.0 y.2 refl) y.1 in
-        let second = read_f layers (used + node_count e) alone (with_inner s b.0) d.0 g.0 (one_more_in_scope s b.0 keeps free) (in_inner_scope s b.0 f scoped.2) (record { few = omega (arith, fits.few); low = omega (arith, fits.low); layered = omega (arith, fits.layered) }) (other_sign signs.Dot signs.CloseBrace g.0 last g.2 refl) g.1 in
+        let first = read_e layers used alone s x.0 y.0 keeps scoped.1 (record { few = (omega (arith, fits.few.0), omega (arith, fits.few.1)); low = omega (arith, fits.low); layered = omega (arith, fits.layered) }) (other_sign signs.Dot signs.CloseBrace y.0 i.0 y.2 refl) y.1 in
+        let second = read_f layers (with_event used e) alone (with_inner s b.0) d.0 g.0 (one_more_in_scope s b.0 keeps free) (in_inner_scope s b.0 f scoped.2) (record { few = (omega (arith, fits.few.0), omega (arith, fits.few.1)); low = omega (arith, fits.low); layered = omega (arith, fits.layered) }) (other_sign signs.Dot signs.CloseBrace g.0 last g.2 refl) g.1 in
         let level : length s.inners ≡ n = sym scoped.0 in
         try_is_read (read_event layers) s used ts (catch e n f) k.0 last k.1
         (subst (λ (z : ℕ). read_try (read_event layers) s used k.0 ≡ Some (catch e z f, last)) level
         (catch_is_read (read_event layers) s used k.0 e f b.0 i.0 j.0 c.0 last (braced_is_read (read_event layers) s used k.0 e x.0 y.0 i.0 x.1 first y.2) j.1 c.1 free
-        (braced_is_read (read_event layers) (with_inner s b.0) (used + node_count e) c.0 f d.0 g.0 last d.1 second g.2) fits.few fits.low))
+        (braced_is_read (read_event layers) (with_inner s b.0) (with_event used e) c.0 f d.0 g.0 last d.1 second g.2) fits.few fits.low))
 
-  tested_is_read : (test : Test) (p q : Primitive) (e f : Term) → IsRead e → IsRead f → (layers used : ℕ) (at : Standing) (s : Names) (ts rest : List Token) → InScope s → IsEvent (scope_of m s) (when test p q e f) → Fits (suc layers) used (when test p q e f) → sign_first signs.Dot rest ≡ None → spells_event true at s (when test p q e f) ts rest
+  tested_is_read : (test : Test) (p q : Primitive) (e f : Term) → IsRead e → IsRead f → (layers : ℕ) (used : Tally) (at : Standing) (s : Names) (ts rest : List Token) → InScope s → IsEvent (scope_of m s) (when test p q e f) → Fits (suc layers) used (when test p q e f) → sign_first signs.Dot rest ≡ None → spells_event true at s (when test p q e f) ts rest
       → read_event (suc layers) at s used ts ≡ Some (when test p q e f, rest)
   unfolding read_event
   tested_is_read test p q e f read_e read_f layers used at s ts rest keeps scoped fits no_dot h = closed_is_read (read_event layers) s used ts (when test p q e f) at rest whole no_dot h where
@@ -293,11 +302,11 @@ module _ (m : ℕ) where
         let u = g.2 in
         let v = u.2 in
         let condition = condition_is_read s keeps test p q k.0 a.0 b.0 c.0 a.1 b.1 c.1 (other_sign signs.Dot signs.OpenBrace c.0 x.0 x.1 refl) in
-        let first = read_e layers used alone s x.0 y.0 keeps scoped.2 (record { few = omega (arith, fits.few); low = omega (arith, fits.low); layered = omega (arith, fits.layered) }) (other_sign signs.Dot signs.CloseBrace y.0 d.0 y.2 refl) y.1 in
-        let second = read_f layers (used + node_count e) alone s u.0 v.0 keeps scoped.3 (record { few = omega (arith, fits.few); low = omega (arith, fits.low); layered = omega (arith, fits.layered) }) (other_sign signs.Dot signs.CloseBrace v.0 last v.2 refl) v.1 in
+        let first = read_e layers used alone s x.0 y.0 keeps scoped.2 (record { few = (omega (arith, fits.few.0), omega (arith, fits.few.1)); low = omega (arith, fits.low); layered = omega (arith, fits.layered) }) (other_sign signs.Dot signs.CloseBrace y.0 d.0 y.2 refl) y.1 in
+        let second = read_f layers (with_event used e) alone s u.0 v.0 keeps scoped.3 (record { few = (omega (arith, fits.few.0), omega (arith, fits.few.1)); low = omega (arith, fits.low); layered = omega (arith, fits.layered) }) (other_sign signs.Dot signs.CloseBrace v.0 last v.2 refl) v.1 in
         if_is_read (read_event layers) s used ts (when test p q e f) k.0 last k.1
         (when_is_read (read_event layers) s used k.0 test p q e f c.0 d.0 g.0 last condition (braced_is_read (read_event layers) s used c.0 e x.0 y.0 d.0 x.1 first y.2) g.1
-        (braced_is_read (read_event layers) s (used + node_count e) g.0 f u.0 v.0 last u.1 second v.2) fits.few fits.low)
+        (braced_is_read (read_event layers) s (with_event used e) g.0 f u.0 v.0 last u.1 second v.2) fits.few fits.low)
 
   pub event_is_read : (t : Term) → IsRead t
   unfolding read_event
@@ -305,7 +314,8 @@ module _ (m : ℕ) where
   event_is_read (always e) (suc layers) used at s ts rest keeps scoped fits no_dot h =
       closed_is_read (read_event layers) s used ts (always e) at rest
       (λ last dot k. by_always (read_event layers) s used ts k.0 last (always e) fits.few fits.low k.1 (always_is_read s keeps ts k.0 last (scope_of m s) e scoped k.1 (expression_is_read s keeps (scope_of m s) e k.0 last scoped k.2))) no_dot h
-  event_is_read fresh (suc layers) used at s ts rest keeps scoped fits no_dot h = absurd h
+  event_is_read fresh (suc layers) used at s ts rest keeps scoped fits no_dot h =
+      closed_is_read (read_event layers) s used ts fresh at rest (λ last dot k. by_fresh (read_event layers) s used ts last last fresh fits.few fits.low k (fresh_is_read s keeps ts last last k)) no_dot h
   event_is_read never (suc layers) used at s ts rest keeps scoped fits no_dot h =
       closed_is_read (read_event layers) s used ts never at rest (λ last dot k. by_never (read_event layers) s used ts last last never fits.few fits.low k (never_is_read s keeps ts last last k)) no_dot h
   event_is_read (throw e) (suc layers) used at s ts rest keeps scoped fits no_dot h =

@@ -25,7 +25,7 @@ spells_from_blanks [] text h = h
 spells_from_blanks (t ∷ ts) text h = let b = h.1 in (h.0, record { gap = b.gap; is_split = b.is_split; is_gap = b.is_gap; is_token = b.is_token; is_longest = b.is_longest }, h.2)
 
 -- a byte after which a gap goes on
-abbrev Steps : Between → ℕ → Between → Type 0
+abbrev pub Steps : Between → ℕ → Between → Type 0
 Steps place b next = (gap_bytes : List ℕ) → IsGap next gap_bytes → IsGap place (b ∷ gap_bytes)
 
 -- a token is no gap
@@ -56,13 +56,13 @@ sign_no_gap next b =
     neither next (b == 124) _ _ (λ e. cc) (
     λ e. cc)))))))))))
 
-token_no_gap : (next : Between) (b : ℕ) (bs : List ℕ) → token_at b bs ≡ gap next → ⊥
+pub token_no_gap : (next : Between) (b : ℕ) (bs : List ℕ) → token_at b bs ≡ gap next → ⊥
 token_no_gap next b bs =
     neither next (is_ascii_alphabetic b) _ _ (λ e. cc)
     (neither next (is_ascii_digit b) _ _ (λ e. cc)
     (neither next (b == 60) _ _ (less_no_gap next bs) (neither next (b == 45) _ _ (minus_no_gap next bs) (neither next (b == 95) _ _ (λ e. cc) (sign_no_gap next b)))))
 
-steps_of : (place next : Between) (b : ℕ) (bs : List ℕ) → piece_at place b bs ≡ gap next → Steps place b next
+pub steps_of : (place next : Between) (b : ℕ) (bs : List ℕ) → piece_at place b bs ≡ gap next → Steps place b next
 steps_of in_comment next b bs e = by (b == 10) (eqb-true b 10) (eqb-false b 10) e where
   by : (v : Bool) → (v ≡ true → b ≡ 10) → (v ≡ false → b ≢ 10) → (if v then gap in_blanks else gap in_comment) ≡ gap next → Steps in_comment b next
   by true same unlike e = let n : in_blanks ≡ next = cc in subst (λ (x : Between). Steps in_comment b x) n (λ g h. inl (same refl, h))
@@ -77,7 +77,7 @@ steps_of in_blanks next b bs e = blank (is_blank b) refl e where
   blank false f e = hash (b == 35) (eqb-true b 35) e
 
 -- a found token stands among blanks, where the lexer looks for tokens
-token_of : (place : Between) (b : ℕ) (bs : List ℕ) (t : Token) → piece_at place b bs ≡ found t → (place ≡ in_blanks) × (token_at b bs ≡ found t)
+pub token_of : (place : Between) (b : ℕ) (bs : List ℕ) (t : Token) → piece_at place b bs ≡ found t → (place ≡ in_blanks) × (token_at b bs ≡ found t)
 token_of in_comment b bs t e = by (b == 10) e where
   by : (v : Bool) → (if v then gap in_blanks else gap in_comment) ≡ found t → (in_comment ≡ in_blanks) × (token_at b bs ≡ found t)
   by true e = absurd cc
@@ -109,7 +109,7 @@ token_before b bs t ts e h =
       spells_from_blanks ts (drop (pred (length (spelling t))) bs) h,
     )
 
-ends_gap : (place : Between) → IsGap place (10 ∷ [])
+pub ends_gap : (place : Between) → IsGap place (10 ∷ [])
 ends_gap in_blanks = inl (refl, tt)
 ends_gap in_comment = inl (refl, tt)
 

@@ -2,6 +2,8 @@
 use Rattle.std.proofs.Common.{◌≡◌, ◌≢◌, ℕ, zero, suc, ◌<◌, ◌≤◌, List, [], ◌∷◌, ◌++◌, length, take, refl, sym, ◌∙◌, ap, subst, append_assoc, length-append, arith}
 use Rattle.std.proofs.lemmas.List.{append-nil}
 use Rattle.std.specs.List.{AllByRecursion}
+use Rattle.te_script.specs.declared.script.Stmt.{Stmt}
+use Rattle.te_script.specs.Texts.{HasRoot}
 use Rattle.te_script.specs.Scripts.{AreDistinct, AreApart}
 use Rattle.te_script.proofs.Appending.{AllByRecursion-append}
 use Rattle.te_reader.specs.Grammar.{IsAt, IsNew, IsShort}
@@ -76,3 +78,8 @@ pub all_at : (P : List ℕ → Type 0) (xs : List (List ℕ)) (r : ℕ) (n : Lis
 all_at P [] r n h at = absurd cc
 all_at P (x ∷ xs) zero n h at = let same : x ≡ n = cc in subst P same h.0
 all_at P (x ∷ xs) (suc r) n h at = all_at P xs r n h.1 at
+
+-- one statement more has a root
+pub all_roots : (xs : List Stmt) (x : Stmt) → AllByRecursion HasRoot xs → HasRoot x → AllByRecursion HasRoot (xs ++ x ∷ [])
+all_roots [] x h r = (r, tt)
+all_roots (y ∷ ys) x h r = (h.0, all_roots ys x h.1 r)

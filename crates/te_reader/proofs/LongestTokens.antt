@@ -9,9 +9,10 @@ use Rattle.te_reader.specs.declared.token.Word.{Word}
 use Rattle.te_reader.specs.declared.token.Word.TheVariants as words
 use Rattle.te_reader.specs.declared.token.Sign.{Sign}
 use Rattle.te_reader.specs.declared.token.Sign.TheVariants as signs
-use Rattle.te_reader.specs.Tokens.{Token, word, name, inner, integer, sign, word_spelling, sign_spelling, spelling, is_word_byte, is_blank, IsDigits, IsToken, IsLongest}
+use Rattle.te_script.specs.Names.{is_word_byte}
+use Rattle.te_reader.specs.Tokens.{Token, word, name, inner, integer, sign, word_spelling, sign_spelling, spelling, is_blank, IsDigits, IsToken, IsLongest}
 use Rattle.te_reader.specs.Lexed.{Piece, found, run, reserved_as, word_or_name, one_sign, less_sign, minus_sign, token_at}
-use Rattle.te_reader.proofs.ReservedWords.{reserved_spells, reserved_back}
+use Rattle.te_reader.proofs.ReservedWords.{reserved_spells, reserved_back, differs_from_reserved}
 use Rattle.te_reader.proofs.ByteKinds.{digit_is_no_letter}
 
 -- ---- runs
@@ -62,11 +63,11 @@ pub record Begun (u : Token) : Type 0 where
   pub spelled : spelling u ≡ first ∷ others
   pub kind : Kind first others
 
-abbrev passes : List ℕ → Bool
+abbrev pub passes : List ℕ → Bool
 passes [] = true
 passes (b ∷ bs) = if is_word_byte b then passes bs else false
 
-passes_all : (bs : List ℕ) → passes bs ≡ true → IsWordRun bs
+pub passes_all : (bs : List ℕ) → passes bs ≡ true → IsWordRun bs
 passes_all [] e = tt
 passes_all (b ∷ bs) e = by (is_word_byte b) refl (passes_all bs) e where
   by : (v : Bool) → is_word_byte b ≡ v → (passes bs ≡ true → IsWordRun bs) → (if v then passes bs else false) ≡ true → IsWordRun (b ∷ bs)
@@ -166,7 +167,7 @@ word_found b bs (Some w) e f =
 word_found b bs None e f =
     let r = run is_word_byte b bs in
     record {
-      is_token = (e, run_passes is_word_byte bs, λ w same. absurd (let known : reserved_as r ≡ Some w = ap reserved_as (sym same) ∙ reserved_back w in cc));
+      is_token = (e, run_passes is_word_byte bs, differs_from_reserved r (λ w same. absurd (let known : reserved_as r ≡ Some w = ap reserved_as (sym same) ∙ reserved_back w in cc)));
       long = rw e (ap suc (length-prefix_len is_word_byte bs));
       split = rw e (ap (λ x. b ∷ x) (sym (take-append-drop (prefix_len is_word_byte bs) bs)));
     }

@@ -7,7 +7,7 @@ use Rattle.te_terms.specs.declared.expr.Arith.{Arith}
 use Rattle.te_terms.specs.declared.expr.Arith.TheVariants as ariths
 use Rattle.te_terms.specs.Values.{fits_i64}
 use Rattle.te_terms.specs.Expressions.{Variable, register, name, Primitive, int, chan, part, Calculation, one, both, Expression, whole, tuple}
-use Rattle.te_script.specs.Scripts.{Scope, IsNamed, IsPrimitive, IsCalculation, IsExpression}
+use Rattle.te_script.specs.Scripts.{Scope, IsVariable, IsPrimitive, IsCalculation, IsExpression}
 use Rattle.te_reader.specs.declared.token.Sign.TheVariants as signs
 use Rattle.te_reader.specs.Tokens as tokens
 use Rattle.te_reader.specs.Tokens.{Token, sign}
@@ -62,7 +62,7 @@ module _ (m : ℕ) (s : Names) (many : length s.channels ≤ m) where
   -- a variable whose NAME was read
   pub record ReadVariable (n : List ℕ) (x : Variable) : Type 0 where
     pub spelled : (ts rest : List Token) → ts ≡ tokens.name n ∷ rest → spells_variable true s x ts rest
-    pub scoped : IsNamed (scope_of m s) x
+    pub scoped : IsVariable (scope_of m s) x
 
   pub variable_read : (n : List ℕ) (x : Variable) → variable_named s n ≡ Some x → ReadVariable n x
   unfolding variable_named
@@ -86,7 +86,7 @@ module _ (m : ℕ) (s : Names) (many : length s.channels ≤ m) where
     pub scoped : IsPrimitive (scope_of m s) p
 
   -- a place of a variable
-  part_is : (x : Variable) (d : ℕ) (ts middle behind rest : List Token) → spells_variable true s x ts middle → IsNamed (scope_of m s) x → sign_first signs.Dot middle ≡ Some behind → read_place behind ≡ Some (d, rest) → ReadPrimitive (part x d) ts rest
+  part_is : (x : Variable) (d : ℕ) (ts middle behind rest : List Token) → spells_variable true s x ts middle → IsVariable (scope_of m s) x → sign_first signs.Dot middle ≡ Some behind → read_place behind ≡ Some (d, rest) → ReadPrimitive (part x d) ts rest
   part_is x d ts middle behind rest h scoped dot e =
       let place = place_read d behind rest e in
       record { spelled = (place.1, (middle, h, (behind, sign_is signs.Dot middle behind dot, place.0))); scoped = (scoped, omega (arith, place.1)) }
@@ -128,7 +128,7 @@ module _ (m : ℕ) (s : Names) (many : length s.channels ≤ m) where
     by (Some d) f e =
         let a = bind_some (fitting (integer_value d.0)) _ _ e in
         let fit = fitting_some (integer_value d.0) a.0 a.1 in
-        carried (λ x last. ReadPrimitive x ts last) (int a.0) p d.1 rest a.2 (record { spelled = (fit.1, (d.0, fit.0, integer_is ts d.0 d.1 f)); scoped = tt })
+        carried (λ x last. ReadPrimitive x ts last) (int a.0) p d.1 rest a.2 (record { spelled = (fit.1, (d.0, fit.0, integer_is ts d.0 d.1 f)); scoped = fit.1 })
 
   -- a calculation that was read
   pub record ReadCalculation (c : Calculation) (ts rest : List Token) : Type 0 where

@@ -7,10 +7,12 @@ use Rattle.te_reader.specs.declared.token.Word.{Word}
 use Rattle.te_reader.specs.declared.token.Word.TheVariants as words
 use Rattle.te_reader.specs.declared.token.Sign.{Sign}
 use Rattle.te_reader.specs.declared.token.Sign.TheVariants as signs
-use Rattle.te_reader.specs.Tokens.{Token, word, name, inner, integer, sign, word_spelling, sign_spelling, spelling, is_word_byte, IsDigits, IsToken, Between, in_blanks, in_comment, is_blank, IsGap, IsLongest, Spells}
+use Rattle.te_script.specs.Names.{is_word_byte}
+use Rattle.te_reader.specs.Tokens.{Token, word, name, inner, integer, sign, word_spelling, sign_spelling, spelling, IsDigits, IsToken, Between, in_blanks, in_comment, is_blank, IsGap, IsLongest, Spells}
 use Rattle.te_reader.specs.Lexed.{gap, found, reserved_as, word_or_name, token_at, piece_at, before, run, lexed_behind, lexed}
 use Rattle.te_reader.proofs.ByteKinds.{letter_is_no_gap, digit_is_no_gap, digit_is_no_letter}
-use Rattle.te_reader.proofs.ReservedWords.{reserved_spells, reserved_back}
+use Rattle.te_reader.proofs.ReservedWords.{reserved_spells, reserved_back, differs_from_words}
+use Rattle.te_reader.specs.Spots.{token, spot, spots}
 use Rattle.te_reader.proofs.TokenSteps.{found_first, at_token}
 use Rattle.te_reader.proofs.LongestTokens.{Kind, letters, underscore, digits, negative, arrow, less, one_byte, begun, limit, within_limit, token_found}
 
@@ -21,16 +23,16 @@ stepped : (place next : Between) (b : ℕ) (bs : List ℕ) → piece_at place b 
 unfolding lexed_behind
 stepped place next b bs e = rw e refl
 
-blank_piece : (b : ℕ) (bs : List ℕ) → is_blank b ≡ true → piece_at in_blanks b bs ≡ gap in_blanks
+pub blank_piece : (b : ℕ) (bs : List ℕ) → is_blank b ≡ true → piece_at in_blanks b bs ≡ gap in_blanks
 blank_piece b bs e = rw e refl
 
-hash_piece : (b : ℕ) (bs : List ℕ) → b ≡ 35 → piece_at in_blanks b bs ≡ gap in_comment
+pub hash_piece : (b : ℕ) (bs : List ℕ) → b ≡ 35 → piece_at in_blanks b bs ≡ gap in_comment
 hash_piece b bs e = rw e refl
 
-line_piece : (b : ℕ) (bs : List ℕ) → b ≡ 10 → piece_at in_comment b bs ≡ gap in_blanks
+pub line_piece : (b : ℕ) (bs : List ℕ) → b ≡ 10 → piece_at in_comment b bs ≡ gap in_blanks
 line_piece b bs e = rw e refl
 
-inside_piece : (b : ℕ) (bs : List ℕ) → b ≢ 10 → piece_at in_comment b bs ≡ gap in_comment
+pub inside_piece : (b : ℕ) (bs : List ℕ) → b ≢ 10 → piece_at in_comment b bs ≡ gap in_comment
 inside_piece b bs e = rw (ne_eqb b 10 e) refl
 
 -- a gap is passed over
@@ -132,7 +134,7 @@ sign_back signs.Star = refl
 sign_back signs.Bar = refl
 
 -- a name is no reserved word
-not_reserved : (n : List ℕ) → ((w : Word) → word_spelling w ≢ n) → word_or_name (reserved_as n) n ≡ name n
+pub not_reserved : (n : List ℕ) → ((w : Word) → word_spelling w ≢ n) → word_or_name (reserved_as n) n ≡ name n
 not_reserved n h = by (reserved_as n) (reserved_spells n) where
   by : (o : Option Word) → ((w : Word) → o ≡ Some w → word_spelling w ≡ n) → word_or_name o n ≡ name n
   by None e = refl
@@ -142,7 +144,7 @@ token_back : (u : Token) → IsToken u → token_by (spelling u) ≡ u
 token_back (word w) h = word_back w
 token_back (sign g) h = sign_back g
 token_back (name []) h = absurd h
-token_back (name (b ∷ bs)) h = rw h.0 (not_reserved (b ∷ bs) h.2)
+token_back (name (b ∷ bs)) h = rw h.0 (not_reserved (b ∷ bs) (differs_from_words (b ∷ bs) h.2))
 token_back (inner []) h = absurd h
 token_back (inner (b ∷ bs)) h = rw h.0 refl
 token_back (integer []) h = absurd h
@@ -172,7 +174,7 @@ less_there x (d ∷ ds) e = by (d == 45) refl where
   by false f = (sign signs.Less, rw (e, f) refl)
 
 -- some token stands where one begins
-token_there : (x : ℕ) (xs ys : List ℕ) → Kind x xs → (t : Token) × (token_at x ys ≡ found t)
+pub token_there : (x : ℕ) (xs ys : List ℕ) → Kind x xs → (t : Token) × (token_at x ys ≡ found t)
 token_there x xs ys (letters e all) = (word_or_name (reserved_as (run is_word_byte x ys)) (run is_word_byte x ys), rw e refl)
 token_there x xs ys (underscore e all) = (inner (run is_word_byte x ys), rw e refl)
 token_there x xs ys (digits e all) = (integer (run is_ascii_digit x ys), rw (digit_is_no_letter x e, e) refl)
@@ -202,7 +204,8 @@ same_parts (x ∷ xs) (u ∷ us) ys vs e l =
     ((λ i. first i ∷ later.0 i), later.1)
 
 -- the longest token is the one that the lexer finds
-token_taken : (u : Token) (rest : List ℕ) → IsToken u → IsLongest u (spelling u ++ rest) → lexed (spelling u ++ rest) ≡ before (found u) (lexed rest)
+pub token_taken : (u : Token) (rest : List ℕ) → IsToken u → IsLongest u (spelling u ++ rest)
+    → (lexed (spelling u ++ rest) ≡ before (found u) (lexed rest)) × (spots (spelling u ++ rest) ≡ spot (token u) (length (spelling u ++ rest)) (spots rest))
 token_taken u rest is_token longest =
     let k = begun u is_token in
     let all : spelling u ++ rest ≡ k.first ∷ (k.others ++ rest) = ap (λ x. x ++ rest) k.spelled in
@@ -214,10 +217,13 @@ token_taken u rest is_token longest =
     let parts = same_parts (spelling u) (spelling there.0) rest (drop (limit k.first (k.others ++ rest)) (k.others ++ rest)) (all ∙ f.split) as_long in
     let same : u ≡ there.0 = sym (token_back u is_token) ∙ ap token_by parts.0 ∙ token_back there.0 f.is_token in
     let at : piece_at in_blanks k.first (k.others ++ rest) ≡ found u = at_token k.first (k.others ++ rest) (no_gap_there k.first k.others k.kind) ∙ there.1 ∙ ap found (sym same) in
-    ap lexed all ∙ found_first u k.first (k.others ++ rest) (limit k.first (k.others ++ rest)) at (as_long ∙ f.long) ∙ ap (λ x. before (found u) (lexed x)) (sym parts.1)
+    let first = found_first u k.first (k.others ++ rest) (limit k.first (k.others ++ rest)) at (as_long ∙ f.long) in (
+      ap lexed all ∙ first.0 ∙ ap (λ x. before (found u) (lexed x)) (sym parts.1),
+      ap spots all ∙ first.1 ∙ ap (λ x. spot (token u) (length (k.first ∷ (k.others ++ rest))) (spots x)) (sym parts.1) ∙ ap (λ x. spot (token u) (length x) (spots rest)) (sym all),
+    )
 
 pub spelled_is_lexed : (ts : List Token) (text : List ℕ) → Spells ts text → lexed text ≡ record { tokens = ts; whole = true }
 spelled_is_lexed [] text h = last_gap in_blanks text h
 spelled_is_lexed (t ∷ ts) text h =
     let b = h.1 in
-    ap lexed b.is_split ∙ gap_passed in_blanks b.gap (spelling t ++ h.0) b.is_gap ∙ token_taken t h.0 b.is_token b.is_longest ∙ ap (before (found t)) (spelled_is_lexed ts h.0 h.2)
+    ap lexed b.is_split ∙ gap_passed in_blanks b.gap (spelling t ++ h.0) b.is_gap ∙ (token_taken t h.0 b.is_token b.is_longest).0 ∙ ap (before (found t)) (spelled_is_lexed ts h.0 h.2)

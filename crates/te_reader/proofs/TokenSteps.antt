@@ -11,8 +11,11 @@ use Rattle.te_reader.specs.declared.token.Word.{Word}
 use Rattle.te_reader.specs.declared.token.Sign.TheVariants as signs
 use Rattle.te_reader.specs.declared.token.Lexeme.{Lexeme}
 use Rattle.te_reader.specs.declared.token.Lexeme.TheVariants as lexemes
-use Rattle.te_reader.specs.Tokens.{Token, inner, integer, sign, word_spelling, spelling, is_word_byte, is_blank, Between, in_blanks, in_comment}
-use Rattle.te_reader.specs.Lexed.{gap, found, other, piece_at, token_at, before, run, reserved_as, word_or_name, lexed_behind, lexed, headed, one_sign, place_in, IsAtToken, IsOneSign}
+use Rattle.te_script.specs.Names.{is_word_byte}
+use Rattle.te_reader.specs.Tokens.{Token, inner, integer, sign, word_spelling, spelling, is_blank, Between, in_blanks, in_comment}
+use Rattle.te_reader.specs.Lexed.{gap, found, other, piece_at, token_at, before, run, reserved_as, word_or_name, lexed_behind, lexed, one_sign, place_in, IsAtToken, IsOneSign}
+use Rattle.te_reader.specs.Spots.{token, over, strange, spot, spots_behind, spots}
+use Rattle.te_reader.specs.Finding.{IsHeaded}
 use Rattle.te_reader.proofs.ByteKinds.{letter_is_no_gap, letter_is_word, digit_is_no_gap, digit_is_no_letter}
 use Rattle.te_reader.proofs.ReservedWords.{reserved_spells}
 
@@ -24,20 +27,35 @@ behind_drops zero (b ∷ bs) = refl
 behind_drops (suc k) [] = refl
 behind_drops (suc k) (b ∷ bs) = behind_drops k bs
 
--- a byte of a gap is passed over
-pub gap_goes : (place next : Between) (i : ℕ) (text : List ℕ) → i < length text → piece_at place (get_or text i 0) (drop (suc i) text) ≡ gap next → lexed_behind place 0 (drop i text) ≡ lexed_behind next 0 (drop (suc i) text)
-unfolding lexed_behind
-gap_goes place next i text h e = rw (drop-cons text i 0, e)
+pub spots_drop : (k : ℕ) (bs : List ℕ) → spots_behind in_blanks k bs ≡ spots (drop k bs)
+unfolding spots_behind
+spots_drop zero [] = refl
+spots_drop zero (b ∷ bs) = refl
+spots_drop (suc k) [] = refl
+spots_drop (suc k) (b ∷ bs) = spots_drop k bs
 
--- a token is the first
-pub found_first : (t : Token) (b : ℕ) (bs : List ℕ) (m : ℕ) → piece_at in_blanks b bs ≡ found t → length (spelling t) ≡ suc m → lexed (b ∷ bs) ≡ before (found t) (lexed (drop m bs))
-unfolding lexed_behind
-found_first t b bs m e h = rw (e, h, behind_drops m bs)
+-- what stands behind one place of a text is what stands behind another, for tokens and for spots
+abbrev pub GoesOn : Between → ℕ → Between → ℕ → List ℕ → Type 0
+GoesOn place i next j text =
+    (lexed_behind place 0 (drop i text) ≡ lexed_behind next 0 (drop j text)) × (spots_behind place 0 (drop i text) ≡ spots_behind next 0 (drop j text))
+
+-- a byte of a gap is passed over
+pub gap_goes : (place next : Between) (i : ℕ) (text : List ℕ) → i < length text → piece_at place (get_or text i 0) (drop (suc i) text) ≡ gap next → GoesOn place i next (suc i) text
+unfolding lexed_behind spots_behind
+gap_goes place next i text h e = (rw (drop-cons text i 0, e) refl, rw (drop-cons text i 0, e) refl)
+
+-- a token of so many bytes is the first
+abbrev pub IsFirst : Token → ℕ → List ℕ → Type 0
+IsFirst t n text = (lexed text ≡ before (found t) (lexed (drop n text))) × (spots text ≡ spot (token t) (length text) (spots (drop n text)))
+
+pub found_first : (t : Token) (b : ℕ) (bs : List ℕ) (m : ℕ) → piece_at in_blanks b bs ≡ found t → length (spelling t) ≡ suc m → IsFirst t (suc m) (b ∷ bs)
+unfolding lexed_behind spots_behind
+found_first t b bs m e h = (rw (e, h, behind_drops m bs) refl, rw (e, h, spots_drop m bs) refl)
 
 -- a byte that begins no token is the last
-pub other_last : (b : ℕ) (bs : List ℕ) → piece_at in_blanks b bs ≡ other → lexed (b ∷ bs) ≡ record { tokens = []; whole = false }
-unfolding lexed_behind
-other_last b bs e = rw e
+pub other_last : (b : ℕ) (bs : List ℕ) → piece_at in_blanks b bs ≡ other → (lexed (b ∷ bs) ≡ record { tokens = []; whole = false }) × (spots (b ∷ bs) ≡ spot (strange b) (suc (length bs)) [])
+unfolding lexed_behind spots_behind
+other_last b bs e = (rw e refl, rw e refl)
 
 -- at a byte of no gap stands what `token_at` says
 pub at_token : (b : ℕ) (bs : List ℕ) → (is_blank b ≡ false) × (nat_eq b 35 ≡ false) → piece_at in_blanks b bs ≡ token_at b bs
@@ -54,7 +72,7 @@ length_run p b bs = ap suc (length-prefix_len p bs)
 run_is : (p : ℕ → Bool) (b : ℕ) (bs : List ℕ) (n : ℕ) → p b ≡ true → n ≡ prefix_len p (b ∷ bs) → n ≡ suc (prefix_len p bs)
 run_is p b bs n h e = e ∙ (rw h (one-add _))
 
-pub word_first : (text : List ℕ) (n : ℕ) → is_ascii_alphabetic (get_or text 0 0) ≡ true → n ≡ prefix_len is_word_byte text → lexed text ≡ before (found (word_or_name (reserved_as (take n text)) (take n text))) (lexed (drop n text))
+pub word_first : (text : List ℕ) (n : ℕ) → is_ascii_alphabetic (get_or text 0 0) ≡ true → n ≡ prefix_len is_word_byte text → IsFirst (word_or_name (reserved_as (take n text)) (take n text)) n text
 word_first [] n h e = absurd cc
 word_first (b ∷ bs) n h e =
     let at : piece_at in_blanks b bs ≡ found (word_or_name (reserved_as (run is_word_byte b bs)) (run is_word_byte b bs)) = at_token b bs (letter_is_no_gap b h) ∙ (rw h refl) in
@@ -74,14 +92,14 @@ first_digit d ds n = by (is_ascii_digit d) where
   by true e some = refl
   by false e some = absurd (some e)
 
-pub inner_first : (text : List ℕ) (n : ℕ) → get_or text 0 0 ≡ 95 → n ≡ prefix_len is_word_byte text → lexed text ≡ before (found (inner (take n text))) (lexed (drop n text))
+pub inner_first : (text : List ℕ) (n : ℕ) → get_or text 0 0 ≡ 95 → n ≡ prefix_len is_word_byte text → IsFirst (inner (take n text)) n text
 inner_first [] n h e = absurd cc
 inner_first (b ∷ bs) n h e =
     let at : piece_at in_blanks b bs ≡ found (inner (run is_word_byte b bs)) = rw h refl in
     let passes : is_word_byte b ≡ true = rw h refl in
     rw (run_is is_word_byte b bs n passes e) (found_first _ b bs _ at (length_run is_word_byte b bs))
 
-pub digits_first : (text : List ℕ) (n : ℕ) → is_ascii_digit (get_or text 0 0) ≡ true → n ≡ prefix_len is_ascii_digit text → lexed text ≡ before (found (integer (take n text))) (lexed (drop n text))
+pub digits_first : (text : List ℕ) (n : ℕ) → is_ascii_digit (get_or text 0 0) ≡ true → n ≡ prefix_len is_ascii_digit text → IsFirst (integer (take n text)) n text
 digits_first [] n h e = absurd cc
 digits_first (b ∷ bs) n h e =
     let at : piece_at in_blanks b bs ≡ found (integer (run is_ascii_digit b bs)) = at_token b bs (digit_is_no_gap b h) ∙ (rw (digit_is_no_letter b h, h) refl) in
@@ -89,12 +107,12 @@ digits_first (b ∷ bs) n h e =
 
 -- ---- signs
 
-pub minus_first : (text : List ℕ) → get_or text 0 0 ≡ 45 → prefix_len is_ascii_digit (drop 1 text) ≡ 0 → lexed text ≡ before (found (sign signs.Minus)) (lexed (drop 1 text))
+pub minus_first : (text : List ℕ) → get_or text 0 0 ≡ 45 → prefix_len is_ascii_digit (drop 1 text) ≡ 0 → IsFirst (sign signs.Minus) 1 text
 minus_first [] h e = absurd cc
 minus_first (b ∷ []) h e = found_first _ b [] 0 (rw h refl) refl
 minus_first (b ∷ d ∷ ds) h e = found_first _ b (d ∷ ds) 0 (rw (h, no_digit d ds e) refl) refl
 
-pub negative_first : (text : List ℕ) (n : ℕ) → get_or text 0 0 ≡ 45 → n ≡ prefix_len is_ascii_digit (drop 1 text) → (n ≡ 0 → ⊥) → lexed text ≡ before (found (integer (take (1 + n) text))) (lexed (drop (1 + n) text))
+pub negative_first : (text : List ℕ) (n : ℕ) → get_or text 0 0 ≡ 45 → n ≡ prefix_len is_ascii_digit (drop 1 text) → (n ≡ 0 → ⊥) → IsFirst (integer (take (1 + n) text)) (1 + n) text
 negative_first [] n h e some = absurd cc
 negative_first (b ∷ []) n h e some = absurd (some e)
 negative_first (b ∷ d ∷ ds) n h e some =
@@ -103,12 +121,12 @@ negative_first (b ∷ d ∷ ds) n h e some =
     let long : length (spelling (integer (45 ∷ run is_ascii_digit d ds))) ≡ suc (suc (prefix_len is_ascii_digit ds)) = ap suc (length_run is_ascii_digit d ds) in
     rw (one-add n, run_is is_ascii_digit d ds n digit e, h) (found_first _ 45 (d ∷ ds) _ (ap (λ x. piece_at in_blanks x (d ∷ ds)) (sym h) ∙ at) long)
 
-pub arrow_first : (text : List ℕ) → get_or text 0 0 ≡ 60 → get_or text 1 0 ≡ 45 → lexed text ≡ before (found (sign signs.Arrow)) (lexed (drop 2 text))
+pub arrow_first : (text : List ℕ) → get_or text 0 0 ≡ 60 → get_or text 1 0 ≡ 45 → IsFirst (sign signs.Arrow) 2 text
 arrow_first [] h e = absurd cc
 arrow_first (b ∷ []) h e = absurd cc
 arrow_first (b ∷ d ∷ ds) h e = found_first _ b (d ∷ ds) 1 (rw (h, e) refl) refl
 
-pub less_first : (text : List ℕ) → get_or text 0 0 ≡ 60 → (1 < length text → get_or text 1 0 ≡ 45 → ⊥) → lexed text ≡ before (found (sign signs.Less)) (lexed (drop 1 text))
+pub less_first : (text : List ℕ) → get_or text 0 0 ≡ 60 → (1 < length text → get_or text 1 0 ≡ 45 → ⊥) → IsFirst (sign signs.Less) 1 text
 less_first [] h e = absurd cc
 less_first (b ∷ []) h e = found_first _ b [] 0 (rw h refl) refl
 less_first (b ∷ d ∷ ds) h e = found_first _ b (d ∷ ds) 0 (rw (h, (ne_eqb d 45 (e (omega arith)))) refl) refl
@@ -121,44 +139,51 @@ pub record IsSignByte (b : ℕ) : Type 0 where
   pub minus : b ≡ 45 → ⊥
   pub inner : b ≡ 95 → ⊥
 
-pub sign_first : (text : List ℕ) (l : Lexeme) → 0 < length text → IsAtToken text → IsSignByte (get_or text 0 0) → IsOneSign l (one_sign (get_or text 0 0)) → headed l (lexed (drop 1 text)) ≡ lexed text
+pub sign_first : (text : List ℕ) (l : Lexeme) → 0 < length text → IsAtToken text → IsSignByte (get_or text 0 0) → IsOneSign l (get_or text 0 0) (one_sign (get_or text 0 0)) → IsHeaded l (drop 1 text) text
 sign_first [] l some at kind h = absurd (omega arith)
 sign_first (b ∷ bs) l some at kind h = by l (at_token b bs at ∙ (rw (kind.letter, kind.digit, ne_eqb b 60 kind.less, ne_eqb b 45 kind.minus, ne_eqb b 95 kind.inner) refl)) h where
-  by : (l : Lexeme) → piece_at in_blanks b bs ≡ one_sign b → IsOneSign l (one_sign b) → headed l (lexed bs) ≡ lexed (b ∷ bs)
-  by (lexemes.Sign g) e k = sym (found_first (sign g) b bs 0 (e ∙ k.0) k.1)
-  by lexemes.Other e k = sym (other_last b bs (e ∙ k))
+  by : (l : Lexeme) → piece_at in_blanks b bs ≡ one_sign b → IsOneSign l b (one_sign b) → IsHeaded l bs (b ∷ bs)
+  by (lexemes.Sign g) e k = let f = found_first (sign g) b bs 0 (e ∙ k.0) k.1 in (sym f.0, sym f.1)
+  by (lexemes.Other x) e k = let f = other_last b bs (e ∙ k.0) in (sym f.0, rw k.1 (sym f.1))
   by (lexemes.Word w) e k = absurd k
   by (lexemes.Name n) e k = absurd k
   by (lexemes.Inner n) e k = absurd k
   by (lexemes.Integer n) e k = absurd k
   by lexemes.End e k = absurd k
 
-pub no_text : (text : List ℕ) → length text ≡ 0 → lexed text ≡ record { tokens = []; whole = true }
-unfolding lexed_behind
-no_text [] h = refl
+pub no_text : (text : List ℕ) → length text ≡ 0 → (lexed text ≡ record { tokens = []; whole = true }) × (spots text ≡ spot over 0 [])
+unfolding lexed_behind spots_behind
+no_text [] h = (refl, refl)
 no_text (b ∷ bs) h = absurd (omega arith)
 
 -- ---- gaps
 
+-- what stands behind a place of a text is what stands in the text
+abbrev pub StillSame : Between → ℕ → List ℕ → Type 0
+StillSame place i text = (lexed_behind place 0 (drop i text) ≡ lexed text) × (spots_behind place 0 (drop i text) ≡ spots text)
+
+still : (place next : Between) (i j : ℕ) (text : List ℕ) → GoesOn place i next j text → StillSame place i text → StillSame next j text
+still place next i j text g h = (sym g.0 ∙ h.0, sym g.1 ∙ h.1)
+
 -- a comment goes on up to its line feed
-pub comment_goes : (i : ℕ) (text : List ℕ) (next : Bool) → i < length text → next ≡ not (nat_eq (get_or text i 0) 10) → lexed_behind in_comment 0 (drop i text) ≡ lexed_behind (place_in next) 0 (drop (i + 1) text)
-comment_goes i text next h e = rw (e, add-one) (gap_goes in_comment _ i text h (by (nat_eq (get_or text i 0) 10))) where
+pub comment_goes : (i : ℕ) (text : List ℕ) (next : Bool) → i < length text → next ≡ not (nat_eq (get_or text i 0) 10) → StillSame in_comment i text → StillSame (place_in next) (i + 1) text
+comment_goes i text next h e = still in_comment (place_in next) i (i + 1) text (rw (e, add-one) (gap_goes in_comment _ i text h (by (nat_eq (get_or text i 0) 10)))) where
   by : (b : Bool) → (if b then gap in_blanks else gap in_comment) ≡ gap (place_in (not b))
   by true = refl
   by false = refl
 
-pub comment_begins : (i : ℕ) (text : List ℕ) → i < length text → get_or text i 0 ≡ 35 → lexed_behind in_blanks 0 (drop i text) ≡ lexed_behind in_comment 0 (drop (i + 1) text)
-comment_begins i text h e = rw add-one (gap_goes in_blanks in_comment i text h (rw e))
+pub comment_begins : (i : ℕ) (text : List ℕ) → i < length text → get_or text i 0 ≡ 35 → StillSame in_blanks i text → StillSame in_comment (i + 1) text
+comment_begins i text h e = still in_blanks in_comment i (i + 1) text (rw add-one (gap_goes in_blanks in_comment i text h (rw e refl)))
 
-pub blank_goes : (i : ℕ) (text : List ℕ) → i < length text → is_blank (get_or text i 0) ≡ true → lexed_behind in_blanks 0 (drop i text) ≡ lexed_behind in_blanks 0 (drop (i + 1) text)
-blank_goes i text h b = rw add-one (gap_goes in_blanks in_blanks i text h (rw b))
+pub blank_goes : (i : ℕ) (text : List ℕ) → i < length text → is_blank (get_or text i 0) ≡ true → StillSame in_blanks i text → StillSame in_blanks (i + 1) text
+blank_goes i text h b = still in_blanks in_blanks i (i + 1) text (rw add-one (gap_goes in_blanks in_blanks i text h (rw b refl)))
 
 -- a text that is a gap has no token
-pub all_gap : (text : List ℕ) (inside : Bool) (i : ℕ) → length text ≤ i → lexed_behind (place_in inside) 0 (drop i text) ≡ lexed text → lexed (drop (length text) text) ≡ lexed text
-unfolding lexed_behind
+pub all_gap : (text : List ℕ) (inside : Bool) (i : ℕ) → length text ≤ i → StillSame (place_in inside) i text → StillSame in_blanks (length text) text
+unfolding lexed_behind spots_behind
 all_gap text inside i h e =
     let none : drop i text ≡ [] = drop_all i text h in
-    rw (drop-length text) (ap (lexed_behind (place_in inside) 0) (sym none) ∙ e)
+    (rw (drop-length text) (ap (lexed_behind (place_in inside) 0) (sym none) ∙ e.0), rw (drop-length text) (ap (spots_behind (place_in inside) 0) (sym none) ∙ e.1))
 
-pub kept : (text : List ℕ) (i : ℕ) (now known : Bool) → known ≡ now → lexed_behind (place_in now) 0 (drop i text) ≡ lexed text → lexed_behind (place_in known) 0 (drop i text) ≡ lexed text
+pub kept : (text : List ℕ) (i : ℕ) (now known : Bool) → known ≡ now → StillSame (place_in now) i text → StillSame (place_in known) i text
 kept text i now known e h = rw e h

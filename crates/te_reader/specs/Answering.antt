@@ -4,18 +4,18 @@ use Rattle.te_terms.specs.declared.code.Node.{Node}
 use Rattle.te_terms.specs.declared.code.Node.TheVariants as nodes
 use Rattle.te_terms.specs.Codes.{term_at, term_under}
 use Rattle.te_terms.specs.Terms.{Term}
-use Rattle.te_terms.specs.Shape.{times_named, IsForest, term_over}
-use Rattle.te_terms.specs.Measures.{height, node_count}
+use Rattle.te_terms.specs.Shape.{times_named, fresh_nodes, IsForest, term_over}
+use Rattle.te_terms.specs.Measures.{height, node_count, fresh_count}
 use Rattle.te_script.specs.Scripts.{Program}
-use Rattle.te_reader.specs.declared.fault.ScriptFault.{ScriptFault}
-use Rattle.te_reader.specs.declared.fault.ScriptFault.TheVariants as faults
+use Rattle.te_reader.specs.declared.refusal.Refusal.{Refusal}
+use Rattle.te_reader.specs.declared.refusal.Refusal.TheVariants as faults
 use Rattle.te_reader.specs.Lexed.{Stream}
 use Rattle.te_reader.specs.Grammar.{Names}
 use Rattle.te_reader.specs.NameReads.{Read}
-use Rattle.te_terms.specs.Limits.{most_nodes, greatest_height}
+use Rattle.te_terms.specs.Limits.{most_nodes, most_fresh, greatest_height}
 
 -- what is read must be what a call answers, with the tokens behind it; want of memory tells nothing
-abbrev pub Answers : {R X : Type 0} → Result R ScriptFault → (R → X) → Stream → Stream → Read X → Type 0
+abbrev pub Answers : {R X : Type 0} → Result R Refusal → (R → X) → Stream → Stream → Read X → Type 0
 Answers (Ok r) seen old new o = (o ≡ Some (seen r, new.tokens)) × (new.whole ≡ old.whole)
 Answers (Err faults.Refused) seen old new o = o ≡ None
 Answers (Err faults.Memory) seen old new o = Unit {0}
@@ -31,28 +31,25 @@ pub record IsBuilt (level : ℕ) (before after : List Node) (root : ℕ) : Type 
   pub appended : after ≡ before ++ added
   pub last : length after ≡ suc root
   pub nodes : length after ≡ length before + node_count (term_at after level root)
+  pub fresh : fresh_nodes after ≡ fresh_nodes before + fresh_count (term_at after level root)
   pub free : times_named root after ≡ 0
   pub others : (c : ℕ) → c < length before → times_named c after ≡ times_named c before
 
 -- the event that is read must be the one under the root that a call answers, all of whose nodes are new
-abbrev pub AnswersEvent : Result ℕ ScriptFault → ℕ → List Node → List Node → Stream → Stream → Read Term → Type 0
+abbrev pub AnswersEvent : Result ℕ Refusal → ℕ → List Node → List Node → Stream → Stream → Read Term → Type 0
 AnswersEvent (Ok root) level before after old new o =
     (o ≡ Some (term_at after level root, new.tokens))
     × (new.whole ≡ old.whole) × IsBuilt level before after root
 AnswersEvent (Err faults.Refused) level before after old new o = o ≡ None
 AnswersEvent (Err faults.Memory) level before after old new o = Unit {0}
 
--- no fresh channel is read yet
-abbrev pub IsNotFresh : Node → Type 0
-IsNotFresh nodes.Fresh = ⊥
-IsNotFresh _ = Unit {0}
-
 -- a node was put behind the others, or the limits refuse it
-abbrev pub Puts : Result ℕ ScriptFault → List Node → List Node → Node → Type 0
+abbrev pub Puts : Result ℕ Refusal → List Node → List Node → Node → Type 0
 Puts (Ok root) before after node =
     (root ≡ length before) × (after ≡ before ++ node ∷ []) × (length before < most_nodes) × (height (term_over before node) ≤ greatest_height)
     × IsForest before × IsForest after
-Puts (Err faults.Refused) before after node = (most_nodes ≤ length before) ⊎ (greatest_height < height (term_over before node))
+Puts (Err faults.Refused) before after node =
+    (most_nodes ≤ length before) ⊎ (((node ≡ nodes.Fresh) × (most_fresh ≤ fresh_nodes before)) ⊎ (greatest_height < height (term_over before node)))
 Puts (Err faults.Memory) before after node = Unit {0}
 
 -- what stands at the front, where it is of the kind that is wanted, is taken; else nothing is
@@ -61,29 +58,29 @@ TakesSome (Some a) old new o = (o ≡ Some (a, new.tokens)) × (new.whole ≡ ol
 TakesSome None old new o = (o ≡ None) × (new ≡ old)
 
 -- names with one more inner name, or what refused it
-abbrev pub Binds : Result (Unit {0}) ScriptFault → Names → Option Names → Type 0
+abbrev pub Binds : Result (Unit {0}) Refusal → Names → Option Names → Type 0
 Binds (Ok u) new o = o ≡ Some new
 Binds (Err faults.Refused) new o = o ≡ None
 Binds (Err faults.Memory) new o = Unit {0}
 
 -- names with one more, or what refused it
-abbrev pub Declares : Result (Unit {0}) ScriptFault → List (List ℕ) → Option (List (List ℕ)) → Type 0
+abbrev pub Declares : Result (Unit {0}) Refusal → List (List ℕ) → Option (List (List ℕ)) → Type 0
 Declares (Ok u) new o = o ≡ Some new
 Declares (Err faults.Refused) new o = o ≡ None
 Declares (Err faults.Memory) new o = Unit {0}
 
-abbrev pub DeclaresChannel : Result (List (List ℕ)) ScriptFault → Option (List (List ℕ)) → Type 0
+abbrev pub DeclaresChannel : Result (List (List ℕ)) Refusal → Option (List (List ℕ)) → Type 0
 DeclaresChannel (Ok more) o = o ≡ Some more
 DeclaresChannel (Err faults.Refused) o = o ≡ None
 DeclaresChannel (Err faults.Memory) o = Unit {0}
 
-abbrev pub DeclaresRegister : Result ℕ ScriptFault → List (List ℕ) → Option (ℕ × List (List ℕ)) → Type 0
+abbrev pub DeclaresRegister : Result ℕ Refusal → List (List ℕ) → Option (ℕ × List (List ℕ)) → Type 0
 DeclaresRegister (Ok r) new o = o ≡ Some (r, new)
 DeclaresRegister (Err faults.Refused) new o = o ≡ None
 DeclaresRegister (Err faults.Memory) new o = Unit {0}
 
 -- the program of a script, or none where it is refused
-abbrev pub AnswersText : Result Program ScriptFault → Option Program → Type 0
+abbrev pub AnswersText : Result Program Refusal → Option Program → Type 0
 AnswersText (Ok p) o = o ≡ Some p
 AnswersText (Err faults.Refused) o = o ≡ None
 AnswersText (Err faults.Memory) o = Unit {0}

@@ -1,7 +1,7 @@
 -- The grammar: which tokens spell which part of a program. It is this project's own.
 -- A span says of two lists of tokens that the first is the second with something before it.
 -- `rules` tells whether the rules on names and on the size of integers are asked for: without them the grammar alone is left.
-use Rattle.std.specs.Prelude.{◌≡◌, ◌≢◌, ℕ, ◌≤◌, Bool, true, false, ◌⊎◌, List, [], ◌∷◌, ◌++◌, length, take, ℤ, pos, Some, slice_get}
+use Rattle.std.specs.Prelude.{◌≡◌, ◌≢◌, ℕ, zero, suc, ◌<◌, ◌≤◌, Bool, true, false, ◌⊎◌, List, [], ◌∷◌, ◌++◌, length, take, ℤ, pos, Some, slice_get}
 use Rattle.std.specs.List.{AllByRecursion}
 use Rattle.te_terms.specs.declared.expr.Arith.{Arith}
 use Rattle.te_terms.specs.declared.expr.Arith.TheVariants as ariths
@@ -168,11 +168,10 @@ choose_event events = is (word words.Choose) ⨟ is (sign signs.OpenBrace) ⨟ e
 abbrev pub do_parts : Span → Span → Span
 do_parts event rest = is (sign signs.Arrow) ⨟ event ⨟ is (sign signs.Semicolon) ⨟ rest
 
--- a fresh channel has no spelling yet
 abbrev pub spells_event : Bool → Standing → Names → Term → Span
 spells_event rules at s (always e) = closed at (is (word words.Always) ⨟ spells_expression rules s e)
 spells_event rules at s never = closed at (is (word words.Never))
-spells_event rules at s fresh = λ ts rest. ⊥
+spells_event rules at s fresh = closed at (is (word words.Fresh))
 spells_event rules at s (throw e) = closed at (is (word words.Throw) ⨟ spells_expression rules s e)
 spells_event rules at s (send p e) = closed at (is (word words.Send) ⨟ spells_primitive rules s p ⨟ spells_expression rules s e)
 spells_event rules at s (recv p) = closed at (is (word words.Recv) ⨟ spells_primitive rules s p)
@@ -195,21 +194,37 @@ spells_event rules at s (when test p q e f) =
 abbrev pub written_names : List (List ℕ) → List (List ℕ) → ℕ → Names
 written_names channels registers written = record { channels = channels; registers = take written registers; inners = [] }
 
--- a repeat has no spelling yet
-abbrev pub spells_statements : Bool → List (List ℕ) → List (List ℕ) → ℕ → List Statement → Span
-spells_statements rules channels registers written [] = nothing
-spells_statements rules channels registers written (sync r t ∷ more) =
+-- a sync, and what stands behind it
+abbrev pub spells_sync : Bool → List (List ℕ) → List (List ℕ) → ℕ → ℕ → Term → Span → Span
+spells_sync rules channels registers written r t rest =
     named
     (λ n. under rules (IsAt registers r n × IsShort n)
-    (is (tokens.name n) ⨟ is (sign signs.Arrow) ⨟ is (word words.Sync) ⨟ spells_event rules alone (written_names channels registers written) t ⨟ is (sign signs.Semicolon)
-    ⨟ spells_statements rules channels registers (with_register written r) more))
-spells_statements rules channels registers written (emit e ∷ more) =
-    is (word words.Emit) ⨟ spells_expression rules (written_names channels registers written) e ⨟ is (sign signs.Semicolon) ⨟ spells_statements rules channels registers written more
-spells_statements rules channels registers written (repeat times count ∷ more) = λ ts rest. ⊥
+    (is (tokens.name n) ⨟ is (sign signs.Arrow) ⨟ is (word words.Sync) ⨟ spells_event rules alone (written_names channels registers written) t ⨟ is (sign signs.Semicolon) ⨟ rest))
+
+-- behind a statement of a repeat of which so many are still to come; behind the last one stands its brace
+abbrev pub behind_sync : ℕ → Span → Span
+behind_sync zero rest = is (sign signs.CloseBrace) ⨟ rest
+behind_sync (suc left) rest = rest
+
+-- statements of which so many more stand in the braces of a repeat
+abbrev pub spells_statements : Bool → List (List ℕ) → List (List ℕ) → ℕ → ℕ → List Statement → Span
+spells_statements rules channels registers written zero [] = nothing
+spells_statements rules channels registers written (suc left) [] = λ ts rest. ⊥
+spells_statements rules channels registers written zero (sync r t ∷ more) =
+    spells_sync rules channels registers written r t (spells_statements rules channels registers (with_register written r) zero more)
+spells_statements rules channels registers written (suc left) (sync r t ∷ more) =
+    spells_sync rules channels registers written r t (behind_sync left (spells_statements rules channels registers (with_register written r) left more))
+spells_statements rules channels registers written zero (emit e ∷ more) =
+    is (word words.Emit) ⨟ spells_expression rules (written_names channels registers written) e ⨟ is (sign signs.Semicolon) ⨟ spells_statements rules channels registers written zero more
+spells_statements rules channels registers written (suc left) (emit e ∷ more) = λ ts rest. ⊥
+spells_statements rules channels registers written zero (repeat times count ∷ more) =
+    under true (0 < count)
+    (is (word words.Repeat) ⨟ spells_integer (pos times) ⨟ is (sign signs.OpenBrace) ⨟ spells_statements rules channels registers written count more)
+spells_statements rules channels registers written (suc left) (repeat times count ∷ more) = λ ts rest. ⊥
 
 abbrev pub spells_thread : Bool → List (List ℕ) → Thread → Span
 spells_thread rules channels t =
-    under rules (IsShort t.name) (is (word words.Thread) ⨟ is (tokens.name t.name) ⨟ in_braces (spells_statements rules channels t.registers 0 t.statements))
+    under rules (IsShort t.name) (is (word words.Thread) ⨟ is (tokens.name t.name) ⨟ in_braces (spells_statements rules channels t.registers 0 0 t.statements))
 
 abbrev pub spells_threads : Bool → List (List ℕ) → List Thread → Span
 spells_threads rules channels [] = nothing

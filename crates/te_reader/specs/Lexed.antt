@@ -8,7 +8,8 @@ use Rattle.te_reader.specs.declared.token.Word.TheVariants as words
 use Rattle.te_reader.specs.declared.token.Sign.TheVariants as signs
 use Rattle.te_reader.specs.declared.token.Lexeme.{Lexeme}
 use Rattle.te_reader.specs.declared.token.Lexeme.TheVariants as lexemes
-use Rattle.te_reader.specs.Tokens.{Token, word, name, inner, integer, sign, word_spelling, sign_spelling, spelling, is_word_byte, is_blank, Between, in_blanks, in_comment}
+use Rattle.te_script.specs.Names.{is_word_byte}
+use Rattle.te_reader.specs.Tokens.{Token, word, name, inner, integer, sign, word_spelling, sign_spelling, spelling, is_blank, Between, in_blanks, in_comment}
 
 -- tokens, and whether the text's end stands behind them
 pub record Stream : Type 0 where
@@ -125,7 +126,7 @@ headed (lexemes.Inner n) s = record s { tokens = inner n.now ∷ s.tokens }
 headed (lexemes.Integer n) s = record s { tokens = integer n.now ∷ s.tokens }
 headed (lexemes.Sign g) s = record s { tokens = sign g ∷ s.tokens }
 headed lexemes.End s = record { tokens = []; whole = true }
-headed lexemes.Other s = record { tokens = []; whole = false }
+headed (lexemes.Other b) s = record { tokens = []; whole = false }
 
 abbrev pub place_in : Bool → Between
 place_in true = in_comment
@@ -137,10 +138,10 @@ IsAtToken [] = Unit {0}
 IsAtToken (b ∷ bs) = (is_blank b ≡ false) × ((b == 35) ≡ false)
 
 -- the sign of a found piece, or a byte that begins no token
-abbrev pub IsOneSign : Lexeme → Piece → Type 0
-IsOneSign (lexemes.Sign g) p = (p ≡ found (sign g)) × (length (sign_spelling g) ≡ 1)
-IsOneSign lexemes.Other p = p ≡ other
-IsOneSign l p = ⊥
+abbrev pub IsOneSign : Lexeme → ℕ → Piece → Type 0
+IsOneSign (lexemes.Sign g) b p = (p ≡ found (sign g)) × (length (sign_spelling g) ≡ 1)
+IsOneSign (lexemes.Other x) b p = (p ≡ other) × (x ≡ b)
+IsOneSign l b p = ⊥
 
 -- a name has a byte
 abbrev pub HasByte : Lexeme → Type 0

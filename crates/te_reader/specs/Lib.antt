@@ -3,6 +3,7 @@ pub mod Tokens
 pub mod Lexed
 pub mod Heads
 pub mod Integers
+pub mod Tallies
 pub mod Grammar
 pub mod Text
 pub mod FirstForm
@@ -12,6 +13,16 @@ pub mod EventReads
 pub mod Reads
 pub mod Answering
 pub mod Behind
+pub mod Bodies
 pub mod ChannelIndex
+pub mod Spots
+pub mod Forms
+pub mod Rules
+pub mod Faults
+pub mod Runs
+pub mod Finding
+pub mod NameSets
+pub mod Places
+pub mod Telling
 pub mod Canonical
 pub mod Printed

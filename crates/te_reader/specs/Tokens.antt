@@ -1,7 +1,8 @@
 -- Tokens, their spelling, and the texts that spell a list of them. All of it is this project's own.
 use Rattle.std.specs.Prelude.{◌≡◌, ◌≢◌, ℕ, ◌<◌, ◌≤◌, ◌==◌, ◌||◌, Bool, true, ◌⊎◌, List, [], ◌∷◌, ◌++◌, length, codes}
 use Rattle.std.specs.List.{AllByRecursion}
-use Rattle.std.specs.Char.{is_ascii_alphabetic, is_ascii_alphanumeric, is_ascii_digit}
+use Rattle.std.specs.Char.{is_ascii_digit}
+use Rattle.te_script.specs.Names.{is_word_byte, IsIdentifier}
 use Rattle.te_reader.specs.declared.token.Word.{Word}
 use Rattle.te_reader.specs.declared.token.Word.TheVariants as words
 use Rattle.te_reader.specs.declared.token.Sign.{Sign}
@@ -57,16 +58,7 @@ spelling (inner n) = n
 spelling (integer n) = n
 spelling (sign s) = sign_spelling s
 
--- ---- what a name, an inner name and an integer may be
-
--- a letter, a digit or `_`
-abbrev pub is_word_byte : ℕ → Bool
-is_word_byte b = is_ascii_alphanumeric b || (b == 95)
-
--- a letter, then letters, digits and `_`; no reserved word
-abbrev pub IsNamed : List ℕ → Type 0
-IsNamed [] = ⊥
-IsNamed (b ∷ bs) = (is_ascii_alphabetic b ≡ true) × AllByRecursion (λ x. is_word_byte x ≡ true) bs × ((w : Word) → word_spelling w ≢ b ∷ bs)
+-- ---- what an inner name and an integer may be; what a name may be is te_script's
 
 -- `_`, then letters, digits and `_`
 abbrev pub IsInner : List ℕ → Type 0
@@ -84,10 +76,13 @@ IsInteger (b ∷ bs) = IsDigits (b ∷ bs) ⊎ ((b ≡ 45) × IsDigits bs)
 
 abbrev pub IsToken : Token → Type 0
 IsToken (word w) = Unit {0}
-IsToken (name n) = IsNamed n
+IsToken (name n) = IsIdentifier n
 IsToken (inner n) = IsInner n
 IsToken (integer n) = IsInteger n
 IsToken (sign s) = Unit {0}
+
+abbrev pub AreTokens : List Token → Type 0
+AreTokens ts = AllByRecursion IsToken ts
 
 -- ---- texts
 

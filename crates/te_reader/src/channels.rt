@@ -3,8 +3,8 @@ ghost use Rattle.te_reader.specs.NameReads.{place_of, declared_in};
 ghost use Rattle.te_reader.specs.Answering.{DeclaresChannel};
 ghost use Rattle.te_script.specs.Limits.{most_channels};
 
-use crate::fault::ScriptFault;
 use crate::names::declare;
+use crate::refusal::Refusal;
 use std::alloc::Global;
 use std::collections::BTreeMap;
 use std::marker::Model;
@@ -58,7 +58,7 @@ impl<'a> Channels<'a> {
 
     /// The channels with one name more. It is refused where there are 256, where the name has more than 32
     /// bytes, and where it is among them.
-    pub fn declare(self, name: &'a [u8]) -> Result<Channels<'a>, ScriptFault>
+    pub fn declare(self, name: &'a [u8]) -> Result<Channels<'a>, Refusal>
         requires { 0 < length name.now }
         ensures { DeclaresChannel result (declared_in most_channels self.entry name.now) }
     {

@@ -1,6 +1,8 @@
 ghost use Rattle.std.specs.Prelude.{◌≡◌, ◌↔◌, ◌<◌, true, length, IsTrue, IfSome};
 ghost use Rattle.te_reader.specs.Heads.{word_first, sign_first, name_first, inner_first, bound_first, integer_first, Takes, TakesBytes, IsEnd};
 ghost use Rattle.te_reader.specs.Lexed.{lexed};
+ghost use Rattle.te_reader.specs.Tokens.{AreTokens};
+ghost use Rattle.te_script.specs.Names.{IsIdentifier};
 
 use crate::lexing::lexeme;
 use crate::token::{Lexeme, Sign, Word, is_same_sign, is_same_word};
@@ -15,12 +17,13 @@ pub struct Cursor<'a> {
 
 impl<'a> Model for Cursor<'a> {
     ghost use Rattle.te_reader.specs.Lexed.{Stream, lexed, headed, HasByte};
+    ghost use Rattle.te_reader.specs.Tokens.{AreTokens};
 
     ghost Value = { Stream };
 
     ghost view = { λ c. headed c.head (lexed c.rest.now) };
 
-    ghost invariant = { λ c. HasByte c.head };
+    ghost invariant = { λ c. HasByte c.head × AreTokens (headed c.head (lexed c.rest.now)).tokens };
 }
 
 impl<'a> Cursor<'a> {
@@ -75,6 +78,8 @@ impl<'a> Cursor<'a> {
     pub fn take_name(&mut self) -> Option<&'a [u8]>
         ensures name { TakesBytes result self.old self.new (name_first self.old.tokens) }
         ensures some { IfSome result (λ n. 0 < length n.now) }
+        ensures identifier { IfSome result (λ n. IsIdentifier n.now) }
+        ensures behind { AreTokens self.new.tokens }
     {
         match self.head {
             Lexeme::Name(spelling) => {

@@ -1,12 +1,13 @@
 ghost use Rattle.std.specs.Prelude.{◌≡◌, ◌+◌, ◌<◌, ◌≤◌, length, OnOk};
 ghost use Rattle.te_reader.specs.Grammar.{alone, in_do, in_choose};
+ghost use Rattle.te_reader.specs.Tallies.{tally};
 ghost use Rattle.te_reader.specs.EventReads.{read_event, read_braced, read_part, read_do, read_choose, read_try, read_if};
 ghost use Rattle.te_reader.specs.Answering.{AnswersEvent};
 ghost use Rattle.te_terms.specs.Limits.{greatest_height};
 
 use crate::cursor::Cursor;
-use crate::fault::ScriptFault;
 use crate::node::{put, read_condition, read_one};
+use crate::refusal::Refusal;
 use crate::scope::Names;
 use crate::token::{Sign, Word};
 use te_terms::{EventCode, Node};
@@ -19,14 +20,14 @@ pub fn read_event(
     names: &mut Names<'_, '_>,
     code: &mut EventCode,
     layers: u32,
-) -> Result<u32, ScriptFault>
+) -> Result<u32, Refusal>
     requires { length names.old.inners + layers ≤ greatest_height }
     ensures event { AnswersEvent result (length names.old.inners) code.old code.new cursor.old cursor.new
-        (read_event layers alone names.old (length code.old) cursor.old.tokens) }
+        (read_event layers alone names.old (tally code.old) cursor.old.tokens) }
     ensures names { OnOk result (names.new ≡ names.old) }
 {
     if layers == 0 {
-        return Err(ScriptFault::Refused);
+        return Err(Refusal::Refused);
     }
     if cursor.take_word(Word::Do) {
         return read_do(cursor, names, code, layers - 1);
@@ -51,18 +52,18 @@ fn read_braced(
     names: &mut Names<'_, '_>,
     code: &mut EventCode,
     layers: u32,
-) -> Result<u32, ScriptFault>
+) -> Result<u32, Refusal>
     requires { length names.old.inners + layers ≤ greatest_height }
     ensures event { AnswersEvent result (length names.old.inners) code.old code.new cursor.old cursor.new
-        (read_braced (read_event layers) names.old (length code.old) cursor.old.tokens) }
+        (read_braced (read_event layers) names.old (tally code.old) cursor.old.tokens) }
     ensures names { OnOk result (names.new ≡ names.old) }
 {
     if !cursor.take_sign(Sign::OpenBrace) {
-        return Err(ScriptFault::Refused);
+        return Err(Refusal::Refused);
     }
     let root = read_event(cursor, names, code, layers)?;
     if !cursor.take_sign(Sign::CloseBrace) {
-        return Err(ScriptFault::Refused);
+        return Err(Refusal::Refused);
     }
     Ok(root)
 }
@@ -75,17 +76,17 @@ fn read_do(
     names: &mut Names<'_, '_>,
     code: &mut EventCode,
     layers: u32,
-) -> Result<u32, ScriptFault>
+) -> Result<u32, Refusal>
     requires { length names.old.inners + layers < greatest_height }
     ensures event { AnswersEvent result (length names.old.inners) code.old code.new cursor.old cursor.new
-        (read_do (read_event layers) names.old (length code.old) cursor.old.tokens) }
+        (read_do (read_event layers) names.old (tally code.old) cursor.old.tokens) }
     ensures names { OnOk result (names.new ≡ names.old) }
 {
     if !cursor.take_sign(Sign::OpenBrace) {
-        return Err(ScriptFault::Refused);
+        return Err(Refusal::Refused);
     }
     let Some(name) = cursor.take_bound() else {
-        return Err(ScriptFault::Refused);
+        return Err(Refusal::Refused);
     };
     read_part(cursor, names, code, layers, name)
 }
@@ -100,19 +101,19 @@ fn read_part(
     code: &mut EventCode,
     layers: u32,
     name: &[u8],
-) -> Result<u32, ScriptFault>
+) -> Result<u32, Refusal>
     requires room { length names.old.inners + layers < greatest_height }
     requires named { 0 < length name.now }
     ensures event { AnswersEvent result (length names.old.inners) code.old code.new cursor.old cursor.new
-        (read_part (read_event layers) names.old (length code.old) name.now cursor.old.tokens) }
+        (read_part (read_event layers) names.old (tally code.old) name.now cursor.old.tokens) }
     ensures names { OnOk result (names.new ≡ names.old) }
 {
     if !cursor.take_sign(Sign::Arrow) {
-        return Err(ScriptFault::Refused);
+        return Err(Refusal::Refused);
     }
     let first = read_event(cursor, names, code, layers)?;
     if !cursor.take_sign(Sign::Semicolon) {
-        return Err(ScriptFault::Refused);
+        return Err(Refusal::Refused);
     }
     names.bind(name)?;
     let second = read_rest(cursor, names, code, layers)?;
@@ -128,21 +129,21 @@ fn read_rest(
     names: &mut Names<'_, '_>,
     code: &mut EventCode,
     layers: u32,
-) -> Result<u32, ScriptFault>
+) -> Result<u32, Refusal>
     requires { length names.old.inners + layers ≤ greatest_height }
     ensures event { AnswersEvent result (length names.old.inners) code.old code.new cursor.old cursor.new
-        (read_event layers in_do names.old (length code.old) cursor.old.tokens) }
+        (read_event layers in_do names.old (tally code.old) cursor.old.tokens) }
     ensures names { OnOk result (names.new ≡ names.old) }
 {
     if layers == 0 {
-        return Err(ScriptFault::Refused);
+        return Err(Refusal::Refused);
     }
     if let Some(name) = cursor.take_bound() {
         return read_part(cursor, names, code, layers - 1, name);
     }
     let root = read_event(cursor, names, code, layers)?;
     if !cursor.take_sign(Sign::CloseBrace) {
-        return Err(ScriptFault::Refused);
+        return Err(Refusal::Refused);
     }
     Ok(root)
 }
@@ -155,18 +156,18 @@ fn read_choose(
     names: &mut Names<'_, '_>,
     code: &mut EventCode,
     layers: u32,
-) -> Result<u32, ScriptFault>
+) -> Result<u32, Refusal>
     requires { length names.old.inners + layers ≤ greatest_height }
     ensures event { AnswersEvent result (length names.old.inners) code.old code.new cursor.old cursor.new
-        (read_choose (read_event layers) names.old (length code.old) cursor.old.tokens) }
+        (read_choose (read_event layers) names.old (tally code.old) cursor.old.tokens) }
     ensures names { OnOk result (names.new ≡ names.old) }
 {
     if !cursor.take_sign(Sign::OpenBrace) {
-        return Err(ScriptFault::Refused);
+        return Err(Refusal::Refused);
     }
     let first = read_event(cursor, names, code, layers)?;
     if !cursor.take_sign(Sign::Bar) {
-        return Err(ScriptFault::Refused);
+        return Err(Refusal::Refused);
     }
     let second = read_more(cursor, names, code, layers)?;
     put(code, Node::Choose(first, second))
@@ -180,14 +181,14 @@ fn read_more(
     names: &mut Names<'_, '_>,
     code: &mut EventCode,
     layers: u32,
-) -> Result<u32, ScriptFault>
+) -> Result<u32, Refusal>
     requires { length names.old.inners + layers ≤ greatest_height }
     ensures event { AnswersEvent result (length names.old.inners) code.old code.new cursor.old cursor.new
-        (read_event layers in_choose names.old (length code.old) cursor.old.tokens) }
+        (read_event layers in_choose names.old (tally code.old) cursor.old.tokens) }
     ensures names { OnOk result (names.new ≡ names.old) }
 {
     if layers == 0 {
-        return Err(ScriptFault::Refused);
+        return Err(Refusal::Refused);
     }
     let first = read_event(cursor, names, code, layers)?;
     if cursor.take_sign(Sign::Bar) {
@@ -195,7 +196,7 @@ fn read_more(
         return put(code, Node::Choose(first, second));
     }
     if !cursor.take_sign(Sign::CloseBrace) {
-        return Err(ScriptFault::Refused);
+        return Err(Refusal::Refused);
     }
     Ok(first)
 }
@@ -208,18 +209,18 @@ fn read_try(
     names: &mut Names<'_, '_>,
     code: &mut EventCode,
     layers: u32,
-) -> Result<u32, ScriptFault>
+) -> Result<u32, Refusal>
     requires { length names.old.inners + layers < greatest_height }
     ensures event { AnswersEvent result (length names.old.inners) code.old code.new cursor.old cursor.new
-        (read_try (read_event layers) names.old (length code.old) cursor.old.tokens) }
+        (read_try (read_event layers) names.old (tally code.old) cursor.old.tokens) }
     ensures names { OnOk result (names.new ≡ names.old) }
 {
     let first = read_braced(cursor, names, code, layers)?;
     if !cursor.take_word(Word::Catch) {
-        return Err(ScriptFault::Refused);
+        return Err(Refusal::Refused);
     }
     let Some(name) = cursor.take_bound() else {
-        return Err(ScriptFault::Refused);
+        return Err(Refusal::Refused);
     };
     names.bind(name)?;
     let second = read_braced(cursor, names, code, layers)?;
@@ -235,16 +236,16 @@ fn read_if(
     names: &mut Names<'_, '_>,
     code: &mut EventCode,
     layers: u32,
-) -> Result<u32, ScriptFault>
+) -> Result<u32, Refusal>
     requires { length names.old.inners + layers ≤ greatest_height }
     ensures event { AnswersEvent result (length names.old.inners) code.old code.new cursor.old cursor.new
-        (read_if (read_event layers) names.old (length code.old) cursor.old.tokens) }
+        (read_if (read_event layers) names.old (tally code.old) cursor.old.tokens) }
     ensures names { OnOk result (names.new ≡ names.old) }
 {
     let condition = read_condition(cursor, names)?;
     let first = read_braced(cursor, names, code, layers)?;
     if !cursor.take_word(Word::Else) {
-        return Err(ScriptFault::Refused);
+        return Err(Refusal::Refused);
     }
     let second = read_braced(cursor, names, code, layers)?;
     put(code, Node::If(condition, first, second))

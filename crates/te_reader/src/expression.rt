@@ -6,42 +6,42 @@ ghost use Rattle.te_reader.specs.Answering.{Answers, TakesSome};
 ghost use Rattle.te_terms.specs.Limits.{most_atoms};
 
 use crate::cursor::Cursor;
-use crate::fault::ScriptFault;
 use crate::integer::integer;
+use crate::refusal::Refusal;
 use crate::scope::Names;
 use crate::token::Sign;
 use te_terms::{Arith, Calc, Calcs, Expr, MOST_ATOMS, Prim, Var};
 
 // A place of a value: 0, 1, 2 or 3.
 #[tactic(auto, unfolding(crate::specs::ExpressionReads::read_place, crate::specs::NameReads::integer_of))]
-fn read_place(cursor: &mut Cursor<'_>) -> Result<u8, ScriptFault>
+fn read_place(cursor: &mut Cursor<'_>) -> Result<u8, Refusal>
     ensures { Answers result (λ d. d) cursor.old cursor.new (read_place cursor.old.tokens) }
 {
     let Some(digits) = cursor.take_integer() else {
-        return Err(ScriptFault::Refused);
+        return Err(Refusal::Refused);
     };
     match integer(digits) {
         Some(0) => Ok(0),
         Some(1) => Ok(1),
         Some(2) => Ok(2),
         Some(3) => Ok(3),
-        _ => Err(ScriptFault::Refused),
+        _ => Err(Refusal::Refused),
     }
 }
 
 // A place of an inner name whose spelling begins with `_`.
 #[tactic(auto, unfolding(crate::specs::ExpressionReads::read_inner_part))]
-fn read_inner_part(cursor: &mut Cursor<'_>, names: &Names<'_, '_>) -> Result<Prim, ScriptFault>
+fn read_inner_part(cursor: &mut Cursor<'_>, names: &Names<'_, '_>) -> Result<Prim, Refusal>
     ensures { Answers result primitive_of cursor.old cursor.new (read_inner_part names.now cursor.old.tokens) }
 {
     let Some(name) = cursor.take_inner() else {
-        return Err(ScriptFault::Refused);
+        return Err(Refusal::Refused);
     };
     let Some(level) = names.inner(name) else {
-        return Err(ScriptFault::Refused);
+        return Err(Refusal::Refused);
     };
     if !cursor.take_sign(Sign::Dot) {
-        return Err(ScriptFault::Refused);
+        return Err(Refusal::Refused);
     }
     let place = read_place(cursor)?;
     Ok(Prim::Part(Var::Inner(level), place))
@@ -49,21 +49,17 @@ fn read_inner_part(cursor: &mut Cursor<'_>, names: &Names<'_, '_>) -> Result<Pri
 
 // Behind a name: a place of its variable, or else the name is a channel's.
 #[tactic(auto, unfolding(crate::specs::ExpressionReads::read_named))]
-fn read_named(
-    cursor: &mut Cursor<'_>,
-    names: &Names<'_, '_>,
-    name: &[u8],
-) -> Result<Prim, ScriptFault>
+fn read_named(cursor: &mut Cursor<'_>, names: &Names<'_, '_>, name: &[u8]) -> Result<Prim, Refusal>
     ensures { Answers result primitive_of cursor.old cursor.new (read_named names.now name.now cursor.old.tokens) }
 {
     if !cursor.take_sign(Sign::Dot) {
         return match names.channel(name) {
             Some(channel) => Ok(Prim::Chan(channel)),
-            None => Err(ScriptFault::Refused),
+            None => Err(Refusal::Refused),
         };
     }
     let Some(variable) = names.variable(name) else {
-        return Err(ScriptFault::Refused);
+        return Err(Refusal::Refused);
     };
     let place = read_place(cursor)?;
     Ok(Prim::Part(variable, place))
@@ -71,13 +67,13 @@ fn read_named(
 
 /// Reads an integer, a channel, or a place of a variable.
 #[tactic(auto, unfolding(crate::specs::ExpressionReads::read_primitive))]
-pub fn read_primitive(cursor: &mut Cursor<'_>, names: &Names<'_, '_>) -> Result<Prim, ScriptFault>
+pub fn read_primitive(cursor: &mut Cursor<'_>, names: &Names<'_, '_>) -> Result<Prim, Refusal>
     ensures { Answers result primitive_of cursor.old cursor.new (read_primitive names.now cursor.old.tokens) }
 {
     if let Some(digits) = cursor.take_integer() {
         return match integer(digits) {
             Some(value) => Ok(Prim::Int(value)),
-            None => Err(ScriptFault::Refused),
+            None => Err(Refusal::Refused),
         };
     }
     match cursor.take_name() {
@@ -104,7 +100,7 @@ fn take_arith(cursor: &mut Cursor<'_>) -> Option<Arith>
 
 // One primitive, or a sum, difference or product of two.
 #[tactic(auto, unfolding(crate::specs::ExpressionReads::read_calculation))]
-fn read_calculation(cursor: &mut Cursor<'_>, names: &Names<'_, '_>) -> Result<Calc, ScriptFault>
+fn read_calculation(cursor: &mut Cursor<'_>, names: &Names<'_, '_>) -> Result<Calc, Refusal>
     ensures { Answers result calculation_of cursor.old cursor.new (read_calculation names.now cursor.old.tokens) }
 {
     let left = read_primitive(cursor, names)?;
@@ -116,7 +112,7 @@ fn read_calculation(cursor: &mut Cursor<'_>, names: &Names<'_, '_>) -> Result<Ca
 }
 
 // The calculations of a tuple, up to its end; there is at least one.
-fn read_calculations(cursor: &mut Cursor<'_>, names: &Names<'_, '_>) -> Result<Calcs, ScriptFault>
+fn read_calculations(cursor: &mut Cursor<'_>, names: &Names<'_, '_>) -> Result<Calcs, Refusal>
     ensures { Answers result (λ cs. map calculation_of cs) cursor.old cursor.new (read_calculations most_atoms names.now cursor.old.tokens) }
 {
     let mut list = [Calc::One(Prim::Int(0)); MOST_ATOMS];
@@ -126,19 +122,19 @@ fn read_calculations(cursor: &mut Cursor<'_>, names: &Names<'_, '_>) -> Result<C
         if cursor.take_sign(Sign::Close) {
             return match Calcs::of(&list[..i + 1]) {
                 Some(calcs) => Ok(calcs),
-                None => Err(ScriptFault::Refused),
+                None => Err(Refusal::Refused),
             };
         }
         if !cursor.take_sign(Sign::Comma) {
-            return Err(ScriptFault::Refused);
+            return Err(Refusal::Refused);
         }
     }
-    Err(ScriptFault::Refused)
+    Err(Refusal::Refused)
 }
 
 // The inside of a tuple, up to its end.
 #[tactic(auto, unfolding(crate::specs::ExpressionReads::read_tuple))]
-fn read_tuple(cursor: &mut Cursor<'_>, names: &Names<'_, '_>) -> Result<Calcs, ScriptFault>
+fn read_tuple(cursor: &mut Cursor<'_>, names: &Names<'_, '_>) -> Result<Calcs, Refusal>
     ensures { Answers result (λ cs. map calculation_of cs) cursor.old cursor.new (read_tuple names.now cursor.old.tokens) }
 {
     if !cursor.take_sign(Sign::Close) {
@@ -146,29 +142,29 @@ fn read_tuple(cursor: &mut Cursor<'_>, names: &Names<'_, '_>) -> Result<Calcs, S
     }
     match Calcs::of(&[]) {
         Some(calcs) => Ok(calcs),
-        None => Err(ScriptFault::Refused),
+        None => Err(Refusal::Refused),
     }
 }
 
 /// Reads a whole variable or a tuple.
 #[tactic(auto, unfolding(crate::specs::ExpressionReads::read_expression))]
-pub fn read_expression(cursor: &mut Cursor<'_>, names: &Names<'_, '_>) -> Result<Expr, ScriptFault>
+pub fn read_expression(cursor: &mut Cursor<'_>, names: &Names<'_, '_>) -> Result<Expr, Refusal>
     ensures { Answers result expression_of cursor.old cursor.new (read_expression names.now cursor.old.tokens) }
 {
     if let Some(name) = cursor.take_name() {
         return match names.variable(name) {
             Some(variable) => Ok(Expr::Whole(variable)),
-            None => Err(ScriptFault::Refused),
+            None => Err(Refusal::Refused),
         };
     }
     if let Some(name) = cursor.take_inner() {
         return match names.inner(name) {
             Some(level) => Ok(Expr::Whole(Var::Inner(level))),
-            None => Err(ScriptFault::Refused),
+            None => Err(Refusal::Refused),
         };
     }
     if !cursor.take_sign(Sign::Open) {
-        return Err(ScriptFault::Refused);
+        return Err(Refusal::Refused);
     }
     let calcs = read_tuple(cursor, names)?;
     Ok(Expr::Tuple(calcs))

@@ -1,6 +1,7 @@
 ghost use Rattle.std.specs.Prelude.{◌≡◌, nat_le, if◌then◌else◌, pos, ◌-ℤ◌};
 ghost use Rattle.te_reader.specs.Integers.{digits_value, integer_value};
 ghost use Rattle.te_reader.specs.NameReads.{fitting, integer_of};
+ghost use Rattle.te_reader.specs.Reads.{count_in};
 
 /// The integer of an INT token, where it is one of 64 bits.
 #[tactic(auto, unfolding(crate::specs::NameReads::integer_of))]
@@ -10,6 +11,31 @@ pub fn integer(spelling: &[u8]) -> Option<i64>
     match spelling {
         [b'-', digits @ ..] => negative(digits),
         digits => positive(digits),
+    }
+}
+
+/// How often a repeat is done, where it is from 1 to 10,000 times.
+pub fn count(spelling: &[u8]) -> Option<u32>
+    ensures { result ≡ count_in (integer_value spelling.now) }
+{
+    match spelling {
+        [b'-', _digits @ ..] => None,
+        digits => positive_count(digits),
+    }
+}
+
+fn positive_count(digits: &[u8]) -> Option<u32>
+    ensures { result ≡ count_in (pos (digits_value 0 digits.now)) }
+{
+    match number(digits) {
+        Some(times) => {
+            if times >= 1 && times <= 10_000 {
+                Some(times as u32)
+            } else {
+                None
+            }
+        }
+        None => None,
     }
 }
 

@@ -1,8 +1,11 @@
 ghost use Rattle.std.specs.Prelude.{◌≡◌, ◌≤◌, true, length, drop, slice_index};
 ghost use Rattle.std.specs.List.{prefix_len};
 ghost use Rattle.std.specs.Char.{is_ascii_alphabetic, is_ascii_digit};
-ghost use Rattle.te_reader.specs.Tokens.{is_word_byte, is_blank};
+ghost use Rattle.te_script.specs.Names.{is_word_byte};
+ghost use Rattle.te_reader.specs.Tokens.{is_blank};
 ghost use Rattle.te_reader.specs.Lexed.{lexed, headed, one_sign, IsAtToken, IsOneSign, HasByte};
+ghost use Rattle.te_reader.specs.Spots.{spots};
+ghost use Rattle.te_reader.specs.Finding.{IsHeaded};
 
 use crate::reserved::reserved_word;
 use crate::token::{Lexeme, Sign};
@@ -31,6 +34,7 @@ fn behind(text: &[u8], len: usize) -> &[u8]
 fn gap_len(text: &[u8]) -> usize
     ensures within { result ≤ length text.now }
     ensures same { lexed (drop result text.now) ≡ lexed text.now }
+    ensures spots { spots (drop result text.now) ≡ spots text.now }
     ensures at_token { IsAtToken (drop result text.now) }
 {
     let mut in_comment = false;
@@ -63,7 +67,7 @@ fn digits_len(text: &[u8]) -> usize
 // A reserved word or a name, at a letter.
 fn word_or_name<'a>(text: &'a [u8]) -> (Lexeme<'a>, &'a [u8])
     requires { is_ascii_alphabetic (slice_index text.now 0) ≡ true }
-    ensures tokens { headed result.0 (lexed result.1.now) ≡ lexed text.now }
+    ensures tokens { IsHeaded result.0 result.1.now text.now }
     ensures name { HasByte result.0 }
 {
     let (spelling, rest) = text.split_at(word_len(text));
@@ -76,7 +80,7 @@ fn word_or_name<'a>(text: &'a [u8]) -> (Lexeme<'a>, &'a [u8])
 // An inner name, at a `_`.
 fn inner_name<'a>(text: &'a [u8]) -> (Lexeme<'a>, &'a [u8])
     requires { slice_index text.now 0 ≡ 95 }
-    ensures tokens { headed result.0 (lexed result.1.now) ≡ lexed text.now }
+    ensures tokens { IsHeaded result.0 result.1.now text.now }
     ensures name { HasByte result.0 }
 {
     let (spelling, rest) = text.split_at(word_len(text));
@@ -86,7 +90,7 @@ fn inner_name<'a>(text: &'a [u8]) -> (Lexeme<'a>, &'a [u8])
 // An integer, at a digit.
 fn digits<'a>(text: &'a [u8]) -> (Lexeme<'a>, &'a [u8])
     requires { is_ascii_digit (slice_index text.now 0) ≡ true }
-    ensures tokens { headed result.0 (lexed result.1.now) ≡ lexed text.now }
+    ensures tokens { IsHeaded result.0 result.1.now text.now }
     ensures name { HasByte result.0 }
 {
     let (spelling, rest) = text.split_at(digits_len(text));
@@ -96,7 +100,7 @@ fn digits<'a>(text: &'a [u8]) -> (Lexeme<'a>, &'a [u8])
 // `-`, or an integer where a digit follows.
 fn minus<'a>(text: &'a [u8]) -> (Lexeme<'a>, &'a [u8])
     requires { slice_index text.now 0 ≡ 45 }
-    ensures tokens { headed result.0 (lexed result.1.now) ≡ lexed text.now }
+    ensures tokens { IsHeaded result.0 result.1.now text.now }
     ensures name { HasByte result.0 }
 {
     let len = digits_len(behind(text, 1));
@@ -110,7 +114,7 @@ fn minus<'a>(text: &'a [u8]) -> (Lexeme<'a>, &'a [u8])
 // `<-`, or `<` by itself.
 fn less<'a>(text: &'a [u8]) -> (Lexeme<'a>, &'a [u8])
     requires { slice_index text.now 0 ≡ 60 }
-    ensures tokens { headed result.0 (lexed result.1.now) ≡ lexed text.now }
+    ensures tokens { IsHeaded result.0 result.1.now text.now }
     ensures name { HasByte result.0 }
 {
     if text.len() > 1 && text[1] == b'-' {
@@ -122,7 +126,7 @@ fn less<'a>(text: &'a [u8]) -> (Lexeme<'a>, &'a [u8])
 
 // The sign of one byte that no other token begins with.
 fn one_sign(b: u8) -> Lexeme<'static>
-    ensures { IsOneSign result (one_sign b) }
+    ensures { IsOneSign result b (one_sign b) }
 {
     match b {
         b'{' => Lexeme::Sign(Sign::OpenBrace),
@@ -136,16 +140,16 @@ fn one_sign(b: u8) -> Lexeme<'static>
         b'+' => Lexeme::Sign(Sign::Plus),
         b'*' => Lexeme::Sign(Sign::Star),
         b'|' => Lexeme::Sign(Sign::Bar),
-        _ => Lexeme::Other,
+        _ => Lexeme::Other(b),
     }
 }
 
-/// What stands at the front of a text behind its blanks and comments, with the text behind it.
-pub fn lexeme<'a>(text: &'a [u8]) -> (Lexeme<'a>, &'a [u8])
-    ensures tokens { headed result.0 (lexed result.1.now) ≡ lexed text.now }
+/// What stands at the front of a text that begins with no blank and no comment, with the text behind it.
+pub fn lexeme_at<'a>(text: &'a [u8]) -> (Lexeme<'a>, &'a [u8])
+    requires { IsAtToken text.now }
+    ensures tokens { IsHeaded result.0 result.1.now text.now }
     ensures name { HasByte result.0 }
 {
-    let text = behind(text, gap_len(text));
     if text.is_empty() {
         return (Lexeme::End, text);
     }
@@ -163,4 +167,21 @@ pub fn lexeme<'a>(text: &'a [u8]) -> (Lexeme<'a>, &'a [u8])
     } else {
         (one_sign(first), behind(text, 1))
     }
+}
+
+/// The text behind the blanks and comments at its front.
+pub fn behind_gap(text: &[u8]) -> &[u8]
+    ensures same { lexed result.now ≡ lexed text.now }
+    ensures spots { spots result.now ≡ spots text.now }
+    ensures at_token { IsAtToken result.now }
+{
+    behind(text, gap_len(text))
+}
+
+/// What stands at the front of a text behind its blanks and comments, with the text behind it.
+pub fn lexeme<'a>(text: &'a [u8]) -> (Lexeme<'a>, &'a [u8])
+    ensures tokens { headed result.0 (lexed result.1.now) ≡ lexed text.now }
+    ensures name { HasByte result.0 }
+{
+    lexeme_at(behind_gap(text))
 }

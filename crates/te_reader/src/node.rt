@@ -1,12 +1,13 @@
 ghost use Rattle.std.specs.Prelude.{◌≡◌, [], length, IfOk};
 ghost use Rattle.te_terms.specs.Codes.{primitive_of, term_at};
 ghost use Rattle.te_terms.specs.Shape.{children, HasFreeChildren};
+ghost use Rattle.te_reader.specs.Tallies.{tally};
 ghost use Rattle.te_reader.specs.EventReads.{made, read_leaf, read_one, test_first, read_condition};
-ghost use Rattle.te_reader.specs.Answering.{Answers, AnswersEvent, TakesSome, IsNotFresh, Puts, leaf};
+ghost use Rattle.te_reader.specs.Answering.{Answers, AnswersEvent, TakesSome, Puts, leaf};
 
 use crate::cursor::Cursor;
 use crate::expression::{read_expression, read_primitive};
-use crate::fault::ScriptFault;
+use crate::refusal::Refusal;
 use crate::scope::Names;
 use crate::token::{Sign, Word};
 use te_terms::{CodeFault, Cond, EventCode, Expr, Node, Test};
@@ -27,13 +28,13 @@ fn take_test(cursor: &mut Cursor<'_>) -> Option<Test>
 
 /// Reads what an `if` asks.
 #[tactic(auto, unfolding(crate::specs::EventReads::read_condition))]
-pub fn read_condition(cursor: &mut Cursor<'_>, names: &Names<'_, '_>) -> Result<Cond, ScriptFault>
+pub fn read_condition(cursor: &mut Cursor<'_>, names: &Names<'_, '_>) -> Result<Cond, Refusal>
     ensures { Answers result (λ c. (c.test, primitive_of c.left, primitive_of c.right)) cursor.old cursor.new
         (read_condition names.now cursor.old.tokens) }
 {
     let left = read_primitive(cursor, names)?;
     let Some(test) = take_test(cursor) else {
-        return Err(ScriptFault::Refused);
+        return Err(Refusal::Refused);
     };
     let right = read_primitive(cursor, names)?;
     Ok(Cond { test, left, right })
@@ -41,10 +42,9 @@ pub fn read_condition(cursor: &mut Cursor<'_>, names: &Names<'_, '_>) -> Result<
 
 // The node of an event that has no parts.
 #[tactic(auto, unfolding(crate::specs::EventReads::read_leaf))]
-fn read_leaf(cursor: &mut Cursor<'_>, names: &Names<'_, '_>) -> Result<Node, ScriptFault>
+fn read_leaf(cursor: &mut Cursor<'_>, names: &Names<'_, '_>) -> Result<Node, Refusal>
     ensures event { Answers result leaf cursor.old cursor.new (read_leaf names.now cursor.old.tokens) }
     ensures no_parts { IfOk result (λ node. children node ≡ []) }
-    ensures not_fresh { IfOk result (λ node. IsNotFresh node) }
 {
     if cursor.take_word(Word::Always) {
         let value: Expr = read_expression(cursor, names)?;
@@ -62,8 +62,11 @@ fn read_leaf(cursor: &mut Cursor<'_>, names: &Names<'_, '_>) -> Result<Node, Scr
         let value = read_expression(cursor, names)?;
         return Ok(Node::Throw(value));
     }
+    if cursor.take_word(Word::Fresh) {
+        return Ok(Node::Fresh);
+    }
     if !cursor.take_word(Word::Recv) {
-        return Err(ScriptFault::Refused);
+        return Err(Refusal::Refused);
     }
     let channel = read_primitive(cursor, names)?;
     Ok(Node::Recv(channel))
@@ -74,9 +77,9 @@ pub fn read_one(
     cursor: &mut Cursor<'_>,
     names: &Names<'_, '_>,
     code: &mut EventCode,
-) -> Result<u32, ScriptFault>
+) -> Result<u32, Refusal>
     ensures { AnswersEvent result (length names.now.inners) code.old code.new cursor.old cursor.new
-        (read_one names.now (length code.old) cursor.old.tokens) }
+        (read_one names.now (tally code.old) cursor.old.tokens) }
 {
     match read_leaf(cursor, names) {
         Ok(node) => put(code, node),
@@ -85,19 +88,18 @@ pub fn read_one(
 }
 
 /// Puts a node behind the others, where the limits of an event allow it.
-pub fn put(code: &mut EventCode, node: Node) -> Result<u32, ScriptFault>
-    requires free { HasFreeChildren code.old node }
-    requires not_fresh { IsNotFresh node }
+pub fn put(code: &mut EventCode, node: Node) -> Result<u32, Refusal>
+    requires { HasFreeChildren code.old node }
     ensures { Puts result code.old code.new node }
 {
     let _ = code.len();
     let root = match code.push(node) {
         Ok(root) => root,
-        Err(CodeFault::Memory) => return Err(ScriptFault::Memory),
-        Err(CodeFault::Full) => return Err(ScriptFault::Refused),
-        Err(CodeFault::Depth) => return Err(ScriptFault::Refused),
+        Err(CodeFault::Memory) => return Err(Refusal::Memory),
+        Err(CodeFault::Full) => return Err(Refusal::Refused),
+        Err(CodeFault::Depth) => return Err(Refusal::Refused),
         Err(CodeFault::Child) => unreachable!(),
-        Err(CodeFault::Fresh) => unreachable!(),
+        Err(CodeFault::Fresh) => return Err(Refusal::Refused),
     };
     let _ = code.len();
     Ok(root)

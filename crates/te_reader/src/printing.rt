@@ -9,6 +9,8 @@ ghost use Rattle.te_reader.specs.Grammar.{Standing as Place, alone};
 ghost use Rattle.te_reader.specs.Answering.{leaf};
 ghost use Rattle.te_reader.specs.Printed.{standing_of, spelling};
 ghost use Rattle.te_reader.specs.Canonical.{name_at, inner_text, variable_text, primitive_text, arith_text, calculation_text, further_text, inside_text, expression_text, test_text, do_open, do_close, choose_open, choose_close, event_text, indent, closing, line_text, left_behind, lines_text, thread_text, spaced, channels_text, canonical_text};
+ghost use Rattle.te_reader.specs.Text.{Text};
+ghost use Rattle.te_reader.specs.Limits.{most_bytes};
 ghost use Rattle.te_terms.specs.Limits.{most_nodes};
 
 use itoa::Buffer;
@@ -485,9 +487,11 @@ fn put_channels(out: &mut Vec<u8>, channels: &[Name]) -> Result<(), NoMemory>
 }
 
 /// The canonical text of a script: a line for the channels, where there are some, a line for each statement,
-/// and single spaces between tokens. The one refusal is want of memory.
+/// and single spaces between tokens. Where it has at most 1,048,576 bytes it is a text of the script, so that
+/// `read_script` reads it as the same one. The one refusal is want of memory.
 pub fn print_script(alloc: Global, script: &Script) -> Result<Rows<u8>, NoMemory>
-    ensures { IfOk result (λ text. text ≡ canonical_text script.now) }
+    ensures canonical { IfOk result (λ text. text ≡ canonical_text script.now) }
+    ensures read_again { IfOk result (λ text. length text ≤ most_bytes → Text text script.now) }
 {
     let mut out = Vec::new(alloc);
     let channels = script.channels.as_slice();

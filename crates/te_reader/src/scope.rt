@@ -7,8 +7,8 @@ ghost use Rattle.te_reader.specs.Answering.{Binds};
 ghost use Rattle.te_terms.specs.Limits.{most_registers, greatest_height};
 
 use crate::channels::Channels;
-use crate::fault::ScriptFault;
 use crate::names::place_of;
+use crate::refusal::Refusal;
 use std::alloc::Global;
 use std::marker::Model;
 use te_terms::{Name, Rows, Var};
@@ -85,22 +85,22 @@ impl<'a, 'b> Names<'a, 'b> {
     /// Brings one inner name more in scope. It is refused where the name has more than 32 bytes, and where
     /// it is that of a channel, a register or an inner name.
     #[tactic(auto, unfolding(crate::specs::NameReads::bound_in))]
-    pub fn bind(&mut self, name: &[u8]) -> Result<(), ScriptFault>
+    pub fn bind(&mut self, name: &[u8]) -> Result<(), Refusal>
         requires room { length self.old.inners < greatest_height }
         requires named { 0 < length name.now }
         ensures { Binds result self.new (bound_in self.old name.now) }
     {
         if self.channel(name).is_some() {
-            return Err(ScriptFault::Refused);
+            return Err(Refusal::Refused);
         }
         if place_of(self.registers.as_slice(), name).is_some() {
-            return Err(ScriptFault::Refused);
+            return Err(Refusal::Refused);
         }
         if self.inner(name).is_some() {
-            return Err(ScriptFault::Refused);
+            return Err(Refusal::Refused);
         }
         let Some(name) = Name::of(name) else {
-            return Err(ScriptFault::Refused);
+            return Err(Refusal::Refused);
         };
         self.inners.push(name)?;
         Ok(())

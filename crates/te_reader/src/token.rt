@@ -52,7 +52,7 @@ pub enum Lexeme<'a> {
     Integer(&'a [u8]),
     Sign(Sign),
     End,
-    Other,
+    Other(u8),
 }
 
 /// Whether two words are the same.

@@ -75,7 +75,8 @@ waits_itself None regs (syncing at r t ∷ left) h = tt
 waits_itself None regs (emitting at e ∷ left) h = absurd h
 
 -- the step that waits, the value that it is given, and where the thread then stands
-given_on : (regs : List (List Atom)) (left : List Step) (r : ℕ) (raised : Option (List Atom)) (emitted : List (List Atom)) (v : List Atom) → r < length regs → IsWaiting (next_at raised regs left) → WritesTo left r
+given_on : (regs : List (List Atom)) (left : List Step) (r : ℕ) (raised : Option (List Atom)) (emitted : List (List Atom)) (v : List Atom)
+    → r < length regs → IsWaiting (next_at raised regs left) → WritesTo left r
     → moved emitted (next_at raised regs left) (Gives v) ≡ stand_at (under (registers_to (slice_set regs r v)) (rest_of left)) emitted
 given_on regs left r (Some u) emitted v lt h w = absurd h
 given_on regs [] r None emitted v lt h w = absurd w
@@ -104,14 +105,17 @@ module _ (t : Thread) (first second : List Stmt) (spot : Spot) (r : ℕ) (first_
       let same : r ≡ here.0 = subst (λ left. WritesTo left r) (left_sync spot t.statements _ here.0 here.1 at here.2) writes_it in
       omega (arith, same, writes_within 256 (length t.registers) 0 t.statements _ spot.place here.0 here.1 h.in_order here.2, h.registers)
 
-  pub stands_given : (regs : List (List Atom)) (raised raised' : Option (List Atom)) (emitted now : List (List Atom)) (v : List Atom) (spot' : Spot) → r < length regs → IsWaiting (next_at raised regs (left_at spot t.statements))
+  pub stands_given : (regs : List (List Atom)) (raised raised' : Option (List Atom)) (emitted now : List (List Atom)) (v : List Atom) (spot' : Spot)
+      → r < length regs → IsWaiting (next_at raised regs (left_at spot t.statements))
       → Settles (slice_set regs r v) (rest_of (left_at spot (map statement_of second))) emitted raised' (left_at spot' (map statement_of second)) now
       → record { emitted = now; next = next_at raised' (slice_set regs r v) (left_at spot' t.statements) } ≡ moved emitted (next_at raised regs (left_at spot t.statements)) (Gives v)
   stands_given regs raised raised' emitted now v spot' lt waiting settles =
-      let stands = subst (λ (ss : List Statement). stand_at (under (registers_to (slice_set regs r v)) (rest_of (left_at spot ss))) emitted ≡ record { emitted = now; next = next_at raised' (slice_set regs r v) (left_at spot' ss) }) second_is settles.stands in
+      let stands = subst (λ (ss : List Statement). stand_at (under (registers_to (slice_set regs r v)) (rest_of (left_at spot ss))) emitted ≡ record
+      { emitted = now; next = next_at raised' (slice_set regs r v) (left_at spot' ss) }) second_is settles.stands in
       sym (given_on regs (left_at spot t.statements) r raised emitted v lt waiting writes_it ∙ stands)
 
-  pub core_given : (regs : List (List Atom)) (raised' : Option (List Atom)) (emitted now : List (List Atom)) (v : List Atom) (spot' : Spot) (room : ℕ) → IsCore t spot (length emitted) room → IsSpot spot' (map statement_of second)
+  pub core_given : (regs : List (List Atom)) (raised' : Option (List Atom)) (emitted now : List (List Atom)) (v : List Atom) (spot' : Spot) (room : ℕ)
+      → IsCore t spot (length emitted) room → IsSpot spot' (map statement_of second)
       → Settles (slice_set regs r v) (rest_of (left_at spot (map statement_of second))) emitted raised' (left_at spot' (map statement_of second)) now → IsCore t spot' (length now) room
   core_given regs raised' emitted now v spot' room old at settles =
       let fits = subst (λ (ss : List Statement). length now + emits_left (left_at spot' ss) ≤ length emitted + emits_left (rest_of (left_at spot ss))) second_is settles.fits in

@@ -19,7 +19,13 @@ pass_silent (suc count) number pass (repeat times more ∷ ss) h = absurd h
 passes_silent : (times count number pass : ℕ) (ss : List Statement) → AreSyncs count ss → emits_left (passes_over times number pass (take count ss)) ≡ 0
 passes_silent zero count number pass ss h = refl
 passes_silent (suc times) count number pass ss h =
-    omega (arith, emits_both (pass_over number pass (take count ss)) (passes_over times number (suc pass) (take count ss)), pass_silent count number pass ss h, passes_silent times count number (suc pass) ss h)
+    omega (
+      arith,
+      emits_both (pass_over number pass (take count ss)) (passes_over times number (suc pass) (take count ss)),
+      pass_silent count number
+          pass ss h,
+      passes_silent times count number (suc pass) ss h,
+    )
 
 body_silent : (count : ℕ) (ss : List Statement) → AreSyncs count ss → emits_in (drop count ss) ≡ emits_in ss
 body_silent zero ss h = refl
@@ -37,7 +43,14 @@ emits_from number (suc count) (repeat times more ∷ ss) h = emits_from (suc num
 emits_from number zero (sync r t ∷ ss) h = emits_from (suc number) 0 ss h
 emits_from number zero (emit e ∷ ss) h = ap suc (emits_from (suc number) 0 ss h)
 emits_from number zero (repeat times count ∷ ss) h =
-    omega (arith, emits_both (passes_over times (suc number) 0 (take count ss)) (flat_from (suc number) count ss), passes_silent times count (suc number) 0 ss h.0.body, emits_from (suc number) count ss h.1, body_silent count ss h.0.body)
+    omega (
+      arith,
+      emits_both (passes_over times (suc number) 0 (take count ss)) (flat_from (suc number) count ss),
+      passes_silent times count
+          (suc number) 0 ss h.0.body,
+      emits_from (suc number) count ss h.1,
+      body_silent count ss h.0.body,
+    )
 
 pub emits_whole : (ss : List Statement) → HasBodies ss → emits_left (flat_from 1 0 ss) ≡ emits_in ss
 emits_whole ss h = emits_from 1 0 ss h

@@ -57,7 +57,8 @@ settled_stand regs [] emitted h = refl
 settled_stand regs (syncing at r t ∷ rest) emitted h = refl
 settled_stand regs (emitting at e ∷ rest) emitted h = absurd h
 
-pub emit_from : (stmts : List Stmt) (i : ℕ) (s : Stmt) (e : Expr) → i < length stmts → s ≡ get_or stmts i s → s ≡ kinds.Emit e → drop i (map statement_of stmts) ≡ emit (expression_of e) ∷ drop (i + 1) (map statement_of stmts)
+pub emit_from : (stmts : List Stmt) (i : ℕ) (s : Stmt) (e : Expr) → i < length stmts → s ≡ get_or stmts i s → s ≡ kinds.Emit e
+    → drop i (map statement_of stmts) ≡ emit (expression_of e) ∷ drop (i + 1) (map statement_of stmts)
 emit_from stmts i s e lt is kind = statements_from stmts i s lt is ∙ ap (λ k. statement_of k ∷ drop (i + 1) (map statement_of stmts)) kind
 
 -- the steps from an emit on

@@ -14,4 +14,5 @@ pub mod WantsTold
 pub mod Appending
 pub mod OneMore
 pub mod NodesPut
+pub mod NamesMade
 pub mod GeneratedKept

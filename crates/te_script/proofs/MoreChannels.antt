@@ -3,13 +3,13 @@ use Rattle.std.proofs.Common.{ℕ, suc, ◌≤◌, List, [], ◌∷◌, arith}
 use Rattle.std.specs.List.{AllByRecursion}
 use Rattle.te_terms.specs.Expressions.{Variable, register, name, known, Primitive, int, chan, part, Calculation, one, both, Expression, whole, tuple}
 use Rattle.te_terms.specs.Terms.{Term, always, never, fresh, throw, send, recv, and_then, choose, catch, when}
-use Rattle.te_script.specs.Scripts.{Statement, sync, emit, repeat, Thread, Scope, IsNamed, IsPrimitive, IsCalculation, IsExpression, IsEvent, AreStatements, with_register, IsThread}
+use Rattle.te_script.specs.Scripts.{Statement, sync, emit, repeat, Thread, Scope, IsVariable, IsPrimitive, IsCalculation, IsExpression, IsEvent, AreStatements, with_register, IsThread}
 
 abbrev scope : ℕ → ℕ → ℕ → Scope
 scope w l m = record { written = w; level = l; channels = m }
 
 module _ (m n w u : ℕ) (more : m ≤ n) (later : w ≤ u) where
-  variable : (l : ℕ) (x : Variable) → IsNamed (scope w l m) x → IsNamed (scope u l n) x
+  variable : (l : ℕ) (x : Variable) → IsVariable (scope w l m) x → IsVariable (scope u l n) x
   variable l (register r) h = omega arith
   variable l (name k) h = h
   variable l (known v) h = absurd h

@@ -46,14 +46,16 @@ then_over c0 c1 c2 c3 a b p q r level =
 
 -- ---- events by their roots
 
-roots_stay : (before after : List Node) (roots : List ℕ) → Grows before after → AllByRecursion (λ i. i < length before) roots → AllByRecursion (λ i. i < length after) roots × (map (term_under after) roots ≡ map (term_under before) roots)
+roots_stay : (before after : List Node) (roots : List ℕ) → Grows before after → AllByRecursion (λ i. i < length before) roots
+    → AllByRecursion (λ i. i < length after) roots × (map (term_under after) roots ≡ map (term_under before) roots)
 roots_stay before after [] g h = (tt, refl)
 roots_stay before after (r ∷ rs) g h =
     let rest = roots_stay before after rs g h.1 in
     ((omega (arith, h.0, g.longer), rest.0), (λ i. g.stays 0 r h.0 i ∷ rest.1 i))
 
 -- one event more
-pub one_event_more : (before after : List Node) (roots : List ℕ) (root : ℕ) (events : List Term) (event : Term) → Grows before after → HasEvents before roots events → root < length after → term_under after root ≡ event
+pub one_event_more : (before after : List Node) (roots : List ℕ) (root : ℕ) (events : List Term) (event : Term) → Grows before after
+    → HasEvents before roots events → root < length after → term_under after root ≡ event
     → HasEvents after (roots ++ root ∷ []) (events ++ event ∷ [])
 one_event_more before after roots root events event g h lt is =
     let stay = roots_stay before after roots g h.within in
@@ -67,7 +69,8 @@ same_grows code = record { longer = omega arith; stays = λ level i lt. refl }
 
 -- ---- what a call that puts a `then` answers
 
-pub then_put : {E : Type 0} (r : Result ℕ E) (c0 c1 c2 c3 : List Node) (a b : Node) (x y : ℕ) → Put c0 c1 a → Put c1 c2 b → x ≡ length c0 → y ≡ length c1 → IfOk r (λ n. n ≡ length c2) → OnOk r (c3 ≡ c2 ++ nodes.Then x y ∷ []) → IsForest c2 → IsForest c3
+pub then_put : {E : Type 0} (r : Result ℕ E) (c0 c1 c2 c3 : List Node) (a b : Node) (x y : ℕ) → Put c0 c1 a → Put c1 c2 b → x ≡ length c0
+    → y ≡ length c1 → IfOk r (λ n. n ≡ length c2) → OnOk r (c3 ≡ c2 ++ nodes.Then x y ∷ []) → IsForest c2 → IsForest c3
     → IfOk r (λ n. term_under c3 n ≡ and_then (over (term_at c0) 0 (Some a)) 0 (over (term_at c1) 1 (Some b)))
 then_put (Ok n) c0 c1 c2 c3 a b x y p q xs ys number appended before after =
     let node : nodes.Then x y ≡ nodes.Then (length c0) (length c1) = λ i. nodes.Then (xs i) (ys i) in
@@ -81,17 +84,24 @@ then_grows (Ok n) c0 c1 c2 c3 a b m p q appended before after =
 then_grows (Err e) c0 c1 c2 c3 a b m p q appended before after = tt
 
 -- a node, and a `then` behind it that it is the first part of
-pub nested_put : {E : Type 0} (r : Result ℕ E) (c0 c1 c2 c3 c4 c5 : List Node) (a b c : Node) (x y z v : ℕ) → Put c0 c1 a → Put c1 c2 b → Put c2 c3 c → Put c3 c4 (nodes.Then y z) → x ≡ length c0 → y ≡ length c1 → z ≡ length c2 → v ≡ length c3
+pub nested_put : {E : Type 0} (r : Result ℕ E) (c0 c1 c2 c3 c4 c5 : List Node) (a b c : Node) (x y z v : ℕ) → Put c0 c1 a → Put c1 c2 b → Put c2 c3 c
+    → Put c3 c4 (nodes.Then y z) → x ≡ length c0 → y ≡ length c1 → z ≡ length c2 → v ≡ length c3
     → IfOk r (λ n. n ≡ length c4) → OnOk r (c5 ≡ c4 ++ nodes.Then x v ∷ []) → IsForest c4 → IsForest c5
     → IfOk r (λ n. term_under c5 n ≡ and_then (over (term_at c0) 0 (Some a)) 0 (and_then (over (term_at c1) 1 (Some b)) 1 (over (term_at c2) 2 (Some c))))
 nested_put (Ok n) c0 c1 c2 c3 c4 c5 a b c x y z v p q s t xs ys zs vs number appended before after =
     let inner : Put c3 c4 (nodes.Then (length c1) (length c2)) = subst (λ (m : Node). Put c3 c4 m) (λ i. nodes.Then (ys i) (zs i)) t in
-    let outer : Put c4 c5 (nodes.Then (length c0) (length c3)) = record { appended = appended ∙ ap (λ (m : Node). c4 ++ m ∷ []) (λ i. nodes.Then (xs i) (vs i)); before_is = before; after_is = after } in
+    let outer : Put c4 c5 (nodes.Then (length c0) (length c3)) = record {
+      appended = appended ∙ ap (λ (m : Node). c4 ++ m ∷ []) (λ i.
+          nodes.Then (xs i) (vs i));
+      before_is = before;
+      after_is = after;
+    } in
     let rest = then_over c1 c2 c3 c4 b c q s inner 1 in
     let l1 = longer c0 c1 a p in
     let l2 = longer c1 c2 b q in
     let l3 = longer c2 c3 c s in
-    let first = old_node c3 c4 (nodes.Then (length c1) (length c2)) inner 0 (length c0) (omega (arith, l1, l2, l3)) ∙ old_node c2 c3 c s 0 (length c0) (omega (arith, l1, l2)) ∙ old_node c1 c2 b q 0 (length c0) (omega (arith, l1)) ∙ new_node c0 c1 a p 0 in
+    let first = old_node c3 c4 (nodes.Then (length c1) (length c2)) inner 0 (length c0) (omega (arith, l1, l2, l3)) ∙ old_node c2 c3 c s 0 (length c0)
+    (omega (arith, l1, l2)) ∙ old_node c1 c2 b q 0 (length c0) (omega (arith, l1)) ∙ new_node c0 c1 a p 0 in
     rw number (new_node c4 c5 (nodes.Then (length c0) (length c3)) outer 0 ∙ (λ i. and_then (first i) 0 (rest i)))
 nested_put (Err e) c0 c1 c2 c3 c4 c5 a b c x y z v p q s t xs ys zs vs number appended before after = tt
 

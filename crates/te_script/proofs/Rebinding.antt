@@ -72,6 +72,8 @@ rebound r v (syncing at s t ∷ ss) f g p w =
     let rest = behind (eqb s r) refl (λ ne. rebound r v ss (without s f) (without s g) (IsPartial-without s f p) (with_without r s v f g ne w)) in
     λ i. syncing at s (here i) ∷ rest i
   where
-    behind : (b : Bool) → eqb s r ≡ b → (eqb s r ≡ false → written r v (under (without s f) ss) ≡ under (without s g) ss) → cond (eqb s r) (under (without s f) ss) (written r v (under (without s f) ss)) ≡ under (without s g) ss
-    behind true e go = rw e (subst (λ k. under (without k f) ss ≡ under (without k g) ss) (sym (eqb-true s r e)) (ap (λ (h : Variable → Variable). under h ss) (same_functions _ _ (same_without r v f g p w))))
+    behind : (b : Bool) → eqb s r ≡ b → (eqb s r ≡ false → written r v (under (without s f) ss) ≡ under (without s g) ss)
+        → cond (eqb s r) (under (without s f) ss) (written r v (under (without s f) ss)) ≡ under (without s g) ss
+    behind true e go = rw e (subst (λ k. under (without k f) ss ≡ under (without k g) ss) (sym (eqb-true s r e)) (ap (λ (h : Variable → Variable).
+        under h ss) (same_functions _ _ (same_without r v f g p w))))
     behind false e go = rw e (go e)

@@ -5,7 +5,7 @@ use Rattle.std.specs.List.{AllByRecursion}
 use Rattle.te_terms.specs.Expressions.{Variable, register, name, known, Primitive, int, chan, part, Calculation, one, both, Expression, whole, tuple, in_primitive, in_calculation, in_expression}
 use Rattle.te_terms.specs.Terms.{Term, always, never, fresh, throw, send, recv, and_then, choose, catch, when, replaced}
 use Rattle.te_terms.proofs.BindingLaws.{replaced_twice}
-use Rattle.te_script.specs.Scripts.{Scope, one_more, IsNamed, IsPrimitive, IsCalculation, IsExpression, IsEvent}
+use Rattle.te_script.specs.Scripts.{Scope, one_more, IsVariable, IsPrimitive, IsCalculation, IsExpression, IsEvent}
 
 -- replacing twice is replacing once by both, as it is for the event that gives the expression
 pub expression_twice : (g f : Variable → Variable) (e : Expression) → in_expression g (in_expression f e) ≡ in_expression (λ x. g (f x)) e
@@ -18,7 +18,7 @@ pub record Keeps (f : Variable → Variable) (written : ℕ) : Type 0 where
   pub registers : (r : ℕ) → r < written → f (register r) ≡ register r
   pub names : (n : ℕ) → f (name n) ≡ name n
 
-variable_kept : (f : Variable → Variable) (s : Scope) (x : Variable) → Keeps f s.written → IsNamed s x → f x ≡ x
+variable_kept : (f : Variable → Variable) (s : Scope) (x : Variable) → Keeps f s.written → IsVariable s x → f x ≡ x
 variable_kept f s (register r) k h = k.registers r h
 variable_kept f s (name n) k h = k.names n
 variable_kept f s (known v) k h = absurd h

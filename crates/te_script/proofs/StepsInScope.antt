@@ -70,7 +70,8 @@ one_pass channels registers w (suc count) number pass (sync r t ∷ ss) h body =
 one_pass channels registers w (suc count) number pass (emit e ∷ ss) h body = absurd body
 one_pass channels registers w (suc count) number pass (repeat times more ∷ ss) h body = absurd body
 
-all_passes : (channels registers w count times number pass : ℕ) (ss : List Statement) → AreStatements channels registers w ss → AreSyncs count ss → AreSteps channels w (passes_over times number pass (take count ss))
+all_passes : (channels registers w count times number pass : ℕ) (ss : List Statement) → AreStatements channels registers w ss → AreSyncs count ss
+    → AreSteps channels w (passes_over times number pass (take count ss))
 all_passes channels registers w count zero number pass ss h body = tt
 all_passes channels registers w count (suc times) number pass ss h body =
     AreSteps-append channels w w (pass_over number pass (take count ss)) (passes_over times number (suc pass) (take count ss)) (one_pass channels registers w count number pass ss h body).0
@@ -82,7 +83,8 @@ passes_write channels registers w count zero number ss h body lt = absurd (omega
 passes_write channels registers w count (suc times) number ss h body lt =
     omega (arith, written_append w (pass_over number 0 (take count ss)) (passes_over times number 1 (take count ss)), (one_pass channels registers w count number 0 ss h body).1)
 
-all_steps : (channels registers w number count : ℕ) (ss : List Statement) → AreStatements channels registers w ss → AreSyncs count ss → AreSteps channels (written_behind count w ss) (flat_from number count ss)
+all_steps : (channels registers w number count : ℕ) (ss : List Statement) → AreStatements channels registers w ss → AreSyncs count ss
+    → AreSteps channels (written_behind count w ss) (flat_from number count ss)
 all_steps channels registers w number zero [] h body = tt
 all_steps channels registers w number (suc count) [] h body = absurd body
 all_steps channels registers w number (suc count) (sync r t ∷ ss) h body = all_steps channels registers (with_register w r) (suc number) count ss h.3 body

@@ -75,7 +75,8 @@ in_round place reg t r ss lt e =
     rw (more, e) refl
 
 -- the pass goes on
-goes_on : (place reg : ℕ) (t : Term) (r : Round) (ss : List Statement) → suc place < r.end → drop place ss ≡ sync reg t ∷ drop (suc place) ss → left_in (suc place) (Some r) ss ≡ rest_of (left_in place (Some r) ss)
+goes_on : (place reg : ℕ) (t : Term) (r : Round) (ss : List Statement) → suc place < r.end → drop place ss ≡ sync reg t ∷ drop (suc place) ss
+    → left_in (suc place) (Some r) ss ≡ rest_of (left_in place (Some r) ss)
 goes_on place reg t r ss lt e = sym (ap rest_of (in_round place reg t r ss (omega (arith, lt)) e))
 
 -- the pass is done
@@ -116,7 +117,8 @@ on_outside place ss h = at (drop place ss) refl h
     at (emit x ∷ rest) e h = absurd h
     at (repeat times count ∷ rest) e h = absurd h
 
-pub on_same_pass : (place : ℕ) (r : Round) (ss : List Statement) → IsRound place r ss → suc place < r.end → IsSpot (record { place = suc place; round = Some r }) ss × (left_in (suc place) (Some r) ss ≡ rest_of (left_in place (Some r) ss))
+pub on_same_pass : (place : ℕ) (r : Round) (ss : List Statement) → IsRound place r ss → suc place < r.end
+    → IsSpot (record { place = suc place; round = Some r }) ss × (left_in (suc place) (Some r) ss ≡ rest_of (left_in place (Some r) ss))
 on_same_pass place r ss h lt =
     let at = sync_in_round place r ss h in (
       record {
@@ -158,7 +160,8 @@ left_sync spot ss rest r t h e = at spot.place spot.round h.round e
 pub waits_at : (spot : Spot) (ss : List Statement) → IsSpot spot ss → IsWaiting (next_of (left_at spot ss)) → (r : ℕ) × (t : Term) × (drop spot.place ss ≡ sync r t ∷ drop (suc spot.place) ss)
 waits_at spot ss h w = at spot.place spot.round h.round w
   where
-    outside : (place : ℕ) (rest : List Statement) → drop place ss ≡ rest → IsAtSync rest → IsWaiting (next_of (flat_from (suc place) 0 rest)) → (r : ℕ) × (t : Term) × (drop place ss ≡ sync r t ∷ drop (suc place) ss)
+    outside : (place : ℕ) (rest : List Statement) → drop place ss ≡ rest → IsAtSync rest → IsWaiting (next_of (flat_from (suc place) 0 rest))
+        → (r : ℕ) × (t : Term) × (drop place ss ≡ sync r t ∷ drop (suc place) ss)
     outside place [] e h w = absurd w
     outside place (sync r t ∷ rest) e h w = (r, t, e ∙ ap (λ (xs : List Statement). sync r t ∷ xs) (sym (tail_of ss place (sync r t) rest e)))
     outside place (emit x ∷ rest) e h w = absurd h
@@ -222,8 +225,10 @@ entered place times count ss rest e h le =
     let skips : flat_from (suc (suc place)) count rest ≡ behind (suc place + count) ss =
     flat_skips (suc (suc place)) count rest ∙ (λ i. flat_from (number i) 0 (behind_body i)) in
     let whole : behind place ss ≡ passes_over times (suc (suc place)) 0 body ++ flat_from (suc (suc place)) count rest = ap (flat_from (suc place) 0) e in
-    let first : passes_over times (suc (suc place)) 0 body ≡ pass_over (suc (suc place)) 0 body ++ passes_over (times - 1) (suc (suc place)) 1 body = ap (λ n. passes_over n (suc (suc place)) 0 body) least in
-    let left : left_in (suc place) (Some (first_round place times count)) ss ≡ pass_over (suc (suc place)) 0 body ++ (passes_over (times - 1) (suc (suc place)) 1 body ++ behind (suc place + count) ss) = rw (all, tail) refl in (
+    let first : passes_over times (suc (suc place)) 0 body ≡ pass_over (suc (suc place)) 0 body ++ passes_over (times - 1) (suc (suc place)) 1 body =
+    ap (λ n. passes_over n (suc (suc place)) 0 body) least in
+    let left : left_in (suc place) (Some (first_round place times count)) ss ≡ pass_over (suc (suc place)) 0 body ++ (passes_over (times - 1)
+    (suc (suc place)) 1 body ++ behind (suc place + count) ss) = rw (all, tail) refl in (
       record {
         within = omega (arith, le);
         round = record {
@@ -235,7 +240,8 @@ entered place times count ss rest e h le =
           body = subst (λ n. AreSyncs n (drop (suc place) ss)) (sym all) (subst (AreSyncs count) (sym tail) h.body);
         };
       },
-      left ∙ ap (λ (xs : List Step). pass_over (suc (suc place)) 0 body ++ (passes_over (times - 1) (suc (suc place)) 1 body ++ xs)) (sym skips) ∙ sym assoc ∙ ap (λ (xs : List Step). xs ++ flat_from (suc (suc place)) count rest) (sym first) ∙ sym whole,
+      left ∙ ap (λ (xs : List Step). pass_over (suc (suc place)) 0 body ++ (passes_over (times - 1) (suc (suc place)) 1 body ++ xs)) (sym skips) ∙ sym
+          assoc ∙ ap (λ (xs : List Step). xs ++ flat_from (suc (suc place)) count rest) (sym first) ∙ sym whole,
     )
 
 -- the repeat at a place has its body

@@ -30,7 +30,8 @@ under_kept channels k [] f kept h = refl
 under_kept channels k (emitting at e ∷ ss) f kept h =
     λ i. emitting at (expression_kept f (record { written = k; level = 0; channels = channels }) e kept h.0 i) ∷ under_kept channels k ss f kept h.1 i
 under_kept channels k (syncing at r t ∷ ss) f kept h =
-    λ i. syncing at r (event_kept f (record { written = k; level = 0; channels = channels }) t kept h.1 i) ∷ under_kept channels (with_register k r) ss (without r f) (Keeps-without f r k h.0 kept) h.2 i
+    λ i. syncing at r (event_kept f (record { written = k; level = 0; channels = channels }) t kept h.1 i) ∷ under_kept channels (with_register k r)
+    ss (without r f) (Keeps-without f r k h.0 kept) h.2 i
 
 nothing_written : (channels : ℕ) (t : Thread) (regs : List (List Atom)) → IsThread channels t → under (registers_to regs) (flat t) ≡ flat t
 nothing_written channels t regs h = under_kept channels 0 (flat t) (registers_to regs) (record { registers = λ r lt. absurd (omega arith); names = λ n. refl }) (thread_steps channels t h)

@@ -22,7 +22,8 @@ use Rattle.te_script.proofs.CoreMoves.{waits_itself}
 use Rattle.te_script.proofs.WishReached.{wish_after}
 
 -- the statement at which a core stands, and those behind it
-pub stands_at : (ss : List Statement) (stmts : List Stmt) (i : ℕ) (s : Stmt) → map statement_of stmts ≡ ss → i < length stmts → s ≡ get_or stmts i s → drop i ss ≡ statement_of s ∷ drop (i + 1) (map statement_of stmts)
+pub stands_at : (ss : List Statement) (stmts : List Stmt) (i : ℕ) (s : Stmt) → map statement_of stmts ≡ ss → i < length stmts → s ≡ get_or stmts i s
+    → drop i ss ≡ statement_of s ∷ drop (i + 1) (map statement_of stmts)
 stands_at ss stmts i s is lt here = ap (drop i) (sym is) ∙ statements_from stmts i s lt here
 
 -- a spot is at no emit and at no repeat
@@ -32,11 +33,13 @@ no_emit spot ss rest s e h is emits = subst (λ k. IsAtSync (statement_of k ∷ 
 pub no_repeat : (spot : Spot) (ss rest : List Statement) (s : Stmt) (times count : ℕ) → IsSpot spot ss → drop spot.place ss ≡ statement_of s ∷ rest → s ≡ kinds.Repeat times count → ⊥
 no_repeat spot ss rest s times count h is repeats = subst (λ k. IsAtSync (statement_of k ∷ rest)) repeats (subst IsAtSync is (at_sync spot ss h))
 
-pub sync_wish : (regs emitted : List (List Atom)) (raised : Option (List Atom)) (spot : Spot) (ss rest : List Statement) (r : ℕ) (t : Term) → raised ≡ None → IsSpot spot ss → drop spot.place ss ≡ sync r t ∷ rest
+pub sync_wish : (regs emitted : List (List Atom)) (raised : Option (List Atom)) (spot : Spot) (ss rest : List Statement) (r : ℕ) (t : Term)
+    → raised ≡ None → IsSpot spot ss → drop spot.place ss ≡ sync r t ∷ rest
     → wish_of emitted (doing_of (next_at raised regs (left_at spot ss))) ≡ syncs (closed regs t)
 sync_wish regs emitted raised spot ss rest r t none h is = rw (none, left_sync spot ss rest r t h is) refl
 
-pub done_wish : (regs emitted : List (List Atom)) (raised : Option (List Atom)) (spot : Spot) (ss : List Statement) (stmts : List Stmt) → raised ≡ None → IsSpot spot ss → map statement_of stmts ≡ ss → length stmts ≤ spot.place
+pub done_wish : (regs emitted : List (List Atom)) (raised : Option (List Atom)) (spot : Spot) (ss : List Statement) (stmts : List Stmt)
+    → raised ≡ None → IsSpot spot ss → map statement_of stmts ≡ ss → length stmts ≤ spot.place
     → wish_of emitted (doing_of (next_at raised regs (left_at spot ss))) ≡ done emitted
 done_wish regs emitted raised spot ss stmts none h is le = rw (none, none_left spot ss h (ap (drop spot.place) (sym is) ∙ nothing_from stmts spot.place le)) refl
 
@@ -53,7 +56,8 @@ first_left [] rest i s e = absurd (let nil : [] ≡ s ∷ rest = sym (drop-nil i
 first_left (s' ∷ ss) rest zero s e = cc
 first_left (s' ∷ ss) rest (suc i) s e = first_left ss rest i s e
 
-pub of_statement : (t : Thread) (regs : List (List Atom)) (rest : List Statement) (i r : ℕ) (term : Term) → length regs ≡ 8 → drop i t.statements ≡ sync r term ∷ rest → IsOfStatement t (closed regs term)
+pub of_statement : (t : Thread) (regs : List (List Atom)) (rest : List Statement) (i r : ℕ) (term : Term) → length regs ≡ 8
+    → drop i t.statements ≡ sync r term ∷ rest → IsOfStatement t (closed regs term)
 of_statement t regs rest i r term eight is = record {
   place = i;
   register = r;

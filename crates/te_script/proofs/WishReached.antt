@@ -21,7 +21,8 @@ stays_ended : (emitted : List (List Atom)) (outs : List Outcome) → told (goes_
 stays_ended emitted [] = refl
 stays_ended emitted (o ∷ outs) = stays_ended emitted outs
 
-stays_failed : (emitted : List (List Atom)) (v : List Atom) (outs : List Outcome) → told (goes_by (record { emitted = emitted; next = failed v }) outs) ≡ record { emitted = emitted; does = has_raised v }
+stays_failed : (emitted : List (List Atom)) (v : List Atom) (outs : List Outcome)
+    → told (goes_by (record { emitted = emitted; next = failed v }) outs) ≡ record { emitted = emitted; does = has_raised v }
 stays_failed emitted v [] = refl
 stays_failed emitted v (o ∷ outs) = stays_failed emitted v outs
 
@@ -42,7 +43,8 @@ IsPartial-holding r v by p = record { registers = λ q. at q (eqb q r) refl; nam
     at q true e = inr (v, rw e refl)
     at q false e = rw e (p.registers q)
 
-comes_to : (by : Variable → Variable) (ss : List Step) (emitted : List (List Atom)) (outs : List Outcome) → IsPartial by → told (goes_by (stand_at (under by ss) emitted) outs) ≡ reached_by by emitted ss outs
+comes_to : (by : Variable → Variable) (ss : List Step) (emitted : List (List Atom)) (outs : List Outcome) → IsPartial by
+    → told (goes_by (stand_at (under by ss) emitted) outs) ≡ reached_by by emitted ss outs
 comes_to by [] emitted outs p = stays_ended emitted outs
 comes_to by (emitting at e ∷ ss) emitted outs p = on (value_of (in_expression by e)) (λ more. comes_to by ss more outs p)
   where

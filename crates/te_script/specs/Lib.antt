@@ -1,4 +1,5 @@
 pub mod Limits
+pub mod Names
 pub mod Scripts
 pub mod Wishes
 pub mod Texts

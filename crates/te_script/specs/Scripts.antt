@@ -1,11 +1,13 @@
 -- Scripts as values: statements over terms whose registers are not yet replaced.
 -- All of it is this project's own.
-use Rattle.std.specs.Prelude.{◌≡◌, ◌≢◌, ℕ, zero, suc, ◌<◌, ◌≤◌, List, [], ◌∷◌, length, map, nat_lt, if◌then◌else◌}
+use Rattle.std.specs.Prelude.{◌≡◌, ◌≢◌, ℕ, zero, suc, ◌<◌, ◌≤◌, true, List, [], ◌∷◌, length, map, nat_lt, if◌then◌else◌}
 use Rattle.std.specs.List.{AllByRecursion}
+use Rattle.te_terms.specs.Values.{fits_i64}
 use Rattle.te_terms.specs.Expressions.{Variable, register, name, known, Primitive, int, chan, part, Calculation, one, both, Expression, whole, tuple}
 use Rattle.te_terms.specs.Terms.{Term, always, never, fresh, throw, send, recv, and_then, choose, catch, when}
 use Rattle.te_terms.specs.Limits.{IsWithinLimits, most_registers, most_threads, most_atoms}
 use Rattle.te_script.specs.Limits.{most_channels, most_statements, most_times}
+use Rattle.te_script.specs.Names.{IsName}
 
 -- `sync r t` writes what the event t gives to register r; `emit e` adds the value of e; `repeat times count` does the next count statements so many times
 pub data Statement : Type 0 where
@@ -24,7 +26,7 @@ pub record Program : Type 0 where
   pub channels : List (List ℕ)
   pub threads : List Thread
 
--- ---- what can be spelled: names in scope, places 0 to 3, channels declared, at most 4 calculations
+-- ---- what can be spelled: integers of 64 bits, names in scope, places 0 to 3, channels declared, at most 4 calculations
 
 -- how many registers have been written, how many inner names are in scope, and how many channels there are
 pub record Scope : Type 0 where
@@ -35,22 +37,22 @@ pub record Scope : Type 0 where
 abbrev pub one_more : Scope → Scope
 one_more s = record s { level = suc s.level }
 
-abbrev pub IsNamed : Scope → Variable → Type 0
-IsNamed s (register r) = r < s.written
-IsNamed s (name n) = n < s.level
-IsNamed s (known v) = ⊥
+abbrev pub IsVariable : Scope → Variable → Type 0
+IsVariable s (register r) = r < s.written
+IsVariable s (name n) = n < s.level
+IsVariable s (known v) = ⊥
 
 abbrev pub IsPrimitive : Scope → Primitive → Type 0
-IsPrimitive s (int z) = Unit {0}
+IsPrimitive s (int z) = fits_i64 z ≡ true
 IsPrimitive s (chan c) = c < s.channels
-IsPrimitive s (part x d) = IsNamed s x × (d < most_atoms)
+IsPrimitive s (part x d) = IsVariable s x × (d < most_atoms)
 
 abbrev pub IsCalculation : Scope → Calculation → Type 0
 IsCalculation s (one p) = IsPrimitive s p
 IsCalculation s (both o p q) = IsPrimitive s p × IsPrimitive s q
 
 abbrev pub IsExpression : Scope → Expression → Type 0
-IsExpression s (whole x) = IsNamed s x
+IsExpression s (whole x) = IsVariable s x
 IsExpression s (tuple cs) = AllByRecursion (IsCalculation s) cs × (length cs ≤ most_atoms)
 
 abbrev pub IsEvent : Scope → Term → Type 0
@@ -123,3 +125,15 @@ pub record IsProgram (p : Program) : Type 0 where
   pub names : AreDistinct (thread_names p.threads)
   pub each : AllByRecursion (IsThread (length p.channels)) p.threads
   pub apart : AllByRecursion (λ t. AreApart t.registers p.channels) p.threads
+
+-- ---- what a script keeps
+
+pub record HasNames (t : Thread) : Type 0 where
+  pub name : IsName t.name
+  pub registers : AllByRecursion IsName t.registers
+
+-- a program that can be spelled
+pub record IsScript (p : Program) : Type 0 where
+  pub program : IsProgram p
+  pub channels : AllByRecursion IsName p.channels
+  pub threads : AllByRecursion HasNames p.threads

@@ -4,7 +4,7 @@ use Rattle.std.specs.List.{AllByRecursion}
 use Rattle.te_terms.specs.Codes.{term_under, expression_of}
 use Rattle.te_script.specs.declared.script.Stmt.{Stmt}
 use Rattle.te_script.specs.declared.script.Stmt.TheVariants as stmts
-use Rattle.te_script.specs.Scripts.{Statement, sync, emit, repeat, Thread, IsThread}
+use Rattle.te_script.specs.Scripts.{Statement, sync, emit, repeat, Thread, IsThread, HasNames}
 use Rattle.te_script.specs.Limits.{most_channels}
 
 -- the event of a sync statement is the term under its root, whatever its nodes' numbers
@@ -19,7 +19,8 @@ HasRoot (stmts.Sync r code root) = root < length code.value
 HasRoot (stmts.Emit e) = Unit {0}
 HasRoot (stmts.Repeat times count) = Unit {0}
 
--- what a thread text keeps: what a thread keeps by itself, with as many channels as there may be, and its roots
+-- what a thread text keeps: what a thread keeps by itself, with as many channels as there may be, its names and its roots
 pub record IsText (t : Thread) (stmts : List Stmt) : Type 0 where
   pub thread : IsThread most_channels t
+  pub names : HasNames t
   pub roots : AllByRecursion HasRoot stmts

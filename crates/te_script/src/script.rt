@@ -20,7 +20,8 @@ pub enum Stmt {
     },
 }
 
-/// One thread of a script: its name, the names of its registers by number, and its statements.
+/// One thread of a script: its name, the names of its registers by number, and its statements. A name is a letter,
+/// then letters, digits and `_`, and no reserved word of the language.
 #[derive(Drop)]
 pub struct ThreadText {
     pub name: Name,
@@ -63,7 +64,7 @@ impl ThreadText {
     }
 }
 
-/// A script: the names of its channels by number, and its threads.
+/// A script: the names of its channels by number, and its threads. Each script can be spelled.
 #[derive(Drop)]
 pub struct Script {
     pub channels: Rows<Name>,
@@ -72,7 +73,7 @@ pub struct Script {
 
 impl Model for Script {
     ghost use Rattle.std.specs.Prelude.{map};
-    ghost use Rattle.te_script.specs.Scripts.{Program, IsProgram};
+    ghost use Rattle.te_script.specs.Scripts.{Program, IsScript};
     ghost use Rattle.te_script.specs.Stored.{coded_program};
 
     ghost Value = { Program };
@@ -81,5 +82,5 @@ impl Model for Script {
 
     ghost view = { λ s. record { channels = s.channels; threads = map (λ a. a.value) s.threads } };
 
-    ghost invariant = { λ s. IsProgram (record { channels = s.channels; threads = map (λ a. a.value) s.threads }) };
+    ghost invariant = { λ s. IsScript (record { channels = s.channels; threads = map (λ a. a.value) s.threads }) };
 }

@@ -4,7 +4,26 @@ ghost use Rattle.te_script.specs.Wishes.{wish, site, site_of, reached, syncs};
 ghost use Rattle.te_terms.specs.declared.event.Outcome.{Outcome as Given};
 ghost use Rattle.te_terms.specs.Terms.{closed};
 ghost use Rattle.te_terms.specs.Codes.{term_under};
-ghost use Rattle.te_script.specs.Cores.{moved, wish_at, doing_of, core_after, Settles, IsWaiting, IsSpot, IsSomewhere, HasBodies, IsPastEmits, WritesTo, GoesOn, next_of, rest_of, emits_in, emits_left, behind, left_at};
+ghost use Rattle.te_script.specs.Cores.{
+  moved,
+  wish_at,
+  doing_of,
+  core_after,
+  Settles,
+  IsWaiting,
+  IsSpot,
+  IsSomewhere,
+  HasBodies,
+  IsPastEmits,
+  WritesTo,
+  GoesOn,
+  next_of,
+  rest_of,
+  emits_in,
+  emits_left,
+  behind,
+  left_at,
+};
 ghost use Rattle.te_script.specs.Wants.{IsWant, IsOfText};
 ghost use Rattle.te_script.specs.Texts.{statement_of};
 

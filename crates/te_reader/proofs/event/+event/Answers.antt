@@ -1,11 +1,11 @@
 use Rattle.std.proofs.Common.{◌≡◌, ℕ, suc, ◌-◌, List, [], ◌∷◌, length, refl, ◌∙◌, ap, arith, length-append}
 use Rattle.std.specs.Prelude.{Some, Result, Ok, Err, OnOk}
-use Rattle.te_reader.specs.declared.fault.ScriptFault.{ScriptFault}
+use Rattle.te_reader.specs.declared.refusal.Refusal.{Refusal}
 use Rattle.te_terms.specs.declared.code.Node.TheVariants as nodes
 use Rattle.te_reader.specs.Grammar.{Names, with_inner}
 use Rattle.te_reader.specs.NameReads.{bound_in}
 use Rattle.te_reader.proofs.NameLemmas.{bound_is}
-use Rattle.te_reader.proofs.BuiltLemmas.{joined}
+use Rattle.te_reader.proofs.BuiltLemmas.{joined, tallied}
 use Rattle.te_reader.proofs.EventSteps.{part_made, second_made, choose_begun, more_begun, try_made, if_made}
 use Rattle.te_reader.proofs.event.+event.Goals as goal
 
@@ -13,7 +13,7 @@ use Rattle.te_reader.proofs.event.+event.Goals as goal
 pub one_more : (s : Names) (n : List ℕ) (more : Names) → bound_in s n ≡ Some more → length more.inners ≡ suc (length s.inners)
 one_more s n more e = ap (λ x. length x.inners) (bound_is s n more e).1 ∙ length-append s.inners (n ∷ []) ∙ omega arith
 
-leaves_names : (r : Result ℕ ScriptFault) (new old : Names) → new ≡ old → OnOk r (new ≡ old)
+leaves_names : (r : Result ℕ Refusal) (new old : Names) → new ≡ old → OnOk r (new ≡ old)
 leaves_names (Ok root) new old e = e
 leaves_names (Err fault) new old e = tt
 
@@ -22,7 +22,7 @@ read_choose-returns-clause-event t c =
     let first = c.in_ok-first.ensures.event in
     let second = rw c.in_ok-first.ensures.names at c.in_ok-second.ensures.event in
     joined (nodes.Choose c.in_ok-first.first c.in_ok-second.second) _ _ _ _ c.args.code.now c.read_event.new.code c.read_more.new.code refl refl first.2 second.2 c.put.result c.put.new.code c.args.cursor.now c.read_more.new.cursor _ c.put.ensures
-    (choose_begun _ c.args.names.now _ _ _ _ _ _ c.if-not-take_sign.ensures.0 first.0 c.if-not-take_sign-2.ensures.0 ∙ second_made _ c.args.names.now _ _ _ _ _ _ first.2.nodes second.0)
+    (choose_begun _ c.args.names.now _ _ _ _ _ _ c.if-not-take_sign.ensures.0 first.0 c.if-not-take_sign-2.ensures.0 ∙ second_made _ c.args.names.now _ _ _ _ _ _ (tallied first.2) second.0)
     (second.1 ∙ c.if-not-take_sign-2.ensures.1 ∙ first.1 ∙ c.if-not-take_sign.ensures.1)
 
 pub read_if-returns-clause-event : goal.read_if-returns-clause-event
@@ -30,7 +30,7 @@ read_if-returns-clause-event t c =
     let first = c.in_ok-first.ensures.event in
     let second = rw c.in_ok-first.ensures.names at c.in_ok-second.ensures.event in
     joined (nodes.If c.in_ok-condition.condition c.in_ok-first.first c.in_ok-second.second) _ _ _ _ c.args.code.now c.read_braced.new.code c.read_braced-2.new.code refl refl first.2 second.2 c.put.result c.put.new.code c.args.cursor.now c.read_braced-2.new.cursor _ c.put.ensures
-    (if_made _ c.args.names.now _ _ _ _ _ _ first.2.nodes _ _ _ _ _ _ c.in_ok-condition.ensures.0 first.0 c.if-not-take_word.ensures.0 second.0)
+    (if_made _ c.args.names.now _ _ _ _ _ _ (tallied first.2) _ _ _ _ _ _ c.in_ok-condition.ensures.0 first.0 c.if-not-take_word.ensures.0 second.0)
     (second.1 ∙ c.if-not-take_word.ensures.1 ∙ first.1 ∙ c.in_ok-condition.ensures.1)
 
 pub read_more-returns-then-take_sign-clause-event : goal.read_more-returns-then-take_sign-clause-event
@@ -39,7 +39,7 @@ read_more-returns-then-take_sign-clause-event t c =
     let second = rw c.in_ok-first.ensures.names at c.in_ok-second.ensures.event in
     let one : c.args.layers ≡ suc (c.args.layers - 1) = omega (arith, c.if-layers-eq0.false) in
     joined (nodes.Choose c.in_ok-first.first c.in_ok-second.second) _ _ _ _ c.args.code.now c.read_event.new.code c.read_more.new.code refl refl first.2 second.2 c.put.result c.put.new.code c.args.cursor.now c.read_more.new.cursor _ c.put.ensures
-    (more_begun c.args.layers (c.args.layers - 1) c.args.names.now _ _ _ _ _ one first.0 c.if-take_sign.ensures.0 ∙ second_made _ c.args.names.now _ _ _ _ _ _ first.2.nodes second.0)
+    (more_begun c.args.layers (c.args.layers - 1) c.args.names.now _ _ _ _ _ one first.0 c.if-take_sign.ensures.0 ∙ second_made _ c.args.names.now _ _ _ _ _ _ (tallied first.2) second.0)
     (second.1 ∙ c.if-take_sign.ensures.1 ∙ first.1)
 
 pub read_part-read_rest-requires : goal.read_part-read_rest-requires
@@ -51,7 +51,7 @@ read_part-returns-clause-event t c =
     let second = c.in_ok-second.ensures.event in
     let bound = rw c.in_ok-first.ensures.names at c.in_ok-bind.ensures in
     joined (nodes.Then c.in_ok-first.first c.in_ok-second.second) _ _ _ _ c.args.code.now c.read_event.new.code c.read_rest.new.code refl (one_more c.args.names.now _ _ bound) first.2 second.2 c.put.result c.put.new.code c.args.cursor.now c.read_rest.new.cursor _ c.put.ensures
-    (part_made _ c.args.names.now _ _ _ _ _ _ first.2.nodes _ _ _ _ _ c.if-not-take_sign.ensures.0 first.0 c.if-not-take_sign-2.ensures.0 bound second.0)
+    (part_made _ c.args.names.now _ _ _ _ _ _ (tallied first.2) _ _ _ _ _ c.if-not-take_sign.ensures.0 first.0 c.if-not-take_sign-2.ensures.0 bound second.0)
     (second.1 ∙ c.if-not-take_sign-2.ensures.1 ∙ first.1 ∙ c.if-not-take_sign.ensures.1)
 
 pub read_part-returns-clause-names : goal.read_part-returns-clause-names
@@ -67,7 +67,7 @@ read_try-returns-clause-event t c =
     let second = c.in_ok-second.ensures.event in
     let bound = rw c.in_ok-first.ensures.names at c.in_ok-bind.ensures in
     joined (nodes.Catch c.in_ok-first.first c.in_ok-second.second) _ _ _ _ c.args.code.now c.read_braced.new.code c.read_braced-2.new.code refl (one_more c.args.names.now _ _ bound) first.2 second.2 c.put.result c.put.new.code c.args.cursor.now c.read_braced-2.new.cursor _ c.put.ensures
-    (try_made _ c.args.names.now _ _ _ _ _ _ first.2.nodes _ _ _ _ _ first.0 c.if-not-take_word.ensures.0 c.in-Some.ensures.name.0 bound second.0)
+    (try_made _ c.args.names.now _ _ _ _ _ _ (tallied first.2) _ _ _ _ _ first.0 c.if-not-take_word.ensures.0 c.in-Some.ensures.name.0 bound second.0)
     (second.1 ∙ c.in-Some.ensures.name.1 ∙ c.if-not-take_word.ensures.1 ∙ first.1)
 
 pub read_try-returns-clause-names : goal.read_try-returns-clause-names

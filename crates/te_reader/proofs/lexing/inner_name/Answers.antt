@@ -1,6 +1,6 @@
 use Rattle.std.proofs.Common.{refl, arith}
 use Rattle.std.proofs.lemmas.List.Sums.{prefix_len-le-length}
-use Rattle.te_reader.specs.Tokens.{is_word_byte}
+use Rattle.te_script.specs.Names.{is_word_byte}
 use Rattle.te_reader.proofs.TokenSteps.{inner_first}
 use Rattle.te_reader.proofs.lexing.inner_name.Goals as goal
 
@@ -8,4 +8,6 @@ pub split_at-requires : goal.split_at-requires
 split_at-requires c = omega (arith, c.word_len.ensures, prefix_len-le-length is_word_byte c.args.text.now)
 
 pub returns-clause-tokens : goal.returns-clause-tokens
-returns-clause-tokens c = rw (inner_first c.args.text.now c.word_len.result c.requires c.word_len.ensures, ← c.split_at.ensures.front, ← c.split_at.ensures.back) refl
+returns-clause-tokens c =
+    let f = inner_first c.args.text.now c.word_len.result c.requires c.word_len.ensures in
+    (rw (f.0, ← c.split_at.ensures.front, ← c.split_at.ensures.back) refl, rw (f.1, ← c.split_at.ensures.front, ← c.split_at.ensures.back) refl)

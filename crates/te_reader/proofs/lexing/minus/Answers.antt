@@ -9,7 +9,8 @@ pub returns-then-len-eq0-clause-tokens : goal.returns-then-len-eq0-clause-tokens
 returns-then-len-eq0-clause-tokens c =
     let text = c.args.text.now in
     let none : prefix_len is_ascii_digit (drop 1 text) ≡ 0 = ap (prefix_len is_ascii_digit) (sym c.behind.ensures) ∙ sym c.digits_len-len.ensures ∙ c.if-len-eq0.true in
-    rw (minus_first text c.requires none, c.behind-then-len-eq0.ensures) refl
+    let f = minus_first text c.requires none in
+    (rw (f.0, c.behind-then-len-eq0.ensures) refl, rw (f.1, c.behind-then-len-eq0.ensures) refl)
 
 pub split_at-requires : goal.split_at-requires
 split_at-requires c =
@@ -20,7 +21,8 @@ pub returns-clause-tokens : goal.returns-clause-tokens
 returns-clause-tokens c =
     let text = c.args.text.now in
     let len = c.digits_len-len.ensures ∙ ap (prefix_len is_ascii_digit) c.behind.ensures in
-    rw (negative_first text c.digits_len-len.result c.requires len c.if-len-eq0.false, ← c.split_at.ensures.front, ← c.split_at.ensures.back) refl
+    let f = negative_first text c.digits_len-len.result c.requires len c.if-len-eq0.false in
+    (rw (f.0, ← c.split_at.ensures.front, ← c.split_at.ensures.back) refl, rw (f.1, ← c.split_at.ensures.front, ← c.split_at.ensures.back) refl)
 
 pub overflow_add-len : goal.overflow_add-len
 overflow_add-len c =

@@ -1,6 +1,7 @@
-use Rattle.std.proofs.Common.{◌≡◌, length, refl}
+use Rattle.std.proofs.Common.{◌≡◌, refl}
 use Rattle.std.specs.Prelude.{None}
 use Rattle.te_reader.specs.Grammar.{Names}
+use Rattle.te_reader.specs.Tallies.{tally}
 use Rattle.te_reader.specs.EventReads.{read_leaf, read_one}
 use Rattle.te_reader.specs.Answering.{leaf}
 use Rattle.te_reader.proofs.BuiltLemmas.{leaf_built}
@@ -16,4 +17,4 @@ unfolding read_one
 none_read s used ts e = rw e refl
 
 pub returns-in-Err : goal.returns-in-Err
-returns-in-Err c = event_refused c.in-Err.fault leaf _ _ _ _ _ _ _ _ _ c.in-Err.ensures.event (none_read c.args.names.now (length c.args.code.now) _)
+returns-in-Err c = event_refused c.in-Err.fault leaf _ _ _ _ _ _ _ _ _ c.in-Err.ensures.event (none_read c.args.names.now (tally c.args.code.now) _)

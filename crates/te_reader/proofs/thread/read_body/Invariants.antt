@@ -1,4 +1,4 @@
-use Rattle.std.proofs.Common.{◌≡◌, ◌-◌, ◌≤◌, [], length, map}
+use Rattle.std.proofs.Common.{◌≡◌, ◌-◌, ◌≤◌, [], false, length, map}
 use Rattle.std.specs.List.{AllByRecursion}
 use Rattle.te_script.specs.Texts.{statement_of, HasRoot}
 use Rattle.te_reader.specs.Reads.{read_body}
@@ -7,12 +7,12 @@ use Rattle.te_reader.proofs.thread.read_body.Given as goal
 
 abbrev pub invariant-stmts : goal.invariant-stmts
 invariant-stmts l = record {
-  read : behind_body (map statement_of l.stmts) (read_body (1024 - length l.stmts) l.channels l.regs l.cursor.tokens) ≡ read_body 1024 l.channels [] l.initial.cursor.tokens;
+  read : behind_body (map statement_of l.stmts.items) (read_body (1024 - length l.stmts.items) l.channels false l.regs l.cursor.tokens) ≡ behind_body [] (read_body 1024 l.channels false [] l.initial.cursor.tokens);
   whole : l.cursor.whole ≡ l.initial.cursor.whole;
   few : length l.regs ≤ 8;
-  most : length l.stmts ≤ 1024;
-  roots : AllByRecursion HasRoot l.stmts;
+  most : length l.stmts.items ≤ 1024;
+  roots : AllByRecursion HasRoot l.stmts.items;
 }
 
 abbrev pub decreases-stmts : goal.decreases-stmts
-decreases-stmts l = 1024 - length l.stmts
+decreases-stmts l = 1024 - length l.stmts.items

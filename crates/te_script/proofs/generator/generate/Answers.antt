@@ -1,7 +1,7 @@
 use Rattle.std.proofs.Common.{◌≡◌, ◌+◌, ◌*◌, ◌%◌, ◌∷◌, [], List, map, sym, ap, subst, ◌∙◌, arith}
-use Rattle.te_script.specs.Scripts.{Program, IsProgram}
+use Rattle.te_script.specs.Scripts.{Program, IsScript}
 use Rattle.te_script.specs.Generated.{each, channel_name, thread_of, rings_of, rounds_of, generated}
-use Rattle.te_script.proofs.GeneratedKept.{program_kept}
+use Rattle.te_script.proofs.GeneratedKept.{script_kept}
 use Rattle.te_script.proofs.generator.generate.Goals as goal
 
 -- the program that was made
@@ -15,8 +15,8 @@ made c =
 
 pub invariant_of-result : goal.invariant_of-result
 invariant_of-result c =
-    subst IsProgram (sym (made c))
-    (program_kept (3 * rings_of c.args.number) (rounds_of c.args.number) (omega arith) (omega arith) (λ i lt. omega (arith, lt)) (omega arith) (omega arith))
+    subst IsScript (sym (made c))
+    (script_kept (3 * rings_of c.args.number) (rounds_of c.args.number) (omega arith) (omega arith) (λ i lt. omega (arith, lt)) (omega arith) (omega arith))
 
 pub returns : goal.returns
 returns c = made c

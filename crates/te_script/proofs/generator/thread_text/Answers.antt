@@ -2,14 +2,16 @@ use Rattle.std.proofs.Common.{◌≡◌, ◌++◌, ◌∷◌, [], List, ℕ, map
 use Rattle.std.specs.Prelude.{codes}
 use Rattle.te_terms.specs.Expressions.{register, whole}
 use Rattle.te_terms.specs.Terms.{Term}
-use Rattle.te_script.specs.Scripts.{Statement, sync, emit, Thread, IsThread}
+use Rattle.te_script.specs.Scripts.{Statement, sync, emit, Thread, IsThread, HasNames}
 use Rattle.te_script.specs.Texts.{statement_of}
 use Rattle.te_script.specs.Generated.{each, event_of, thread_of, thread_name}
-use Rattle.te_script.proofs.GeneratedKept.{map_each, thread_kept}
+use Rattle.te_script.proofs.GeneratedKept.{map_each, thread_kept, thread_named}
 use Rattle.te_script.proofs.generator.thread_text.Goals as goal
 
 -- the text that was made
-made : (c : goal.In_ok-push) → (◌≡◌ {A = Thread} (record { name = c.numbered-name.result; registers = c.push.new.self; statements = map statement_of c.in_ok-stmts.stmts }) (thread_of c.args.rounds c.args.thread))
+made : (c : goal.In_ok-push)
+    → (◌≡◌ {A = Thread} (record { name = c.numbered-name.result; registers = c.push.new.self; statements = map statement_of c.in_ok-stmts.stmts })
+    (thread_of c.args.rounds c.args.thread))
 made c =
     let registers : c.push.new.self ≡ codes "x" ∷ [] = c.in_ok-push.ensures.ok ∙ (λ i. c.new-regs.ensures i ++ c.x_name.ensures i ∷ []) in
     let statements : map statement_of c.in_ok-stmts.stmts ≡ (thread_of c.args.rounds c.args.thread).statements =
@@ -23,5 +25,6 @@ returns c = made c
 pub invariant_of-result : goal.invariant_of-result
 invariant_of-result c = record {
   thread = subst (IsThread 256) (sym (made c)) (thread_kept 256 c.args.thread c.args.rounds (omega (arith, c.requires.few)) c.requires.some c.requires.most);
+  names = subst HasNames (sym (made c)) (thread_named c.args.rounds c.args.thread (omega (arith, c.requires.few)));
   roots = c.in_ok-stmts.ensures.roots;
 }

@@ -7,7 +7,8 @@ pub returns-in_default : goal.returns-in_default
 returns-in_default c = λ ss h. rw c.in_default.is (on_outside c.args.spot.place ss (rw c.in_default.is at h.round))
 
 pub returns-then-next-round : goal.returns-then-next-round
-returns-then-next-round c = λ ss h. rw (c.in-Some.is, c.requires.next, add-one) (on_same_pass c.args.spot.place c.in-Some.round ss (rw c.in-Some.is at h.round) (rw (c.requires.next, add-one) at c.if-next-round.true))
+returns-then-next-round c = λ ss h. rw (c.in-Some.is, c.requires.next, add-one) (on_same_pass c.args.spot.place c.in-Some.round ss
+    (rw c.in-Some.is at h.round) (rw (c.requires.next, add-one) at c.if-next-round.true))
 
 pub returns-then-round : goal.returns-then-round
 returns-then-round c = λ ss h.

@@ -11,7 +11,8 @@ use Rattle.te_script.proofs.wish.past_emits.Goals as goal
 use Rattle.te_script.proofs.wish.past_emits.Goals.{In-Emit, else-loop-place-test, then-loop-place-test+in_default}
 
 -- the steps from the emit on
-at_emit : (c : In-Emit) → behind c.loop-place.place (map statement_of c.args.stmts.now) ≡ emitting (site_at (suc c.loop-place.place) 0) (expression_of c.in-Emit.expr) ∷ behind (c.loop-place.place + 1) (map statement_of c.args.stmts.now)
+at_emit : (c : In-Emit) → behind c.loop-place.place (map statement_of c.args.stmts.now) ≡ emitting (site_at (suc c.loop-place.place) 0)
+    (expression_of c.in-Emit.expr) ∷ behind (c.loop-place.place + 1) (map statement_of c.args.stmts.now)
 at_emit c =
     behind_emit c.loop-place.place (map statement_of c.args.stmts.now) (expression_of c.in-Emit.expr)
     (emit_from c.args.stmts.now c.loop-place.place c.index-stmts-place.result c.in-Emit.expr c.loop-place-test.true c.index-stmts-place.is c.in-Emit.is)
@@ -64,5 +65,6 @@ spot_at-requires-clause-past c =
     elim c.loop-place-test.branch [
       | else-loop-place-test w ↦ subst IsPastEmits (sym (nothing_from c.args.stmts.now c.loop-place.place w.loop-place-test.false)) tt
       | then-loop-place-test+in_default w ↦
-          past_emits_at w.index-stmts-place.result _ _ (statements_from c.args.stmts.now c.loop-place.place w.index-stmts-place.result w.loop-place-test.true w.index-stmts-place.is) w.in_default.not-Emit
+          past_emits_at w.index-stmts-place.result _ _ (statements_from c.args.stmts.now c.loop-place.place w.index-stmts-place.result
+          w.loop-place-test.true w.index-stmts-place.is) w.in_default.not-Emit
     ]

@@ -16,7 +16,8 @@ overflow_add-result c = omega (arith, c.self.invariant.at.within, c.self.invaria
 
 pub returns-clause-stand : goal.returns-clause-stand
 returns-clause-stand c =
-    let waits : IsWaiting (next_at c.self.inside.raised c.self.inside.regs (left_at c.self.inside.spot c.self.inside.text.value.statements)) = subst (λ (a : At). IsWaiting a.stand.next) (sym c.self.view_is) c.requires in
+    let waits : IsWaiting (next_at c.self.inside.raised c.self.inside.regs (left_at c.self.inside.spot c.self.inside.text.value.statements)) = subst
+    (λ (a : At). IsWaiting a.stand.next) (sym c.self.view_is) c.requires in
     let told = waiting_site c.self.inside.raised c.self.inside.regs c.self.inside.spot c.self.inside.text.value.statements c.self.invariant.at waits in
     let pass : c.match-self.pass ≡ pass_of c.self.inside.spot.round = elim c.match-self.branch [ in-Some w ↦ w.pass-is ∙ rw w.in-Some.is refl | in-None w ↦ w.pass-is ∙ rw w.in-None.is refl ] in
     rw (pass, add-one) (subst (λ (a : At). site_of (doing_of a.stand.next) ≡ Some (site_at (suc c.self.inside.spot.place) (pass_of c.self.inside.spot.round))) c.self.view_is told)

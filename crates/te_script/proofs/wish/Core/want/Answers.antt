@@ -28,7 +28,8 @@ unreachable-requires-in-Some-Repeat c =
     no_repeat c.self.inside.spot _ _ c.in-Some-Repeat.field-0.now c.in-Some-Repeat.field-0-0 c.in-Some-Repeat.field-0-1 c.self.invariant.at here c.in-Some-Repeat.field-0-is
 
 -- the sync at which the core stands
-at_sync : (c : goal.After-sync_want) → drop c.self.inside.spot.place c.self.inside.text.value.statements ≡ sync c.in-Some-Sync.field-0-0 (term_under c.in-Some-Sync.code.value c.in-Some-Sync.root) ∷ drop (c.self.inside.spot.place + 1) (map statement_of c.statements.result.now)
+at_sync : (c : goal.After-sync_want) → drop c.self.inside.spot.place c.self.inside.text.value.statements ≡ sync c.in-Some-Sync.field-0-0
+    (term_under c.in-Some-Sync.code.value c.in-Some-Sync.root) ∷ drop (c.self.inside.spot.place + 1) (map statement_of c.statements.result.now)
 at_sync c =
     let is : map statement_of c.statements.result.now ≡ c.self.inside.text.value.statements = c.statements.ensures.value ∙ ap (λ t. t.statements) c.deref.ensures in
     let lt = ltb-true c.self.inside.spot.place (length c.statements.result.now) (sym c.in-Some-Sync.ensures.lookup.0) in
@@ -37,8 +38,10 @@ at_sync c =
 
 pub returns-in-Some-Sync-clause-wish : goal.returns-in-Some-Sync-clause-wish
 returns-in-Some-Sync-clause-wish c =
-    let told = sync_wish c.self.inside.regs c.self.inside.emitted.items c.self.inside.raised c.self.inside.spot _ _ c.in-Some-Sync.field-0-0 (term_under c.in-Some-Sync.code.value c.in-Some-Sync.root) c.in_default.is c.self.invariant.at (at_sync c) in
-    subst (λ (a : At). IfOk c.sync_want.result (λ want. IsWant (wish_at a.stand) want)) c.self.view_is (subst (λ w. IfOk c.sync_want.result (λ want. IsWant w want)) (sym told) c.sync_want.ensures.wish)
+    let told = sync_wish c.self.inside.regs c.self.inside.emitted.items c.self.inside.raised c.self.inside.spot _ _ c.in-Some-Sync.field-0-0
+    (term_under c.in-Some-Sync.code.value c.in-Some-Sync.root) c.in_default.is c.self.invariant.at (at_sync c) in
+    subst (λ (a : At). IfOk c.sync_want.result (λ want. IsWant (wish_at a.stand) want)) c.self.view_is (subst (λ w. IfOk c.sync_want.result (λ want.
+    IsWant w want)) (sym told) c.sync_want.ensures.wish)
 
 pub returns-in-Some-Sync-clause-after : goal.returns-in-Some-Sync-clause-after
 returns-in-Some-Sync-clause-after c = λ so_far is.
@@ -47,9 +50,11 @@ returns-in-Some-Sync-clause-after c = λ so_far is.
 pub returns-in-Some-Sync-clause-of_text : goal.returns-in-Some-Sync-clause-of_text
 returns-in-Some-Sync-clause-of_text c =
     let event = closed c.self.inside.regs (term_under c.in-Some-Sync.code.value c.in-Some-Sync.root) in
-    let of = of_statement c.self.inside.text.value c.self.inside.regs _ c.self.inside.spot.place c.in-Some-Sync.field-0-0 (term_under c.in-Some-Sync.code.value c.in-Some-Sync.root) c.sync_want.ensures.eight (at_sync c) in
+    let of = of_statement c.self.inside.text.value c.self.inside.regs _ c.self.inside.spot.place c.in-Some-Sync.field-0-0
+    (term_under c.in-Some-Sync.code.value c.in-Some-Sync.root) c.sync_want.ensures.eight (at_sync c) in
     subst (λ (a : At). IfOk c.sync_want.result (λ want. IsOfText a.thread want)) c.self.view_is
-    (where_ok (λ want. IsWant (syncs event) want) (λ want. IsOfText c.self.inside.text.value want) c.sync_want.result (λ want. told_of_text c.self.inside.text.value event want of) c.sync_want.ensures.wish)
+    (where_ok (λ want. IsWant (syncs event) want) (λ want. IsOfText c.self.inside.text.value want) c.sync_want.result (λ want.
+    told_of_text c.self.inside.text.value event want of) c.sync_want.ensures.wish)
 
 pub returns-in-Some-clause-after : goal.returns-in-Some-clause-after
 returns-in-Some-clause-after c = λ so_far is. told_after c.args.self.now so_far (wants.Raised c.in-Some.value) (search rules) is
