@@ -4,7 +4,7 @@ use Rattle.std.specs.Prelude.{slice_get}
 use Rattle.te_script.specs.Cores.{At}
 use Rattle.te_history.specs.declared.entry.Entry.{Entry}
 use Rattle.te_history.specs.State.{Standing}
-use Rattle.tevents.specs.OfScript.{taken}
+use Rattle.te_report.specs.OfScript.{taken}
 use Rattle.tevents.specs.Houses.{FitsNext, IsCoreOf, AreCoresOf, entries_left, all_left}
 
 -- a history in which nobody has taken more

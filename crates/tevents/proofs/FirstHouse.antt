@@ -1,13 +1,14 @@
 -- A house before any thread has done anything.
-use Rattle.std.proofs.Common.{◌≡◌, ℕ, suc, ◌*◌, ◌≤◌, List, [], ◌∷◌, length, replicate, refl, sym, ap, subst, arith}
+use Rattle.std.proofs.Common.{◌≡◌, ℕ, zero, suc, ◌*◌, ◌≤◌, List, [], ◌∷◌, length, replicate, refl, sym, ap, subst, arith}
 use Rattle.std.specs.List.{AllByRecursion}
 use Rattle.te_reader.specs.FirstForm.{IsPlainStatement}
 use Rattle.te_script.specs.Scripts.{Statement, sync, emit, repeat, Thread, IsThread}
 use Rattle.te_script.specs.Wishes.{flat_from, flat}
 use Rattle.te_script.proofs.MoreChannels.{IsThread-more}
 use Rattle.te_script.specs.Cores.{At, core_after}
-use Rattle.te_history.specs.State.{idle}
-use Rattle.tevents.specs.Boards.{Log}
+use Rattle.std.specs.Prelude.{Some, slice_get}
+use Rattle.te_history.specs.State.{Standing, idle, parked}
+use Rattle.te_board.specs.Boards.{BoardLog}
 use Rattle.tevents.specs.Houses.{syncs_in, syncs_left, all_left, threads_of, AreCoresOf, IsHouse, IsFirstThread}
 use Rattle.tevents.proofs.TakesKept.{syncs_at}
 
@@ -34,10 +35,15 @@ fresh_left (c ∷ cs) h first =
     let left : syncs_left c.stand.next ≤ syncs_in (flat c.thread) = subst (λ s. syncs_left s.next ≤ syncs_in (flat c.thread)) (sym stand) (syncs_at (flat c.thread) []) in
     omega (arith, left, syncs_within 1 c.thread.statements first.0.plain, first.0.thread.statements, fresh_left cs h.1 first.1)
 
-pub first_house : (log : Log) (cores : List At) → log ≡ record { callers = length cores; history = [] } → AreFresh cores → AllByRecursion IsFirstThread (threads_of cores) → length cores ≤ 64 → IsHouse log cores
+all_idle : (n t : ℕ) (x : Standing) → slice_get (replicate n idle) t ≡ Some x → x ≡ idle
+all_idle zero t x is = absurd cc
+all_idle (suc n) zero x is = cc
+all_idle (suc n) (suc t) x is = all_idle n t x is
+
+pub first_house : (log : BoardLog) (cores : List At) → log ≡ record { callers = length cores; entries = [] } → AreFresh cores → AllByRecursion IsFirstThread (threads_of cores) → length cores ≤ 64 → IsHouse log cores
 first_house log cores is fresh first few =
-    subst (λ (l : Log). IsHouse l cores) (sym is)
-    (record { callers = refl; cores_stand = fresh_cores 0 cores fresh; wished = tt; tight = tt; few = omega (arith, fresh_left cores fresh first) })
+    subst (λ (l : BoardLog). IsHouse l cores) (sym is)
+    (record { callers = refl; cores_stand = fresh_cores 0 cores fresh; wished = tt; tight = tt; few = omega (arith, fresh_left cores fresh first); plain = λ t ticket event stands. let is = all_idle (length cores) t (parked ticket event) stands in absurd cc })
 
 -- ---- threads of a program
 

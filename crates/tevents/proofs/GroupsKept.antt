@@ -23,14 +23,15 @@ use Rattle.te_history.specs.declared.entry.Entry.{Entry}
 use Rattle.te_history.specs.declared.entry.Entry.TheVariants as entries
 use Rattle.te_history.specs.State.{Standing, parked, given, State, with_standing, with_given, parked_list}
 use Rattle.te_history.specs.Follows.{Stands, AreEvents, Commits}
-use Rattle.tevents.specs.OfScript.{taken, WishedBy}
+use Rattle.te_report.specs.OfScript.{taken, WishedBy}
 use Rattle.tevents.specs.Rounds.{IsLowestOf}
-use Rattle.tevents.specs.Boards.{Log, now, appended, HasCommitted}
+use Rattle.tevents.specs.Boards.{appended, AllPlain, HasCommitted}
+use Rattle.te_board.specs.Boards.{BoardLog, state_of as now}
 use Rattle.tevents.specs.Groups.{threads_of as group_threads}
 use Rattle.tevents.specs.Houses.{Run, grown, state_of, syncs_left, all_left, stuck_left, threads_of, CommitsTightly, AreCoresOf, IsHouse}
 use Rattle.tevents.specs.Runs.{IsGivenIn, HasCommittedGroup}
 use Rattle.te_history.proofs.AfterEntry.{state-after, length-state}
-use Rattle.tevents.proofs.Appending.{taken_more, wished_more}
+use Rattle.te_report.proofs.Growing.{taken_more, wished_more}
 use Rattle.tevents.proofs.CoresKept.{core_within, stands_otherwise, all_left_at, set_same, same_core, AreCoresOf-later}
 use Rattle.tevents.proofs.HouseState.{run_of, house_state}
 
@@ -191,25 +192,39 @@ wished_any [] i t outs cert outcomes lt = absurd (omega arith)
 wished_any (c ∷ cs) zero t outs cert outcomes lt = tt
 wished_any (c ∷ cs) (suc i) t outs cert outcomes lt = wished_any cs i t outs cert outcomes (omega arith)
 
+-- who is parked after outcomes are given was so before
+plain_given : (s : State) (ms : List Member) (os : List Outcome) → AllPlain s → AllPlain (with_given ms os s)
+plain_given s [] os all = all
+plain_given s (m ∷ ms) [] all = all
+plain_given s (m ∷ ms) (o ∷ os) all = plain_given (with_standing m.thread (given m.ticket o) s) ms os (λ t ticket event stands. all t ticket event (still s.callers m.thread t (given m.ticket o) ticket event (λ is. cc) stands))
+  where
+    still : (xs : List Standing) (i t : ℕ) (x : Standing) (ticket : ℕ) (event : Term) → (x ≡ parked ticket event → ⊥) → slice_get (slice_set xs i x) t ≡ Some (parked ticket event) → slice_get xs t ≡ Some (parked ticket event)
+    still [] i t x ticket event other is = is
+    still (y ∷ ys) zero zero x ticket event other is = absurd (other cc)
+    still (y ∷ ys) zero (suc t) x ticket event other is = is
+    still (y ∷ ys) (suc i) zero x ticket event other is = is
+    still (y ∷ ys) (suc i) (suc t) x ticket event other is = still ys i t x ticket event other is
+
 -- a house's board with a group committed
-pub committed_kept : (log new : Log) (cores : List At) (threads : List ℕ) → IsHouse log cores → HasCommitted log new threads → IsHouse new cores
+pub committed_kept : (log new : BoardLog) (cores : List At) (threads : List ℕ) → IsHouse log cores → HasCommitted log new threads → IsHouse new cores
 committed_kept log new cores threads h done =
     let e : Entry = entries.Commit done.by done.cert done.outcomes in
     let ms = done.cert.members in
     let parked_so = parked_of (now log) ms done.commits.group done.commits.events in
     let many = as_many_given (now log) done.cert done.outcomes done.commits in
-    let gives = gives_all log.history cores (now log) ms done.outcomes h.cores_stand parked_so done.commits.rise many in
-    let now_is : now (appended log e) ≡ with_given ms done.outcomes (now log) = state-after log.callers log.history e in
-    let no_more : (u : ℕ) → taken u (log.history ++ e ∷ []) ≡ taken u log.history = λ u. taken_more u log.history e ∙ append-nil (taken u log.history) in
-    let lt : done.by < length cores = omega (arith, by_within (now log) ms done.by done.lowest parked_so, length-state log.callers log.history, h.callers) in
+    let gives = gives_all log.entries cores (now log) ms done.outcomes h.cores_stand parked_so done.commits.rise many in
+    let now_is : now (appended log e) ≡ with_given ms done.outcomes (now log) = state-after log.callers log.entries e in
+    let no_more : (u : ℕ) → taken u (log.entries ++ e ∷ []) ≡ taken u log.entries = λ u. taken_more u log.entries e ∙ append-nil (taken u log.entries) in
+    let lt : done.by < length cores = omega (arith, by_within (now log) ms done.by done.lowest parked_so, length-state log.callers log.entries, h.callers) in
     let some = some_member ms done.commits.some_member in
-    subst (λ (l : Log). IsHouse l cores) (sym done.appends)
+    subst (λ (l : BoardLog). IsHouse l cores) (sym done.appends)
     (record {
       callers = h.callers;
-      cores_stand = subst (λ (s : State). AreCoresOf (log.history ++ e ∷ []) 0 s.callers cores) (sym now_is) (AreCoresOf-later log.history (log.history ++ e ∷ []) 0 (with_given ms done.outcomes (now log)).callers cores no_more gives.cores_stand);
-      wished = wished_more (threads_of cores) [] log.history e h.wished (wished_any cores done.by done.by (taken done.by log.history) done.cert done.outcomes lt);
-      tight = AllByRecursion-append CommitsTightly log.history e h.tight done.tight;
-      few = subst (λ (s : State). length (log.history ++ e ∷ []) + all_left s.callers cores + stuck_left s.stuck ≤ 200000) (sym now_is) (omega (arith, h.few, length-append log.history (e ∷ []), gives.less, some, ap stuck_left gives.stuck));
+      cores_stand = subst (λ (s : State). AreCoresOf (log.entries ++ e ∷ []) 0 s.callers cores) (sym now_is) (AreCoresOf-later log.entries (log.entries ++ e ∷ []) 0 (with_given ms done.outcomes (now log)).callers cores no_more gives.cores_stand);
+      wished = wished_more (threads_of cores) [] log.entries e h.wished (wished_any cores done.by done.by (taken done.by log.entries) done.cert done.outcomes lt);
+      tight = AllByRecursion-append CommitsTightly log.entries e h.tight done.tight;
+      few = subst (λ (s : State). length (log.entries ++ e ∷ []) + all_left s.callers cores + stuck_left s.stuck + 1 ≤ 200000) (sym now_is) (omega (arith, h.few, length-append log.entries (e ∷ []), gives.less, some, ap stuck_left gives.stuck));
+      plain = subst AllPlain (sym now_is) (plain_given (now log) ms done.outcomes h.plain);
     })
 
 -- what is told of a group, and of none, is told of either
@@ -218,25 +233,25 @@ told_together (Ok None) A B P some none same = (same, none)
 told_together (Ok (Some x)) A B P some none same = some
 told_together (Err e) A B P some none same = tt
 
-pub maybe_committed : {E : Type 0} (r : Result (Option Group) E) (log new : Log) (cores : List At) → IsHouse log cores
+pub maybe_committed : {E : Type 0} (r : Result (Option Group) E) (log new : BoardLog) (cores : List At) → IsHouse log cores
     → IfOk r (λ found. MatchOption found ((new ≡ log) × (¬ CanCommit (parked_list (now log)))) (λ group. HasCommitted log new (group_threads group))) → OnErr r (new ≡ log) → IsHouse new cores
-maybe_committed (Ok None) log new cores h ok err = subst (λ (l : Log). IsHouse l cores) (sym ok.0) h
+maybe_committed (Ok None) log new cores h ok err = subst (λ (l : BoardLog). IsHouse l cores) (sym ok.0) h
 maybe_committed (Ok (Some g)) log new cores h ok err = committed_kept log new cores (group_threads g) h ok
-maybe_committed (Err e) log new cores h ok err = subst (λ (l : Log). IsHouse l cores) (sym err) h
+maybe_committed (Err e) log new cores h ok err = subst (λ (l : BoardLog). IsHouse l cores) (sym err) h
 
 -- ---- what a house shows of a commit
 
-pub run_grown : (log new : Log) (cores cores' : List At) (e : Entry) → new ≡ appended log e → threads_of cores' ≡ threads_of cores → run_of new cores' ≡ grown (run_of log cores) (e ∷ [])
-run_grown log new cores cores' e appends same = λ i. record { threads = same i; history = ap (λ (l : Log). l.history) appends i }
+pub run_grown : (log new : BoardLog) (cores cores' : List At) (e : Entry) → new ≡ appended log e → threads_of cores' ≡ threads_of cores → run_of new cores' ≡ grown (run_of log cores) (e ∷ [])
+run_grown log new cores cores' e appends same = λ i. record { threads = same i; history = ap (λ (l : BoardLog). l.entries) appends i }
 
-group_shown : (log new : Log) (cores : List At) (threads : List ℕ) → IsHouse log cores → HasCommitted log new threads → HasCommittedGroup (run_of log cores) (run_of new cores) threads
+group_shown : (log new : BoardLog) (cores : List At) (threads : List ℕ) → IsHouse log cores → HasCommitted log new threads → HasCommittedGroup (run_of log cores) (run_of new cores) threads
 group_shown log new cores threads h done =
     let e : Entry = entries.Commit done.by done.cert done.outcomes in
     let ms = done.cert.members in
     let parked_so = parked_of (now log) ms done.commits.group done.commits.events in
     let many = as_many_given (now log) done.cert done.outcomes done.commits in
     let kept = committed_kept log new cores threads h done in
-    let shows : state_of (run_of new cores) ≡ with_given ms done.outcomes (now log) = house_state new cores kept ∙ ap now done.appends ∙ state-after log.callers log.history e in
+    let shows : state_of (run_of new cores) ≡ with_given ms done.outcomes (now log) = house_state new cores kept ∙ ap now done.appends ∙ state-after log.callers log.entries e in
     let given_so = each_given (now log) ms done.outcomes parked_so done.commits.rise many in
     record {
       by = done.by;
@@ -250,10 +265,10 @@ group_shown log new cores threads h done =
       others = λ t apart. ap (λ (s : State). slice_get s.callers t) shows ∙ others_stay (now log) ms done.outcomes t (subst (λ (ts : List ℕ). AllByRecursion (λ u. t ≢ u) ts) (sym done.threads_are) apart) ∙ ap (λ (s : State). slice_get s.callers t) (sym (house_state log cores h));
     }
 
-pub commit_shown : {E : Type 0} (r : Result (Option Group) E) (log new : Log) (cores : List At) (run : Run) → run_of log cores ≡ run → IsHouse log cores
+pub commit_shown : {E : Type 0} (r : Result (Option Group) E) (log new : BoardLog) (cores : List At) (run : Run) → run_of log cores ≡ run → IsHouse log cores
     → IfOk r (λ found. MatchOption found ((new ≡ log) × (¬ CanCommit (parked_list (now log)))) (λ group. HasCommitted log new (group_threads group)))
     → IfOk r (λ found. MatchOption found ((run_of new cores ≡ run) × (¬ CanCommit (parked_list (state_of run)))) (λ group. HasCommittedGroup run (run_of new cores) (group_threads group)))
 commit_shown (Ok None) log new cores run is h ok =
-    (ap (λ (l : Log). run_of l cores) ok.0 ∙ is, λ can. ok.1 (subst (λ (s : State). CanCommit (parked_list s)) (house_state log cores h) (subst (λ (r : Run). CanCommit (parked_list (state_of r))) (sym is) can)))
+    (ap (λ (l : BoardLog). run_of l cores) ok.0 ∙ is, λ can. ok.1 (subst (λ (s : State). CanCommit (parked_list s)) (house_state log cores h) (subst (λ (r : Run). CanCommit (parked_list (state_of r))) (sym is) can)))
 commit_shown (Ok (Some g)) log new cores run is h ok = subst (λ (r : Run). HasCommittedGroup r (run_of new cores) (group_threads g)) is (group_shown log new cores (group_threads g) h ok)
 commit_shown (Err e) log new cores run is h ok = tt

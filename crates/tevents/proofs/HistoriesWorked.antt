@@ -9,8 +9,9 @@ use Rattle.te_history.specs.declared.status.How.TheVariants as ways
 use Rattle.te_history.specs.declared.entry.Entry.{Entry}
 use Rattle.te_history.specs.declared.entry.Entry.TheVariants as entries
 use Rattle.te_history.specs.State.{state, parked_list}
-use Rattle.te_history.specs.Follows.{Commits, IsLegal, IsLoose, IsWhole}
-use Rattle.tevents.specs.OfScript.{IsOfScript}
+use Rattle.te_history.specs.Follows.{Commits, IsLegal, IsLoose}
+use Rattle.te_report.specs.Whole.{IsWhole}
+use Rattle.te_report.specs.OfScript.{IsOfScript}
 use Rattle.tevents.proofs.NoCommit.{lone_never_commits}
 use Rattle.tevents.proofs.RowsExchange as exchange
 

@@ -16,16 +16,14 @@ use Rattle.te_cert.proofs.SmallPlays.{play-alone, play-sender_first, play-receiv
 use Rattle.tevents.specs.declared.kind.Kind.TheVariants.{Always, Send, Recv}
 use Rattle.te_history.specs.declared.entry.Entry.{Entry}
 use Rattle.te_history.specs.declared.entry.Entry.TheVariants.{Commit}
-use Rattle.tevents.specs.declared.seat.Stance.TheVariants.{Given}
-use Rattle.tevents.specs.declared.seat.Seat.{Seat}
-use Rattle.tevents.specs.declared.seat.Party.{Party}
+use Rattle.tevents.specs.declared.stance.Party.{Party}
 use Rattle.te_history.specs.State.{parked, given, State, state, posts_by}
 use Rattle.te_history.specs.Follows.{Stands, IsRunning, Commits}
-use Rattle.tevents.specs.Boards.{Log, now, appended, HasCommitted}
+use Rattle.tevents.specs.Boards.{appended, HasCommitted}
+use Rattle.te_board.specs.Boards.{BoardLog, Appends, HasCommitted as HasAppended}
 use Rattle.tevents.specs.Groups.{cert_of_one, cert_of_two}
-use Rattle.tevents.specs.Seats.{IsKept, IsParkedAs, Restands}
+use Rattle.tevents.specs.Stances.{IsParkedAs}
 use Rattle.te_history.proofs.AfterEntry.{length-state}
-use Rattle.tevents.proofs.KeptLemmas.{kept_after, shows_restand, length-restand}
 
 -- ---- the commits may follow
 
@@ -97,50 +95,32 @@ tight_one at side keeps i j low low' =
     let first' : j ≡ 0 = omega arith in
     ap side (first ∙ sym first')
 
--- ---- what the board keeps
-
-caller_within : (callers : ℕ) (history : List Entry) (t ticket : ℕ) (event : Term) → Stands (state callers history) t (parked ticket event) → t < callers
-caller_within callers history t ticket event stands = omega (arith, slice_get_within (state callers history).callers t _ stands, length-state callers history)
-
-pub kept_committed_one : (callers : ℕ) (history : List Entry) (seats seats' : List Seat) (at : Party) (event : Term) (outcome : Outcome)
-    → IsKept callers history seats → IsRunning (state callers history) → Stands (state callers history) at.thread (parked at.ticket event)
-    → Commits (state callers history) (cert_of_one at) (outcome ∷ [])
-    → Restands seats seats' at.thread (Given at.ticket outcome)
-    → IsKept callers (history ++ Commit at.thread (cert_of_one at) (outcome ∷ []) ∷ []) seats'
-kept_committed_one callers history seats seats' at event outcome kept running stands commits moves =
-    kept_after callers history seats seats' (Commit at.thread (cert_of_one at) (outcome ∷ [])) kept
-    (length-restand seats seats' at.thread (Given at.ticket outcome) moves)
-    ((running, caller_within callers history at.thread at.ticket event stands, commits), tt)
-    (shows_restand (λ k. posts_by k history) seats seats' (state callers history).callers at.thread (Given at.ticket outcome) (given at.ticket outcome) moves
-    (slice_get_within (state callers history).callers at.thread _ stands) (refl, refl) kept.shows)
-
-pub kept_committed_two : (callers : ℕ) (history : List Entry) (seats middle seats' : List Seat) (low high : Party) (event event' : Term) (low_gets high_gets : Outcome) (met : Meeting)
-    → IsKept callers history seats → IsRunning (state callers history)
-    → Stands (state callers history) low.thread (parked low.ticket event) → Stands (state callers history) high.thread (parked high.ticket event')
-    → Commits (state callers history) (cert_of_two low high met) (low_gets ∷ high_gets ∷ [])
-    → Restands seats middle low.thread (Given low.ticket low_gets) → Restands middle seats' high.thread (Given high.ticket high_gets)
-    → IsKept callers (history ++ Commit low.thread (cert_of_two low high met) (low_gets ∷ high_gets ∷ []) ∷ []) seats'
-kept_committed_two callers history seats middle seats' low high event event' low_gets high_gets met kept running stands stands' commits moves moves' =
-    let between = set (state callers history).callers low.thread (given low.ticket low_gets) in
-    let longer : high.thread < length between =
-    omega (arith, slice_get_within (state callers history).callers high.thread _ stands', length-set (state callers history).callers low.thread (given low.ticket low_gets)) in
-    kept_after callers history seats seats' (Commit low.thread (cert_of_two low high met) (low_gets ∷ high_gets ∷ [])) kept
-    (length-restand middle seats' high.thread (Given high.ticket high_gets) moves' ∙ length-restand seats middle low.thread (Given low.ticket low_gets) moves)
-    ((running, caller_within callers history low.thread low.ticket event stands, commits), tt)
-    (shows_restand (λ k. posts_by k history) middle seats' between high.thread (Given high.ticket high_gets) (given high.ticket high_gets) moves' longer (refl, refl)
-    (shows_restand (λ k. posts_by k history) seats middle (state callers history).callers low.thread (Given low.ticket low_gets) (given low.ticket low_gets) moves
-    (slice_get_within (state callers history).callers low.thread _ stands) (refl, refl) kept.shows))
-
 -- ---- what callers are told
 
-pub has_committed_one : (old new : Log) (at : Party) (outcome : Outcome) → Commits (now old) (cert_of_one at) (outcome ∷ []) → new ≡ appended old (Commit at.thread (cert_of_one at) (outcome ∷ [])) → HasCommitted old new (at.thread ∷ [])
-has_committed_one old new at outcome commits appends = record {
+-- a board that an entry is appended to
+pub appended_so : (old new : BoardLog) (e : Entry) → Appends old new e → new ≡ appended old e
+appended_so old new e is = λ i. record { callers = is.callers i; entries = is.entries i }
+
+pub has_committed_one : (old new : BoardLog) (at : Party) → HasAppended old new at.thread (cert_of_one at) → HasCommitted old new (at.thread ∷ [])
+has_committed_one old new at done = record {
   by = at.thread;
   cert = cert_of_one at;
-  outcomes = outcome ∷ [];
-  commits = commits;
+  outcomes = done.outcomes;
+  commits = done.commits;
   tight = tight_one at;
   lowest = refl;
   threads_are = refl;
-  appends = appends;
+  appends = appended_so old new _ done.appends;
+}
+
+pub has_committed_two : (old new : BoardLog) (low high : Party) (met : Meeting) → IsTight (cert_of_two low high met) → HasAppended old new low.thread (cert_of_two low high met) → HasCommitted old new (low.thread ∷ high.thread ∷ [])
+has_committed_two old new low high met tight done = record {
+  by = low.thread;
+  cert = cert_of_two low high met;
+  outcomes = done.outcomes;
+  commits = done.commits;
+  tight = tight;
+  lowest = refl;
+  threads_are = refl;
+  appends = appended_so old new _ done.appends;
 }

@@ -1,4 +1,3 @@
-pub mod ListRests
 pub mod RowsExchange
 pub mod RowsFilter
 pub mod RowsCaughtTrap
@@ -12,13 +11,12 @@ mod RoundEndsRefused
 pub mod StanceLemmas
 pub mod WaitingKinds
 pub mod NoneCommits
-pub mod SeatLemmas
 pub mod LeafLemmas
-pub mod KeptLemmas
-pub mod ViewLemmas
 pub mod KeptCommits
 pub mod NoneFound
-pub mod Appending
+pub mod StancesShown
+pub mod BoardAnswers
+pub mod RoomLeft
 pub mod ClosingsSoFar
 pub mod CoresKept
 pub mod FirstHouse
@@ -32,5 +30,6 @@ pub mod RunStates
 pub mod StuckKept
 pub mod TakesKept
 pub mod TurnsOfRounds
+pub mod StuckEnds
 pub mod AnswersTold
 pub mod OneWord

@@ -10,8 +10,9 @@ use Rattle.te_terms.specs.Joint.{CanCommit}
 use Rattle.te_script.specs.Scripts.{Thread, Program}
 use Rattle.te_history.specs.declared.entry.Entry.{Entry}
 use Rattle.te_history.specs.State.{Standing, idle, parked, given, ended, State, state, parked_from, parked_list}
-use Rattle.te_history.specs.Follows.{IsRunning, IsParkedOrEnded, IsLegal, IsWhole}
-use Rattle.tevents.specs.OfScript.{WishedFrom}
+use Rattle.te_history.specs.Follows.{IsRunning, IsParkedOrEnded, IsLegal}
+use Rattle.te_report.specs.Whole.{IsWhole}
+use Rattle.te_report.specs.OfScript.{WishedFrom}
 use Rattle.tevents.specs.Rounds.{IsBlock, IsStuckDue, IsStuckAndEnds, ClosesSo, Round, IsRound, before_closing, entries_of, AreRounds}
 use Rattle.tevents.specs.SerialRuns.{IsSerialRun}
 use Rattle.tevents.specs.Houses.{Run, grown, state_of, IsKept}

@@ -1,4 +1,4 @@
--- What a board is seen as, and what its calls do to it: the history of so many callers.
+-- What the threads' calls do to a board, where its parked events are one node each.
 use Rattle.std.specs.Prelude.{◌≡◌, ℕ, List, [], ◌∷◌, ◌++◌, Option, Some, Ok, map}
 use Rattle.te_terms.specs.declared.event.Outcome.{Outcome}
 use Rattle.te_terms.specs.Expressions.{Primitive, Expression, value_of, channel_value}
@@ -11,21 +11,14 @@ use Rattle.tevents.specs.declared.kind.Kind.{Kind}
 use Rattle.tevents.specs.declared.kind.Kind.TheVariants as kinds
 use Rattle.tevents.specs.declared.board.Place.{Place}
 use Rattle.tevents.specs.declared.board.Place.TheVariants as places
-use Rattle.te_history.specs.State.{Standing, idle, parked, given, ended, State, state}
+use Rattle.te_history.specs.State.{Standing, idle, parked, given, ended, State}
+use Rattle.te_board.specs.Boards.{BoardLog, state_of}
 use Rattle.te_history.specs.Follows.{Commits, Stands}
 use Rattle.tevents.specs.Rounds.{IsLowestOf}
 
--- a history, and the number of its callers
-pub record Log : Type 0 where
-  pub callers : ℕ
-  pub history : List Entry
-
-abbrev pub now : Log → State
-now log = state log.callers log.history
-
--- the log with one entry more
-abbrev pub appended : Log → Entry → Log
-appended log e = record log { history = log.history ++ e ∷ [] }
+-- a board with one entry more
+abbrev pub appended : BoardLog → Entry → BoardLog
+appended log e = record log { entries = log.entries ++ e ∷ [] }
 
 -- ---- events of one node
 
@@ -39,6 +32,10 @@ pub record IsPlain (t : Term) : Type 0 where
   pub kind : Kind
   pub is_so : IsOfKind t kind
 
+-- each parked event is so
+abbrev pub AllPlain : State → Type 0
+AllPlain s = (t ticket : ℕ) (event : Term) → Stands s t (parked ticket event) → IsPlain event
+
 -- ---- where a caller stands, as a call tells it
 
 abbrev pub ShowsPlace : Option Standing → Place → Type 0
@@ -51,18 +48,23 @@ ShowsPlace _ _ = ⊥
 -- ---- commits and takes
 
 -- a tight group of these threads, which the lowest of them commits
-pub record HasCommitted (old new : Log) (threads : List ℕ) : Type 0 where
+pub record HasCommitted (old new : BoardLog) (threads : List ℕ) : Type 0 where
   pub by : ℕ
   pub cert : Cert
   pub outcomes : List Outcome
-  pub commits : Commits (now old) cert outcomes
+  pub commits : Commits (state_of old) cert outcomes
   pub tight : IsTight cert
   pub lowest : IsLowestOf cert.members by
   pub threads_are : map (λ m. m.thread) cert.members ≡ threads
   pub appends : new ≡ appended old (entries.Commit by cert outcomes)
 
 -- the caller takes the outcome that it was given
-pub record HasTaken (old new : Log) (by : ℕ) (outcome : Outcome) : Type 0 where
+pub record HasTaken (old new : BoardLog) (by : ℕ) (outcome : Outcome) : Type 0 where
   pub ticket : ℕ
-  pub was_given : Stands (now old) by (given ticket outcome)
+  pub was_given : Stands (state_of old) by (given ticket outcome)
   pub appends : new ≡ appended old (entries.Take by ticket outcome)
+
+-- the event of a post is one node with a value or a channel
+abbrev pub IsPlainPost : Entry → Type 0
+IsPlainPost (entries.Post by ticket event) = IsPlain event
+IsPlainPost _ = Unit {0}

@@ -5,7 +5,7 @@ use Rattle.te_cert.specs.declared.cert.Meeting.{Meeting}
 use Rattle.te_cert.specs.declared.cert.Cert.{Cert}
 use Rattle.tevents.specs.declared.group.Group.{Group}
 use Rattle.tevents.specs.declared.group.Group.TheVariants as groups
-use Rattle.tevents.specs.declared.seat.Party.{Party}
+use Rattle.tevents.specs.declared.stance.Party.{Party}
 
 -- the threads of a group, rising
 abbrev pub threads_of : Group → List ℕ

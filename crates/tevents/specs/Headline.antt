@@ -3,17 +3,11 @@ use Rattle.std.specs.Prelude.{◌≡◌, ◌⊎◌, ℕ, List, Any}
 use Rattle.te_script.specs.Scripts.{Program}
 use Rattle.te_reader.specs.Text.{Text}
 use Rattle.te_reader.specs.FirstForm.{First}
-use Rattle.te_history.specs.declared.status.How.TheVariants as ways
 use Rattle.te_history.specs.declared.entry.Entry.{Entry}
-use Rattle.te_history.specs.declared.entry.Entry.TheVariants as entries
-use Rattle.tevents.specs.declared.report.Ending.TheVariants as endings
-use Rattle.tevents.specs.Report.{IsReport}
+use Rattle.te_report.specs.declared.ending.Ending.TheVariants as endings
+use Rattle.te_report.specs.Report.{second, IsReport}
 use Rattle.tevents.specs.SerialRuns.{IsSerialRun}
-
--- a thread ends in a synchronisation that no group can complete
-abbrev pub IsStuckEnd : Entry → Type 0
-IsStuckEnd (entries.End by ways.Stuck) = Unit {0}
-IsStuckEnd _ = ⊥
+use Rattle.tevents.specs.StuckEnds.{IsStuckEnd}
 
 -- 1 exactly where some thread ends so, else 0
 abbrev pub IsStatusOf : List Entry → ℕ → Type 0
@@ -26,5 +20,5 @@ pub record IsHeadline (read written : List ℕ) (status : ℕ) : Type 0 where
   pub text : Text read script
   pub first : First script
   pub run : IsSerialRun script history
-  pub report : IsReport script history endings.Closed written
+  pub report : IsReport second script history endings.Closed written
   pub status_of : IsStatusOf history status

@@ -12,8 +12,9 @@ use Rattle.te_history.specs.declared.entry.Entry.{Entry}
 use Rattle.te_history.specs.declared.entry.Entry.TheVariants as entries
 use Rattle.te_history.specs.State.{Standing, idle, parked, given, ended as has_ended, State, state}
 use Rattle.te_history.specs.Follows.{IsLegal}
-use Rattle.tevents.specs.OfScript.{taken, WishedFrom}
-use Rattle.tevents.specs.Boards.{Log, now}
+use Rattle.te_report.specs.OfScript.{taken, WishedFrom}
+use Rattle.te_board.specs.Boards.{BoardLog, room_of_board, most_entries, state_of as now}
+use Rattle.tevents.specs.Boards.{AllPlain}
 
 -- a history of the threads with these texts
 pub record Run : Type 0 where
@@ -82,12 +83,19 @@ AreCoresOf history t _ _ = ⊥
 abbrev pub threads_of : List At → List Thread
 threads_of cores = map (λ c. c.thread) cores
 
-pub record IsHouse (log : Log) (cores : List At) : Type 0 where
+pub record IsHouse (log : BoardLog) (cores : List At) : Type 0 where
   pub callers : log.callers ≡ length cores
-  pub cores_stand : AreCoresOf log.history 0 (now log).callers cores
-  pub wished : WishedFrom (threads_of cores) [] log.history
-  pub tight : AllByRecursion CommitsTightly log.history
-  pub few : length log.history + all_left (now log).callers cores + stuck_left (now log).stuck ≤ 200000
+  pub cores_stand : AreCoresOf log.entries 0 (now log).callers cores
+  pub wished : WishedFrom (threads_of cores) [] log.entries
+  pub tight : AllByRecursion CommitsTightly log.entries
+  pub few : length log.entries + all_left (now log).callers cores + stuck_left (now log).stuck + 1 ≤ most_entries
+  pub plain : AllPlain (now log)
+
+-- what a post needs: room for itself and three entries more
+abbrev pub WantsRoom : Next → BoardLog → Type 0
+WantsRoom (waits at r t rest) b = length b.entries + room_of_board b + 3 ≤ most_entries
+WantsRoom ended b = Unit {0}
+WantsRoom (failed v) b = Unit {0}
 
 -- each thread keeps its limits, and its statements are of the first form
 pub record IsFirstThread (t : Thread) : Type 0 where

@@ -1,13 +1,12 @@
-pub mod OfScript
-pub mod Report
 pub mod Rounds
 pub mod Boards
 pub mod Groups
-pub mod Seats
+pub mod Stances
 pub mod Leaves
-pub mod LogCode
 pub mod Houses
 pub mod Runs
 pub mod SerialRuns
+pub mod FaultLines
+pub mod StuckEnds
 pub mod Causes
 pub mod Headline

@@ -8,7 +8,8 @@ use Rattle.te_history.specs.declared.status.How.TheVariants as ways
 use Rattle.te_history.specs.declared.entry.Entry.{Entry}
 use Rattle.te_history.specs.declared.entry.Entry.TheVariants as entries
 use Rattle.te_history.specs.State.{Standing, idle, State, state, parked_list}
-use Rattle.te_history.specs.Follows.{IsParkedOrEnded, IsWhole}
+use Rattle.te_history.specs.Follows.{IsParkedOrEnded}
+use Rattle.te_report.specs.Whole.{IsWhole}
 
 -- ---- openings: each idle caller posts or ends, in thread order
 

@@ -10,9 +10,11 @@ use Rattle.te_terms.specs.Joint.{CanCommit}
 use Rattle.te_history.specs.declared.entry.Entry.TheVariants as entries
 use Rattle.tevents.specs.Rounds.{OpensBy, OpensFrom, TakesBy, IsLowestOf, IsBlock, ClosesSo, EndsOf, Round, IsRound, entries_of}
 use Rattle.te_script.specs.Cores.{Stand, wish_at}
-use Rattle.te_history.specs.Follows.{LooselyFollows, Stands, IsRunning, IsParkedOrEnded, IsWhole}
-use Rattle.tevents.specs.OfScript.{IsWished}
-use Rattle.tevents.specs.Boards.{Log, appended}
+use Rattle.te_history.specs.Follows.{LooselyFollows, Stands, IsRunning, IsParkedOrEnded}
+use Rattle.te_report.specs.Whole.{IsWhole}
+use Rattle.te_report.specs.OfScript.{IsWished}
+use Rattle.tevents.specs.Boards.{appended, IsPlainPost}
+use Rattle.te_board.specs.Boards.{BoardLog}
 use Rattle.tevents.specs.Houses.{Run, grown, state_of}
 
 -- nobody holds an outcome
@@ -49,12 +51,13 @@ pub record HasCommittedGroup (old new : Run) (threads : List ℕ) : Type 0 where
   pub others : (t : ℕ) → AllByRecursion (λ u. t ≢ u) threads → slice_get (state_of new).callers t ≡ slice_get (state_of old).callers t
 
 -- the wish of a core is posted, or its thread has ended so
-pub record BoardOpened (old new : Log) (t : ℕ) (stand : Stand) : Type 0 where
+pub record BoardOpened (old new : BoardLog) (t : ℕ) (stand : Stand) : Type 0 where
   pub entry : Entry
   pub opens : OpensBy t entry
   pub appends : new ≡ appended old entry
   pub wished : IsWished (wish_at stand) entry
-  pub follows : LooselyFollows old.callers old.history entry
+  pub plain : IsPlainPost entry
+  pub follows : LooselyFollows old.callers old.entries entry
 
 -- each idle thread has opened, in order, and all are parked or ended
 pub record HasOpenedAll (old new : Run) : Type 0 where

@@ -3,8 +3,9 @@ use Rattle.std.specs.Prelude.{◌≤◌, List, length}
 use Rattle.std.specs.List.{AllByRecursion}
 use Rattle.te_script.specs.Scripts.{Program}
 use Rattle.te_history.specs.declared.entry.Entry.{Entry}
-use Rattle.te_history.specs.Follows.{IsLegal, IsWhole}
-use Rattle.tevents.specs.OfScript.{IsOfScript}
+use Rattle.te_history.specs.Follows.{IsLegal}
+use Rattle.te_report.specs.Whole.{IsWhole}
+use Rattle.te_report.specs.OfScript.{IsOfScript}
 use Rattle.tevents.specs.Rounds.{IsInRounds}
 use Rattle.tevents.specs.Houses.{CommitsTightly}
 

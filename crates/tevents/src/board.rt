@@ -1,26 +1,29 @@
-ghost use Rattle.std.specs.Prelude.{◌≡◌, ℕ, ◌<◌, ◌≤◌, ◌^◌, [], ◌∷◌, length, slice_get, IfOk, IfSome, IfNone, OnOk, OnErr};
+// What the threads ask of a board whose parked events are one node each. No refusal but want of memory comes here.
+
+ghost use Rattle.std.specs.Prelude.{◌≡◌, ℕ, ◌+◌, ◌<◌, ◌≤◌, [], ◌∷◌, length, slice_get, IfOk, IfSome, IfNone, OnOk, OnErr};
 ghost use Rattle.std.specs.List.{AllByRecursion};
 ghost use Rattle.te_terms.specs.declared.event.Outcome.{Outcome as Given};
 ghost use Rattle.te_terms.specs.Terms.{Term};
 ghost use Rattle.te_terms.specs.Joint.{CanCommit};
 ghost use Rattle.te_cert.specs.Certs.{IsTight};
 ghost use Rattle.te_history.specs.declared.entry.Entry.TheVariants as entries;
-ghost use Rattle.tevents.specs.declared.kind.Kind.TheVariants.{Always, Send, Recv};
 ghost use Rattle.te_history.specs.State.{idle, parked, given, posts_by, parked_list};
-ghost use Rattle.te_history.specs.Follows.{IsRunning, Stands, Ends, IsParkedOrEnded, IsLegal, Commits};
-ghost use Rattle.tevents.specs.Boards.{now, appended, IsPlain, ShowsPlace, HasCommitted, HasTaken};
+ghost use Rattle.te_history.specs.Follows.{IsRunning, Stands, Ends, IsParkedOrEnded, Commits};
+ghost use Rattle.te_board.specs.declared.fault.BoardFault.TheVariants.{Memory};
+ghost use Rattle.te_board.specs.Boards.{state_of, room_of_board, most_entries, HasCommitted as HasAppendedCommit};
+ghost use Rattle.tevents.specs.declared.kind.Kind.TheVariants.{Always, Send, Recv};
+ghost use Rattle.tevents.specs.Boards.{appended, AllPlain, ShowsPlace, HasCommitted, HasTaken};
 ghost use Rattle.tevents.specs.Groups.{threads_of, cert_of_two};
-ghost use Rattle.tevents.specs.Seats.{IsParked, IsParkedAs};
+ghost use Rattle.tevents.specs.Stances.{IsParked, IsParkedAs};
 
-use crate::group::{Group, commit_of_one, commit_of_two};
-use crate::kind::kind_of;
+use crate::group::{Group, one_member, two_members};
 use crate::search::{Found, found_in};
-use crate::seat::{Party, Seat, Stance, idle_seats};
+use crate::stance::{Party, stances_of};
 use std::alloc::Global;
-use std::marker::Model;
-use te_cert::Meeting;
-use te_history::{Entry, How};
-use te_terms::{Event, NoMemory, Outcome, Rows, Value};
+use te_board::{Board, BoardFault};
+use te_cert::{Cert, Meeting};
+use te_history::{How, Status};
+use te_terms::{Event, NoMemory, Outcome, Value};
 
 /// Where a caller stands.
 #[derive(Clone, Copy, Debug, PartialEq, Eq)]
@@ -31,218 +34,190 @@ pub enum Place {
     Ended,
 }
 
-/// A board whose parked events are one node each, seen as its history. Its history is always legal.
-#[derive(Drop)]
-pub(crate) struct Board {
-    alloc: Global,
-    callers: u32,
-    entries: Rows<Entry>,
-    seats: Vec<Seat>,
-}
-
-impl Model for Board {
-    ghost use Rattle.tevents.specs.Boards.{Log};
-
-    ghost Value = { Log };
-
-    ghost use Rattle.tevents.specs.LogCode.{log_code};
-
-    ghost coded = { log_code };
-
-    ghost use Rattle.tevents.specs.Seats.{IsKept};
-
-    ghost view = { λ b. record { callers = b.callers; history = b.entries } };
-
-    ghost invariant = { λ b. IsKept b.callers b.entries b.seats.items };
-}
-
-fn taken(by: u32, ticket: u32, outcome: &Outcome) -> Entry
-    ensures { result ≡ entries.Take by ticket outcome.now }
+/// Where a caller stands.
+pub(crate) fn place_of(board: &Board, by: u32) -> Place
+    requires { by < board.now.callers }
+    ensures { ShowsPlace (slice_get (state_of board.now).callers by) result }
 {
-    Entry::Take {
-        by,
-        ticket,
-        outcome: *outcome,
+    // The checker knows the types within a status only where the body names them.
+    let _named: Option<Outcome> = None;
+    match board.status(by) {
+        Status::Idle => Place::Idle,
+        Status::Parked(_) => Place::Parked,
+        Status::Given(_, _) => Place::Given,
+        Status::Ended => Place::Ended,
     }
 }
 
-impl Board {
-    /// The board of so many callers with no entry.
-    pub(crate) fn new(alloc: Global, callers: u32) -> Result<Board, NoMemory>
-        requires { callers ≤ 64 }
-        ensures { IfOk result (λ board. board ≡ record { callers = callers; history = [] }) }
-    {
-        let seats = idle_seats(alloc, callers)?;
-        let entries = Rows::new(alloc);
-        Ok(Board {
-            alloc,
-            callers,
-            entries,
-            seats,
-        })
+/// Parks the caller's event, where there is room for it and all that it may need.
+pub(crate) fn post(board: &mut Board, by: u32, event: Event)
+    requires running { IsRunning (state_of board.old) }
+    requires idle { Stands (state_of board.old) by idle }
+    requires caller { by < board.old.callers }
+    requires room { length board.old.entries + room_of_board board.old + 3 ≤ most_entries }
+    ensures { board.new ≡ appended board.old (entries.Post by (posts_by by board.old.entries) event) }
+{
+    let _named: Option<(Status, Outcome)> = None;
+    match board.post(by, event) {
+        Ok(_) => {}
+        Err(_) => unreachable!(),
     }
+}
 
-    /// The number of callers.
-    pub(crate) fn callers(&self) -> u32
-        ensures value { result ≡ self.now.callers }
-        ensures few { self.now.callers ≤ 64 }
-        ensures all_stand { length (now self.now).callers ≡ self.now.callers }
-        ensures legal { IsLegal self.now.callers self.now.history }
-    {
-        self.callers
+/// The caller takes the outcome that it was given.
+pub(crate) fn take(board: &mut Board, by: u32) -> Outcome
+    requires given { (ticket : ℕ) × (outcome : Given) × Stands (state_of board.old) by (given ticket outcome) }
+    requires caller { by < board.old.callers }
+    ensures { HasTaken board.old board.new by result }
+{
+    let _named: Option<(Status, Outcome)> = None;
+    match board.take(by) {
+        Ok(outcome) => outcome,
+        Err(_) => unreachable!(),
     }
+}
 
-    /// The history.
-    pub(crate) fn entries(&self) -> &[Entry]
-        ensures value { result.now ≡ self.now.history }
-        ensures legal { IsLegal self.now.callers self.now.history }
-    {
-        self.entries.as_slice()
+/// The caller ends.
+pub(crate) fn end(board: &mut Board, by: u32, how: How)
+    requires ends { Ends (state_of board.old) by how }
+    requires caller { by < board.old.callers }
+    ensures { board.new ≡ appended board.old (entries.End by how) }
+{
+    let _named: Option<(Status, Outcome)> = None;
+    match board.end(by, how) {
+        Ok(()) => {}
+        Err(_) => unreachable!(),
     }
+}
 
-    /// Where the caller stands.
-    pub(crate) fn place(&self, by: u32) -> Place
-        requires { by < self.now.callers }
-        ensures { ShowsPlace (slice_get (now self.now).callers by) result }
-    {
-        self.seats[by as usize].stance.place()
+/// The caller tells that the board is stuck.
+pub(crate) fn declare_stuck(board: &mut Board, alloc: Global, by: u32) -> Result<(), NoMemory>
+    requires running { IsRunning (state_of board.old) }
+    requires parked { (ticket : ℕ) × (event : Term) × Stands (state_of board.old) by (parked ticket event) }
+    requires caller { by < board.old.callers }
+    requires all { AllByRecursion IsParkedOrEnded (state_of board.old).callers }
+    requires none { ¬ CanCommit (parked_list (state_of board.old)) }
+    ensures ok { OnOk result (board.new ≡ appended board.old (entries.Stuck by)) }
+    ensures err { OnErr result (board.new ≡ board.old) }
+{
+    let _named: Option<(Status, Outcome)> = None;
+    let snapshot = board.snapshot(alloc)?;
+    match board.declare_stuck(by, &snapshot) {
+        Ok(()) => Ok(()),
+        Err(_) => unreachable!(),
     }
+}
 
-    /// Parks the caller's event, under the number of its earlier posts as the ticket.
-    pub(crate) fn post(&mut self, by: u32, event: Event) -> Result<(), NoMemory>
-        requires running { IsRunning (now self.old) }
-        requires idle { Stands (now self.old) by idle }
-        requires plain { IsPlain event }
-        requires few { length self.old.history < 2 ^ 31 }
-        ensures ok { OnOk result (self.new ≡ appended self.old (entries.Post by (posts_by by self.old.history) event)) }
-        ensures err { OnErr result (self.new ≡ self.old) }
-    {
-        let kind = kind_of(&event);
-        let ticket = self.seats[by as usize].posts;
-        self.entries.push(Entry::Post { by, ticket, event })?;
-        self.seats[by as usize] = Seat {
-            posts: ticket + 1,
-            stance: Stance::Parked(ticket, kind),
-        };
-        Ok(())
+// The refusal that is want of memory.
+fn memory_of(fault: BoardFault) -> NoMemory
+    requires { fault ≡ Memory }
+{
+    let _named: Option<(Status, Outcome)> = None;
+    match fault {
+        BoardFault::Memory => NoMemory,
+        _ => unreachable!(),
     }
+}
 
-    /// The caller takes the outcome that it was given.
-    pub(crate) fn take(&mut self, by: u32) -> Result<Outcome, NoMemory>
-        requires running { IsRunning (now self.old) }
-        requires given { (ticket : ℕ) × (outcome : Given) × Stands (now self.old) by (given ticket outcome) }
-        ensures ok { IfOk result (λ outcome. HasTaken self.old self.new by outcome) }
-        ensures err { OnErr result (self.new ≡ self.old) }
-    {
-        let seat = &self.seats[by as usize];
-        let (ticket, outcome) = seat.stance.given();
-        self.entries.push(taken(by, ticket, &outcome))?;
-        self.seats[by as usize].stance = Stance::Idle;
-        Ok(outcome)
+// Commits a group that can.
+fn commit(board: &mut Board, alloc: Global, by: u32, cert: Cert) -> Result<(), NoMemory>
+    requires running { IsRunning (state_of board.old) }
+    requires caller { by < board.old.callers }
+    requires commits { (outcomes : _) × Commits (state_of board.old) cert outcomes }
+    ensures ok { OnOk result (HasAppendedCommit board.old board.new by cert) }
+    ensures err { OnErr result (board.new ≡ board.old) }
+{
+    let _named: Option<(Status, Outcome)> = None;
+    match board.commit(alloc, by, cert) {
+        Ok(()) => Ok(()),
+        Err(fault) => Err(memory_of(fault)),
     }
+}
 
-    /// The caller ends.
-    pub(crate) fn end(&mut self, by: u32, how: How) -> Result<(), NoMemory>
-        requires { Ends (now self.old) by how }
-        ensures ok { OnOk result (self.new ≡ appended self.old (entries.End by how)) }
-        ensures err { OnErr result (self.new ≡ self.old) }
-    {
-        self.entries.push(Entry::End { by, how })?;
-        self.seats[by as usize].stance = Stance::Ended;
-        Ok(())
+// The caller commits alone, with its event's value.
+fn commit_alone(
+    board: &mut Board,
+    alloc: Global,
+    at: Party,
+    value: Value,
+) -> Result<Group, NoMemory>
+    requires running { IsRunning (state_of board.old) }
+    requires caller { at.thread < board.old.callers }
+    requires parked { IsParkedAs (state_of board.old) at (Always value) }
+    ensures ok { IfOk result (λ group. HasCommitted board.old board.new (threads_of group)) }
+    ensures err { OnErr result (board.new ≡ board.old) }
+{
+    let cert = one_member(alloc, at)?;
+    commit(board, alloc, at.thread, cert)?;
+    Ok(Group::One(at.thread))
+}
+
+// Two callers commit, by the lower.
+fn commit_two(
+    board: &mut Board,
+    alloc: Global,
+    low: Party,
+    high: Party,
+    meeting: Meeting,
+) -> Result<Group, NoMemory>
+    requires running { IsRunning (state_of board.old) }
+    requires caller { low.thread < board.old.callers }
+    requires commits { (outcomes : _) × Commits (state_of board.old) (cert_of_two low high meeting) outcomes }
+    requires tight { IsTight (cert_of_two low high meeting) }
+    ensures ok { IfOk result (λ group. HasCommitted board.old board.new (threads_of group)) }
+    ensures err { OnErr result (board.new ≡ board.old) }
+{
+    let cert = two_members(alloc, low, high, meeting)?;
+    commit(board, alloc, low.thread, cert)?;
+    Ok(Group::Two(low.thread, high.thread))
+}
+
+// A sender and a receiver on one channel commit together: the sender gets (), the receiver the value.
+fn commit_meeting(
+    board: &mut Board,
+    alloc: Global,
+    from: Party,
+    to: Party,
+    value: Value,
+) -> Result<Group, NoMemory>
+    requires running { IsRunning (state_of board.old) }
+    requires callers { (from.thread < board.old.callers) × (to.thread < board.old.callers) }
+    requires parked { (channel : ℕ) × IsParkedAs (state_of board.old) from (Send channel value) × IsParkedAs (state_of board.old) to (Recv channel) }
+    ensures ok { IfOk result (λ group. HasCommitted board.old board.new (threads_of group)) }
+    ensures err { OnErr result (board.new ≡ board.old) }
+{
+    if from.thread < to.thread {
+        let sender = 0;
+        let receiver = 1;
+        commit_two(board, alloc, from, to, Meeting { sender, receiver })
+    } else {
+        let sender = 1;
+        let receiver = 0;
+        commit_two(board, alloc, to, from, Meeting { sender, receiver })
     }
+}
 
-    /// The caller tells that the board is stuck.
-    pub(crate) fn declare_stuck(&mut self, by: u32) -> Result<(), NoMemory>
-        requires running { IsRunning (now self.old) }
-        requires parked { (ticket : ℕ) × (event : Term) × Stands (now self.old) by (parked ticket event) }
-        requires all { AllByRecursion IsParkedOrEnded (now self.old).callers }
-        requires none { ¬ CanCommit (parked_list (now self.old)) }
-        ensures ok { OnOk result (self.new ≡ appended self.old (entries.Stuck by)) }
-        ensures err { OnErr result (self.new ≡ self.old) }
-    {
-        self.entries.push(Entry::Stuck { by })?;
-        Ok(())
-    }
-
-    // The caller commits alone, with its event's value.
-    fn commit_alone(&mut self, at: Party, value: Value) -> Result<Group, NoMemory>
-        requires running { IsRunning (now self.old) }
-        requires parked { IsParkedAs (now self.old) at (Always value) }
-        ensures ok { IfOk result (λ group. HasCommitted self.old self.new (threads_of group)) }
-        ensures err { OnErr result (self.new ≡ self.old) }
-    {
-        let outcome = Outcome::Gives(value);
-        let entry = commit_of_one(self.alloc, at, &outcome)?;
-        self.entries.push(entry)?;
-        self.seats[at.thread as usize].stance = Stance::Given(at.ticket, outcome);
-        Ok(Group::One(at.thread))
-    }
-
-    // Two callers commit, by the lower.
-    fn commit_two(
-        &mut self,
-        low: Party,
-        low_gets: Outcome,
-        high: Party,
-        high_gets: Outcome,
-        meeting: Meeting,
-    ) -> Result<Group, NoMemory>
-        requires running { IsRunning (now self.old) }
-        requires low_parked { IsParked (now self.old) low }
-        requires high_parked { IsParked (now self.old) high }
-        requires commits { Commits (now self.old) (cert_of_two low high meeting) (low_gets ∷ high_gets ∷ []) }
-        requires tight { IsTight (cert_of_two low high meeting) }
-        ensures ok { IfOk result (λ group. HasCommitted self.old self.new (threads_of group)) }
-        ensures err { OnErr result (self.new ≡ self.old) }
-    {
-        let entry = commit_of_two(self.alloc, low, &low_gets, high, &high_gets, meeting)?;
-        self.entries.push(entry)?;
-        self.seats[low.thread as usize].stance = Stance::Given(low.ticket, low_gets);
-        self.seats[high.thread as usize].stance = Stance::Given(high.ticket, high_gets);
-        Ok(Group::Two(low.thread, high.thread))
-    }
-
-    // A sender and a receiver on one channel commit together: the sender gets (), the receiver the value.
-    fn commit_meeting(&mut self, from: Party, to: Party, value: Value) -> Result<Group, NoMemory>
-        requires running { IsRunning (now self.old) }
-        requires parked { (channel : ℕ) × IsParkedAs (now self.old) from (Send channel value) × IsParkedAs (now self.old) to (Recv channel) }
-        ensures ok { IfOk result (λ group. HasCommitted self.old self.new (threads_of group)) }
-        ensures err { OnErr result (self.new ≡ self.old) }
-    {
-        let sent = Outcome::Gives(Value::unit());
-        let received = Outcome::Gives(value);
-        if from.thread < to.thread {
-            let sender = 0;
-            let receiver = 1;
-            self.commit_two(from, sent, to, received, Meeting { sender, receiver })
-        } else {
-            let sender = 1;
-            let receiver = 0;
-            self.commit_two(to, received, from, sent, Meeting { sender, receiver })
+/// Commits a group of one or two of the parked events, where one can commit; `None` says that none can.
+pub(crate) fn commit_one(board: &mut Board, alloc: Global) -> Result<Option<Group>, NoMemory>
+    requires running { IsRunning (state_of board.old) }
+    requires plain { AllPlain (state_of board.old) }
+    ensures some { IfOk result (λ found. IfSome found (λ group. HasCommitted board.old board.new (threads_of group))) }
+    ensures none { IfOk result (λ found. IfNone found (¬ CanCommit (parked_list (state_of board.old)))) }
+    ensures same { IfOk result (λ found. IfNone found (board.new ≡ board.old)) }
+    ensures err { OnErr result (board.new ≡ board.old) }
+{
+    let stances = stances_of(alloc, board)?;
+    let Some(found) = found_in(&stances) else {
+        return Ok(None);
+    };
+    match found {
+        Found::Alone(at, value) => {
+            let group = commit_alone(board, alloc, at, value)?;
+            Ok(Some(group))
         }
-    }
-
-    /// Commits a group of one or two of the parked events, where one can commit; `None` says that none can.
-    pub(crate) fn commit_one(&mut self) -> Result<Option<Group>, NoMemory>
-        requires { IsRunning (now self.old) }
-        ensures some { IfOk result (λ found. IfSome found (λ group. HasCommitted self.old self.new (threads_of group))) }
-        ensures none { IfOk result (λ found. IfNone found (¬ CanCommit (parked_list (now self.old)))) }
-        ensures same { IfOk result (λ found. IfNone found (self.new ≡ self.old)) }
-        ensures err { OnErr result (self.new ≡ self.old) }
-    {
-        let Some(found) = found_in(&self.seats) else {
-            return Ok(None);
-        };
-        match found {
-            Found::Alone(at, value) => {
-                let group = self.commit_alone(at, value)?;
-                Ok(Some(group))
-            }
-            Found::Meets(from, to, value) => {
-                let group = self.commit_meeting(from, to, value)?;
-                Ok(Some(group))
-            }
+        Found::Meets(from, to, value) => {
+            let group = commit_meeting(board, alloc, from, to, value)?;
+            Ok(Some(group))
         }
     }
 }

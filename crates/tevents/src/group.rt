@@ -1,12 +1,10 @@
-ghost use Rattle.std.specs.Prelude.{◌≡◌, [], ◌∷◌, IfOk};
-ghost use Rattle.te_history.specs.declared.entry.Entry.TheVariants.{Commit};
+ghost use Rattle.std.specs.Prelude.{◌≡◌, IfOk};
 ghost use Rattle.tevents.specs.Groups.{as_member, cert_of_one, cert_of_two};
 
-use crate::seat::Party;
+use crate::stance::Party;
 use std::alloc::Global;
 use te_cert::{Cert, Meeting, Member};
-use te_history::Entry;
-use te_terms::{NoMemory, Outcome, Rows};
+use te_terms::{NoMemory, Rows};
 
 /// The threads of a group that has committed: one alone, or two, the lower first.
 #[derive(Clone, Copy)]
@@ -25,46 +23,29 @@ fn member(alloc: Global, party: Party) -> Member
     }
 }
 
-/// The commit of one member, which meets nobody.
-pub(crate) fn commit_of_one(alloc: Global, at: Party, outcome: &Outcome) -> Result<Entry, NoMemory>
-    ensures { IfOk result (λ entry. entry ≡ Commit at.thread (cert_of_one at) (outcome.now ∷ [])) }
+/// The certificate of one member, which meets nobody.
+pub(crate) fn one_member(alloc: Global, at: Party) -> Result<Cert, NoMemory>
+    ensures { IfOk result (λ cert. cert ≡ cert_of_one at) }
 {
     let mut members = Rows::new(alloc);
     members.push(member(alloc, at))?;
-    let mut outcomes = Rows::new(alloc);
-    outcomes.push(*outcome)?;
     let meets = Rows::new(alloc);
-    let cert = Cert { members, meets };
-    Ok(Entry::Commit {
-        by: at.thread,
-        cert,
-        outcomes,
-    })
+    Ok(Cert { members, meets })
 }
 
-/// The commit of two members by the lower, which meet once.
-pub(crate) fn commit_of_two(
+/// The certificate of two members, which meet once.
+pub(crate) fn two_members(
     alloc: Global,
     low: Party,
-    low_gets: &Outcome,
     high: Party,
-    high_gets: &Outcome,
     meeting: Meeting,
-) -> Result<Entry, NoMemory>
-    ensures { IfOk result (λ entry. entry ≡ Commit low.thread (cert_of_two low high meeting) (low_gets.now ∷ high_gets.now ∷ [])) }
+) -> Result<Cert, NoMemory>
+    ensures { IfOk result (λ cert. cert ≡ cert_of_two low high meeting) }
 {
     let mut members = Rows::new(alloc);
     members.push(member(alloc, low))?;
     members.push(member(alloc, high))?;
-    let mut outcomes = Rows::new(alloc);
-    outcomes.push(*low_gets)?;
-    outcomes.push(*high_gets)?;
     let mut meets = Rows::new(alloc);
     meets.push(meeting)?;
-    let cert = Cert { members, meets };
-    Ok(Entry::Commit {
-        by: low.thread,
-        cert,
-        outcomes,
-    })
+    Ok(Cert { members, meets })
 }

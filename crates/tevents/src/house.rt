@@ -5,24 +5,27 @@ ghost use Rattle.te_script.specs.Scripts.{IsThread};
 ghost use Rattle.te_reader.specs.FirstForm.{First};
 ghost use Rattle.te_history.specs.State.{idle, parked, given, parked_list};
 ghost use Rattle.te_history.specs.Follows.{IsRunning, Stands, Ends, IsParkedOrEnded};
-ghost use Rattle.tevents.specs.Boards.{ShowsPlace, now};
+ghost use Rattle.te_board.specs.Boards.{state_of as now, room_of_board, most_entries};
+ghost use Rattle.tevents.specs.Boards.{ShowsPlace};
 ghost use Rattle.tevents.specs.Groups.{threads_of};
-ghost use Rattle.tevents.specs.Houses.{IsFirstThread, state_of, grown, IsKept};
+ghost use Rattle.tevents.specs.Houses.{IsFirstThread, WantsRoom, state_of, grown, IsKept};
 ghost use Rattle.tevents.specs.Runs.{HasOpened, HasTakenOne, HasCommittedGroup, BoardOpened};
 ghost use Rattle.te_history.specs.declared.entry.Entry.TheVariants as entries;
 
-use crate::board::{Board, Place};
+use crate::board::{Place, commit_one, declare_stuck, end, place_of, post, take};
 use crate::group::Group;
 use std::alloc::Global;
 use std::marker::Model;
 use std::sync::Arc;
-use te_history::{Entry, How};
+use te_board::Board;
+use te_history::{Hist, How};
 use te_script::{Core, Script, Want};
 use te_terms::NoMemory;
 
 /// The threads of a script on one board. Each core stands where the history leaves its thread.
 #[derive(Drop)]
 pub(crate) struct House {
+    alloc: Global,
     board: Board,
     cores: Vec<Core>,
 }
@@ -35,7 +38,7 @@ impl Model for House {
 
     ghost coded = { coded_run entry.the_row.coded };
 
-    ghost view = { λ h. record { threads = threads_of h.cores.items; history = h.board.history } };
+    ghost view = { λ h. record { threads = threads_of h.cores.items; history = h.board.entries } };
 
     ghost invariant = { λ h. IsHouse h.board h.cores.items };
 }
@@ -45,15 +48,17 @@ fn open_by(board: &mut Board, core: &Core, t: u32) -> Result<(), NoMemory>
     requires running { IsRunning (now board.old) }
     requires idle { Stands (now board.old) t idle }
     requires first { IsFirstThread core.now.thread }
-    requires few { length board.old.history ≤ 200000 }
+    requires caller { t < board.old.callers }
+    requires room { WantsRoom core.now.stand.next board.old }
     ensures ok { OnOk result (BoardOpened board.old board.new t core.now.stand) }
     ensures err { OnErr result (board.new ≡ board.old) }
 {
     match core.want()? {
-        Want::Sync(event) => board.post(t, event),
-        Want::Done => board.end(t, How::Done(core.copy_emitted()?)),
-        Want::Raised(value) => board.end(t, How::Raised(value)),
+        Want::Sync(event) => post(board, t, event),
+        Want::Done => end(board, t, How::Done(core.copy_emitted()?)),
+        Want::Raised(value) => end(board, t, How::Raised(value)),
     }
+    Ok(())
 }
 
 impl House {
@@ -69,6 +74,7 @@ impl House {
         }
         let callers = cores.len() as u32;
         Ok(House {
+            alloc,
             board: Board::new(alloc, callers)?,
             cores,
         })
@@ -80,7 +86,8 @@ impl House {
         ensures each { length (state_of self.now).callers ≡ length self.now.threads }
         ensures kept { IsKept self.now }
     {
-        self.board.callers()
+        let hist = self.board.history();
+        hist.callers()
     }
 
     /// Where a thread stands.
@@ -88,7 +95,7 @@ impl House {
         requires { t < length self.now.threads }
         ensures { ShowsPlace (slice_get (state_of self.now).callers t) result }
     {
-        self.board.place(t)
+        place_of(&self.board, t)
     }
 
     /// Posts what the thread wishes to synchronise on, or ends it.
@@ -107,7 +114,7 @@ impl House {
         requires given { (ticket : ℕ) × (outcome : _) × Stands (state_of self.old) t (given ticket outcome) }
         ensures { OnOk result (HasTakenOne self.old self.new t) }
     {
-        let outcome = self.board.take(t)?;
+        let outcome = take(&mut self.board, t);
         let core = &mut self.cores[t as usize];
         core.give(outcome);
         Ok(())
@@ -120,7 +127,7 @@ impl House {
             ((self.new ≡ self.old) × (¬ CanCommit (parked_list (state_of self.old))))
             (λ group. HasCommittedGroup self.old self.new (threads_of group))) }
     {
-        self.board.commit_one()
+        commit_one(&mut self.board, self.alloc)
     }
 
     /// Declares the board stuck, for a parked thread where every thread is parked or ended.
@@ -131,7 +138,7 @@ impl House {
         requires none { ¬ CanCommit (parked_list (state_of self.old)) }
         ensures { OnOk result (self.new ≡ grown self.old (entries.Stuck t ∷ [])) }
     {
-        self.board.declare_stuck(t)
+        declare_stuck(&mut self.board, self.alloc, t)
     }
 
     /// Ends a parked thread on a stuck board.
@@ -139,13 +146,15 @@ impl House {
         requires { Ends (state_of self.old) t How.Stuck }
         ensures { OnOk result (self.new ≡ grown self.old (entries.End t How.Stuck ∷ [])) }
     {
-        self.board.end(t, How::Stuck)
+        end(&mut self.board, t, How::Stuck);
+        Ok(())
     }
 
     /// The history so far.
-    pub(crate) fn history(&self) -> &[Entry]
-        ensures { result.now ≡ self.now.history }
+    pub(crate) fn history(&self) -> &Hist
+        ensures callers { result.now.callers ≡ length self.now.threads }
+        ensures entries { result.now.entries ≡ self.now.history }
     {
-        self.board.entries()
+        self.board.history()
     }
 }

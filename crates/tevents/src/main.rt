@@ -3,14 +3,15 @@
 
 mod answering;
 mod board;
+mod faults;
 mod group;
 mod house;
 mod kind;
 mod program;
-mod report;
+mod reporting;
 mod rounds;
 mod search;
-mod seat;
+mod stance;
 #[cfg(test)]
 mod tests;
 

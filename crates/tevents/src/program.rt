@@ -3,7 +3,10 @@ ghost use Rattle.std.specs.String.{string_bytes};
 ghost use Rattle.te_io.specs.Stream.{GrewBy, GrewByPrefix};
 ghost use Rattle.te_io.specs.Causes.{Rose};
 ghost use Rattle.tevents.specs.Headline.{IsHeadline};
-ghost use Rattle.tevents.specs.Causes.{AreSerial, IsStatus, IsDone, IsSilent, IsScriptText, IsAnswer, fault_line};
+ghost use Rattle.tevents.specs.Causes.{AreSerial, IsStatus, IsDone, IsSilent, IsScriptText, IsFirstText, IsAnswer, IsLineOfFive, unbuilt_line};
+ghost use Rattle.tevents.specs.FaultLines.{fault_line};
+ghost use Rattle.te_reader.specs.declared.fault.ScriptFault.{ScriptFault};
+ghost use Rattle.te_reader.specs.Places.{HasFault};
 
 use crate::answering::answer;
 use std::alloc::Global;
@@ -21,7 +24,8 @@ use te_reader::MOST_BYTES;
 /// | 2 | the words aren't `serial` | nothing, and nothing is read |
 /// | 3 | the source failed | nothing |
 /// | 4 | the sink failed | a prefix of a text that the call could have written |
-/// | 5 | the bytes are no text of a script that runs today | the line `script fault` |
+/// | 5 | the bytes are no text of a script | the line of its fault, as `script fault 3 at 1:14` |
+/// | 5 | the script isn't of the first form, which alone runs so far | the line `script unbuilt` |
 /// | 9 | want of memory | nothing |
 pub fn tevents<S: Source, K: Sink>(
     alloc: Global,
@@ -56,20 +60,26 @@ pub fn tevents<S: Source, K: Sink>(
         × GrewByPrefix (K.bytes_held sink.old) (K.bytes_held sink.new) written }
 
     // 5
-    ensures fault_told { result ≡ 5 → GrewBy (K.bytes_held sink.old) (K.bytes_held sink.new) fault_line }
-    ensures no_script { result ≡ 5 → (read : List ℕ) → S.bytes_left source.old ≡ Some read
-        → ¬ IsScriptText read }
+    ensures line_told { result ≡ 5 → (line : List ℕ) × IsLineOfFive line
+        × GrewBy (K.bytes_held sink.old) (K.bytes_held sink.new) line }
+    ensures fault_told { result ≡ 5 → (read : List ℕ) → S.bytes_left source.old ≡ Some read
+        → ¬ IsScriptText read → (fault : ScriptFault) × HasFault read fault
+        × GrewBy (K.bytes_held sink.old) (K.bytes_held sink.new) (fault_line fault) }
+    ensures unbuilt_told { result ≡ 5 → (read : List ℕ) → S.bytes_left source.old ≡ Some read
+        → IsScriptText read → GrewBy (K.bytes_held sink.old) (K.bytes_held sink.new) unbuilt_line }
+    ensures not_first { result ≡ 5 → (read : List ℕ) → S.bytes_left source.old ≡ Some read
+        → ¬ IsFirstText read }
 
     // Where the words are right, no end failed and there was memory: 5 exactly where the bytes are no
-    // text of a script, else 0 or 1.
+    // text of a script of the first form, else 0 or 1.
     ensures exactly { (read : List ℕ) → S.bytes_left source.old ≡ Some read
         → AreSerial (map string_bytes words.now) → ¬ Rose (S.faults source.old) (S.faults source.new)
         → ¬ Rose (K.faults sink.old) (K.faults sink.new) → result ≢ 9
-        → ((result ≡ 5) ↔ ¬ IsScriptText read) }
+        → ((result ≡ 5) ↔ ¬ IsFirstText read) }
     ensures succeeds { (read : List ℕ) → S.bytes_left source.old ≡ Some read
         → AreSerial (map string_bytes words.now) → ¬ Rose (S.faults source.old) (S.faults source.new)
         → ¬ Rose (K.faults sink.old) (K.faults sink.new) → result ≢ 9
-        → IsScriptText read → IsDone result }
+        → IsFirstText read → IsDone result }
 {
     if !is_serial(words) {
         return 2;

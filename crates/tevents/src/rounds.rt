@@ -2,7 +2,8 @@ ghost use Rattle.std.specs.Prelude.{◌≡◌, ◌<◌, ◌≤◌, ℕ, [], ◌�
 ghost use Rattle.std.specs.List.{AllByRecursion};
 ghost use Rattle.te_terms.specs.Joint.{CanCommit};
 ghost use Rattle.te_history.specs.State.{parked_list};
-ghost use Rattle.te_history.specs.Follows.{IsRunning, IsParkedOrEnded, IsWhole};
+ghost use Rattle.te_history.specs.Follows.{IsRunning, IsParkedOrEnded};
+ghost use Rattle.te_report.specs.Whole.{IsWhole};
 ghost use Rattle.te_reader.specs.FirstForm.{First};
 ghost use Rattle.tevents.specs.Rounds.{IsStuckDue, IsLowestParked};
 ghost use Rattle.tevents.specs.SerialRuns.{IsSerialRun};
@@ -147,7 +148,8 @@ fn all_ended(house: &House) -> bool
 /// Runs the script's threads in serial rounds until every thread has ended. The one refusal is want of memory.
 pub(crate) fn serial(alloc: Global, script: &Script) -> Result<House, NoMemory>
     requires first { First script.now }
-    ensures { IfOk result (λ house. IsSerialRun script.now house.history) }
+    ensures run { IfOk result (λ house. IsSerialRun script.now house.history) }
+    ensures threads { IfOk result (λ house. house.threads ≡ script.now.threads) }
 {
     let mut house = House::new(alloc, script)?;
     while !all_ended(&house) {

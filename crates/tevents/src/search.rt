@@ -1,11 +1,11 @@
 ghost use Rattle.std.specs.Prelude.{◌≡◌, ℕ, ◌<◌, ◌≤◌, ◌+◌, List, length, IfSome, IfNone};
 ghost use Rattle.te_terms.specs.declared.value.Atom.{Atom};
-ghost use Rattle.tevents.specs.declared.seat.Stance.TheVariants.{Parked};
+ghost use Rattle.tevents.specs.declared.stance.Stance.TheVariants.{Parked};
 ghost use Rattle.tevents.specs.declared.kind.Kind.TheVariants.{Always, Send, Recv};
-ghost use Rattle.tevents.specs.Seats.{HasStance, IsFound, NoneBelow};
+ghost use Rattle.tevents.specs.Stances.{HasStance, IsFound, NoneBelow};
 
 use crate::kind::Kind;
-use crate::seat::{Party, Seat, Stance};
+use crate::stance::{Party, Stance};
 use te_terms::Value;
 
 /// What can commit: a caller whose event has a value, or a sender of a value and a receiver on its channel.
@@ -16,15 +16,15 @@ pub(crate) enum Found {
 }
 
 // The first caller below `end` that sends on the channel, with the value.
-fn sender_below(seats: &[Seat], end: usize, channel: u32) -> Option<(Party, Value)>
-    requires few { length seats.now ≤ 64 }
-    requires within { end ≤ length seats.now }
-    ensures some { IfSome result (λ p. HasStance seats.now p.0.thread (Parked p.0.ticket (Send channel p.1))) }
-    ensures none { IfNone result ((t ticket : ℕ) (value : List Atom) → t < end → HasStance seats.now t (Parked ticket (Send channel value)) → ⊥) }
+fn sender_below(stances: &[Stance], end: usize, channel: u32) -> Option<(Party, Value)>
+    requires few { length stances.now ≤ 64 }
+    requires within { end ≤ length stances.now }
+    ensures some { IfSome result (λ p. HasStance stances.now p.0.thread (Parked p.0.ticket (Send channel p.1))) }
+    ensures none { IfNone result ((t ticket : ℕ) (value : List Atom) → t < end → HasStance stances.now t (Parked ticket (Send channel value)) → ⊥) }
 {
     for at in 0..end {
-        let seat = &seats[at];
-        if let Some(from) = seat.stance.sends_on(at as u32, channel) {
+        let stance = &stances[at];
+        if let Some(from) = stance.sends_on(at as u32, channel) {
             return Some(from);
         }
     }
@@ -32,15 +32,15 @@ fn sender_below(seats: &[Seat], end: usize, channel: u32) -> Option<(Party, Valu
 }
 
 // The first caller below `end` that receives on the channel.
-fn receiver_below(seats: &[Seat], end: usize, channel: u32) -> Option<Party>
-    requires few { length seats.now ≤ 64 }
-    requires within { end ≤ length seats.now }
-    ensures some { IfSome result (λ p. HasStance seats.now p.thread (Parked p.ticket (Recv channel))) }
-    ensures none { IfNone result ((t ticket : ℕ) → t < end → HasStance seats.now t (Parked ticket (Recv channel)) → ⊥) }
+fn receiver_below(stances: &[Stance], end: usize, channel: u32) -> Option<Party>
+    requires few { length stances.now ≤ 64 }
+    requires within { end ≤ length stances.now }
+    ensures some { IfSome result (λ p. HasStance stances.now p.thread (Parked p.ticket (Recv channel))) }
+    ensures none { IfNone result ((t ticket : ℕ) → t < end → HasStance stances.now t (Parked ticket (Recv channel)) → ⊥) }
 {
     for at in 0..end {
-        let seat = &seats[at];
-        if let Some(to) = seat.stance.receives_on(at as u32, channel) {
+        let stance = &stances[at];
+        if let Some(to) = stance.receives_on(at as u32, channel) {
             return Some(to);
         }
     }
@@ -48,15 +48,15 @@ fn receiver_below(seats: &[Seat], end: usize, channel: u32) -> Option<Party>
 }
 
 // What can commit of the caller `at`, alone or with one below it.
-fn found_at(seats: &[Seat], at: usize) -> Option<Found>
-    requires few { length seats.now ≤ 64 }
-    requires within { at < length seats.now }
-    requires before { NoneBelow seats.now at }
-    ensures some { IfSome result (λ found. IsFound seats.now found) }
-    ensures none { IfNone result (NoneBelow seats.now (at + 1)) }
+fn found_at(stances: &[Stance], at: usize) -> Option<Found>
+    requires few { length stances.now ≤ 64 }
+    requires within { at < length stances.now }
+    requires before { NoneBelow stances.now at }
+    ensures some { IfSome result (λ found. IsFound stances.now found) }
+    ensures none { IfNone result (NoneBelow stances.now (at + 1)) }
 {
-    let seat = &seats[at];
-    let Stance::Parked(ticket, kind) = seat.stance else {
+    let stance = &stances[at];
+    let Stance::Parked(ticket, kind) = *stance else {
         return None;
     };
     let thread = at as u32;
@@ -64,24 +64,24 @@ fn found_at(seats: &[Seat], at: usize) -> Option<Found>
     match kind {
         Kind::Always(value) => Some(Found::Alone(party, value)),
         Kind::Send(channel, value) => {
-            let to = receiver_below(seats, at, channel)?;
+            let to = receiver_below(stances, at, channel)?;
             Some(Found::Meets(party, to, value))
         }
         Kind::Recv(channel) => {
-            let (from, value) = sender_below(seats, at, channel)?;
+            let (from, value) = sender_below(stances, at, channel)?;
             Some(Found::Meets(from, party, value))
         }
     }
 }
 
 /// The first that can commit, in the order of its higher thread.
-pub(crate) fn found_in(seats: &[Seat]) -> Option<Found>
-    requires few { length seats.now ≤ 64 }
-    ensures some { IfSome result (λ found. IsFound seats.now found) }
-    ensures none { IfNone result (NoneBelow seats.now (length seats.now)) }
+pub(crate) fn found_in(stances: &[Stance]) -> Option<Found>
+    requires few { length stances.now ≤ 64 }
+    ensures some { IfSome result (λ found. IsFound stances.now found) }
+    ensures none { IfNone result (NoneBelow stances.now (length stances.now)) }
 {
-    for at in 0..seats.len() {
-        if let Some(found) = found_at(seats, at) {
+    for at in 0..stances.len() {
+        if let Some(found) = found_at(stances, at) {
             return Some(found);
         }
     }

@@ -1,3 +1,6 @@
+mod printing;
+mod reading;
+
 use crate::program::tevents;
 use std::alloc::{AllocError, Global};
 use std::test::Fail;
@@ -7,9 +10,9 @@ use te_reader::MOST_BYTES;
 const EXCHANGE: &[u8] =
     b"channels c; thread a { x <- sync send c (7); } thread b { y <- sync recv c; emit y; }";
 
-const EXCHANGE_REPORT: &[u8] = b"tevents report 1\n\
-    1 post a 0\n\
-    2 post b 0\n\
+const EXCHANGE_REPORT: &[u8] = b"tevents report 2\n\
+    1 post a 0 at 1.0\n\
+    2 post b 0 at 1.0\n\
     3 commit a: a.0[]=() b.0[]=(7); a>b\n\
     4 take a 0 =()\n\
     5 take b 0 =(7)\n\
@@ -41,8 +44,8 @@ fn scripts_have_these_reports(rt: HostRuntime) -> Result<(), Fail> {
         (
             &b"thread a { x <- sync always (2); emit x; emit (5, 6); }"[..],
             0,
-            &b"tevents report 1\n\
-                1 post a 0\n\
+            &b"tevents report 2\n\
+                1 post a 0 at 1.0\n\
                 2 commit a: a.0[]=(2);\n\
                 3 take a 0 =(2)\n\
                 4 end a done (2) (5,6)\n\
@@ -51,19 +54,29 @@ fn scripts_have_these_reports(rt: HostRuntime) -> Result<(), Fail> {
         (
             &b"channels c; thread a { x <- sync recv c; }"[..],
             1,
-            &b"tevents report 1\n1 post a 0\n2 stuck a\n3 end a stuck\nclosed 3\n"[..],
+            &b"tevents report 2\n1 post a 0 at 1.0\n2 stuck a\n3 end a stuck\nclosed 3\n"[..],
         ),
         (
             &b"thread a { }"[..],
             0,
-            &b"tevents report 1\n1 end a done\nclosed 1\n"[..],
+            &b"tevents report 2\n1 end a done\nclosed 1\n"[..],
         ),
         (
             &b"thread a { x <- sync never; }"[..],
             5,
-            &b"script fault\n"[..],
+            &b"script unbuilt\n"[..],
         ),
-        (&b""[..], 5, &b"script fault\n"[..]),
+        (
+            &b"thread a { x <- sync always (1); emit (x.0 + 1); }"[..],
+            5,
+            &b"script unbuilt\n"[..],
+        ),
+        (
+            &b"thread a { x <- sync nothing; }"[..],
+            5,
+            &b"script fault 3 at 1:22\n"[..],
+        ),
+        (&b""[..], 5, &b"script fault 8 at 1:1\n"[..]),
     ] {
         let (answered, sink) = serial(rt.alloc(), script)?;
         assert_eq!(rt; sink.bytes(), written);
@@ -79,7 +92,8 @@ fn independent_pairs_commit_apart_in_either_order(rt: HostRuntime) -> Result<(),
         b"channels c d; thread a { x <- sync send c (1); } thread b { x <- sync recv c; } \
             thread e { x <- sync send d (2); } thread f { x <- sync recv d; }",
     )?;
-    let begun = "tevents report 1\n1 post a 0\n2 post b 0\n3 post e 0\n4 post f 0\n";
+    let begun =
+        "tevents report 2\n1 post a 0 at 1.0\n2 post b 0 at 1.0\n3 post e 0 at 1.0\n4 post f 0 at 1.0\n";
     let ended = "11 end a done\n12 end b done\n13 end e done\n14 end f done\nclosed 14\n";
     let one = format!(in rt.alloc();
         "{begun}\
@@ -100,7 +114,7 @@ fn independent_pairs_commit_apart_in_either_order(rt: HostRuntime) -> Result<(),
 #[test]
 fn sixty_four_threads_end_and_one_more_is_refused(rt: HostRuntime) -> Result<(), Fail> {
     let mut script = String::new(rt.alloc());
-    let mut report = String::from_str(rt.alloc(), "tevents report 1\n")?;
+    let mut report = String::from_str(rt.alloc(), "tevents report 2\n")?;
     for number in 0..64u32 {
         script.push_str(&format!(in rt.alloc(); "thread t{number} {{ }}\n")?)?;
         report.push_str(&format!(in rt.alloc(); "{} end t{number} done\n", number + 1)?)?;
@@ -111,7 +125,7 @@ fn sixty_four_threads_end_and_one_more_is_refused(rt: HostRuntime) -> Result<(),
     assert_eq!(rt; status, 0);
     script.push_str("thread t64 { }\n")?;
     let (status, sink) = serial(rt.alloc(), script.as_bytes())?;
-    assert_eq!(rt; sink.bytes(), &b"script fault\n"[..]);
+    assert_eq!(rt; sink.bytes(), &b"script fault 9 (threads) at 65:1\n"[..]);
     assert_eq!(rt; status, 5);
     Ok(())
 }
@@ -123,12 +137,12 @@ fn a_script_has_at_most_its_limit_of_bytes(rt: HostRuntime) -> Result<(), Fail> 
     let (status, sink) = serial(rt.alloc(), script.as_slice())?;
     assert_eq!(rt;
         sink.bytes(),
-        &b"tevents report 1\n1 end a done\nclosed 1\n"[..]
+        &b"tevents report 2\n1 end a done\nclosed 1\n"[..]
     );
     assert_eq!(rt; status, 0);
     script.push(b' ')?;
     let (status, sink) = serial(rt.alloc(), script.as_slice())?;
-    assert_eq!(rt; sink.bytes(), &b"script fault\n"[..]);
+    assert_eq!(rt; sink.bytes(), &b"script fault 9 (bytes) at 1:1\n"[..]);
     assert_eq!(rt; status, 5);
     Ok(())
 }

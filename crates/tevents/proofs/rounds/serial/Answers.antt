@@ -16,5 +16,8 @@ round-requires-clause-first c =
 pub loop-house-preserved : goal.loop-house-preserved
 loop-house-preserved c = run_more c.args.script.now c.loop-house.house c.round.new.house c.loop-house.invariant c.in_ok-round.ensures
 
-pub returns : goal.returns
-returns c = run_done c.args.script.now c.loop-house.house c.loop-house.invariant c.loop-house-test.ensures.all c.loop-house-test.ensures.kept
+pub returns-clause-threads : goal.returns-clause-threads
+returns-clause-threads c = c.loop-house.invariant.threads
+
+pub returns-clause-run : goal.returns-clause-run
+returns-clause-run c = run_done c.args.script.now c.loop-house.house c.loop-house.invariant c.loop-house-test.ensures.all c.loop-house-test.ensures.kept

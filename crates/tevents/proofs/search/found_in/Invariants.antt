@@ -1,5 +1,5 @@
-use Rattle.tevents.specs.Seats.{NoneBelow}
+use Rattle.tevents.specs.Stances.{NoneBelow}
 use Rattle.tevents.proofs.search.found_in.Given as goal
 
 abbrev pub invariant-loop-at : goal.invariant-loop-at
-invariant-loop-at l = NoneBelow l.seats l.at
+invariant-loop-at l = NoneBelow l.stances l.at

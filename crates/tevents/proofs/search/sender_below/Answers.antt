@@ -1,22 +1,22 @@
 use Rattle.std.proofs.Common.{ℕ, ◌<◌, List, length, arith, below_more}
 use Rattle.te_terms.specs.declared.value.Atom.{Atom}
-use Rattle.tevents.specs.declared.seat.Stance.TheVariants.{Parked}
+use Rattle.tevents.specs.declared.stance.Stance.TheVariants.{Parked}
 use Rattle.tevents.specs.declared.kind.Kind.TheVariants.{Send}
-use Rattle.tevents.specs.Seats.{HasStance}
+use Rattle.tevents.specs.Stances.{HasStance}
 use Rattle.tevents.proofs.StanceLemmas.{is_stance_read, found_at_read}
 use Rattle.tevents.proofs.search.sender_below.Goals as goal
 
 pub returns-in-Some-clause-some : goal.returns-in-Some-clause-some
 returns-in-Some-clause-some c =
-    let within : c.loop-at.at < length c.args.seats.now = omega arith in
-    found_at_read _ _ _ _ _ within c.index-seats-at.is c.in-Some.ensures.some.0 c.in-Some.ensures.some.1
+    let within : c.loop-at.at < length c.args.stances.now = omega arith in
+    found_at_read _ _ _ _ _ within c.index-stances-at.is c.in-Some.ensures.some.0 c.in-Some.ensures.some.1
 
 pub loop-at-preserved : goal.loop-at-preserved
 loop-at-preserved c = λ t ticket value low has.
-    let within : c.loop-at.at < length c.args.seats.now = omega arith in
-    below_more (λ k. (i : ℕ) (v : List Atom) → HasStance c.args.seats.now k (Parked i (Send c.args.channel v)) → ⊥) c.loop-at.at
+    let within : c.loop-at.at < length c.args.stances.now = omega arith in
+    below_more (λ k. (i : ℕ) (v : List Atom) → HasStance c.args.stances.now k (Parked i (Send c.args.channel v)) → ⊥) c.loop-at.at
     (λ k below i v has'. c.loop-at.invariant k i v below has')
-    (λ i v has'. c.in_default.ensures.none i v (is_stance_read _ _ _ _ within c.index-seats-at.is has'))
+    (λ i v has'. c.in_default.ensures.none i v (is_stance_read _ _ _ _ within c.index-stances-at.is has'))
     t low ticket value has
 
 pub returns-clause-none : goal.returns-clause-none

@@ -1,0 +1,12 @@
+pub mod ListRests
+pub mod Growing
+pub mod ThreadsWait
+pub mod CoresFollow
+pub mod FirstCores
+pub mod LinesSoFar
+pub mod PutLines
+pub mod Followed
+pub mod ChannelsEvaluated
+pub mod ChannelsStepped
+pub mod ChannelsWished
+pub mod ChannelsOfScript

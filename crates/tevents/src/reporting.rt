@@ -1,0 +1,55 @@
+ghost use Rattle.std.specs.Prelude.{◌≡◌, ◌<◌, length, take, IfOk, IsTrue, ◌↔◌, Any};
+ghost use Rattle.te_script.specs.Scripts.{IsProgram};
+ghost use Rattle.te_report.specs.Report.{second, IsReport};
+ghost use Rattle.te_report.specs.declared.ending.Ending.TheVariants as endings;
+ghost use Rattle.tevents.specs.StuckEnds.{IsStuckEnd, IsStuckAt};
+ghost use Rattle.tevents.specs.SerialRuns.{IsSerialRun};
+
+use std::alloc::Global;
+use te_history::{Entry, Hist, How};
+use te_report::{Ending, channels_are_of_the_script, write_report};
+use te_script::Script;
+use te_terms::{NoMemory, Rows};
+
+/// The report of a run of the script. The one refusal is want of memory.
+pub(crate) fn report_of(alloc: Global, script: &Script, hist: &Hist) -> Result<Rows<u8>, NoMemory>
+    requires callers { hist.now.callers ≡ length script.now.threads }
+    requires program { IsProgram script.now }
+    requires run { IsSerialRun script.now hist.now.entries }
+    ensures { IfOk result (λ text. IsReport second script.now hist.now.entries endings.Closed text) }
+{
+    channels_are_of_the_script();
+    write_report(alloc, script, hist, Ending::Closed)
+}
+
+/// Whether some thread ends stuck.
+pub(crate) fn has_stuck_end(hist: &Hist) -> bool
+    ensures { IsTrue result ↔ Any IsStuckEnd hist.now.entries }
+{
+    for at in 0..hist.len() {
+        if is_stuck_at(hist, at) {
+            return true;
+        }
+    }
+    false
+}
+
+// Whether the entry at a place is the end of a thread in a synchronisation that no group can complete.
+fn is_stuck_at(hist: &Hist, at: u64) -> bool
+    requires { at < length hist.now.entries }
+    ensures { IsTrue result ↔ IsStuckAt hist.now.entries at }
+{
+    match hist.get(at) {
+        Some(entry) => is_stuck_end(entry),
+        None => false,
+    }
+}
+
+fn is_stuck_end(entry: &Entry) -> bool
+    ensures { IsTrue result ↔ IsStuckEnd entry.now }
+{
+    match entry {
+        Entry::End { how, .. } => matches!(how, How::Stuck),
+        _ => false,
+    }
+}
