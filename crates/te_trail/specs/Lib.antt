@@ -1,0 +1,11 @@
+pub mod Paths
+pub mod Clocks
+pub mod States
+pub mod Stores
+pub mod Views
+pub mod Together
+pub mod Trails
+pub mod Stored
+pub mod Ticks
+pub mod Records
+pub mod Walks
