@@ -19,10 +19,10 @@ use Rattle.te_trail.proofs.OwnMoves.{own_depth, prefix_same, view_view, AreEven,
 -- one path alone
 one_team : (g : List Member) (p : Path) → IsSound p → HasState g p → Agreeing g (p ∷ [])
 one_team g p h f = record {
-    sounds = λ x a. subst IsSound (sym (only x a)) h;
-    states = λ x a. subst (λ q. HasState g q) (sym (only x a)) f;
-    agrees = λ x y a b. inl (only x a ∙ sym (only y b))
-  }
+  sounds = λ x a. subst IsSound (sym (only x a)) h;
+  states = λ x a. subst (λ q. HasState g q) (sym (only x a)) f;
+  agrees = λ x y a b. inl (only x a ∙ sym (only y b));
+}
   where
     only : (x : Path) → Holds (p ∷ []) x → x ≡ p
     only x (inl e) = e
@@ -30,23 +30,24 @@ one_team g p h f = record {
 
 pub agree_flip : (p q : Path) → Agrees p q → Agrees q p
 agree_flip p q a = record {
-    apart = eq_apart (thread_of p) (thread_of q) a.apart;
-    lines = λ t x y e f. line_flip y x (a.lines t y x f e);
-    first = λ b e. a.second b e;
-    second = λ b e. a.first b e
-  }
+  apart = eq_apart (thread_of p) (thread_of q) a.apart;
+  lines = λ t x y e f. line_flip y x (a.lines t y x f e);
+  first = λ b e. a.second b e;
+  second = λ b e. a.first b e;
+}
 
 two_team : (g : List Member) (p q : Path) → IsSound p → IsSound q → HasState g p → HasState g q → Agrees p q → Agreeing g (p ∷ q ∷ [])
 two_team g p q hp hq fp fq a = record {
-    sounds = λ x h. elim (which x h) [ inl e ↦ subst IsSound (sym e) hp | inr e ↦ subst IsSound (sym e) hq ];
-    states = λ x h. elim (which x h) [ inl e ↦ subst (λ z. HasState g z) (sym e) fp | inr e ↦ subst (λ z. HasState g z) (sym e) fq ];
-    agrees = λ x y h k. pair x y (which x h) (which y k)
-  }
+  sounds = λ x h. elim (which x h) [ inl e ↦ subst IsSound (sym e) hp | inr e ↦ subst IsSound (sym e) hq ];
+  states = λ x h. elim (which x h) [ inl e ↦ subst (λ z. HasState g z) (sym e) fp | inr e ↦ subst (λ z. HasState g z) (sym e) fq ];
+  agrees = λ x y h k. pair x y (which x h) (which y k);
+}
   where
     which : (x : Path) → Holds (p ∷ q ∷ []) x → (x ≡ p) ⊎ (x ≡ q)
     which x (inl e) = inl e
     which x (inr (inl e)) = inr e
     which x (inr (inr n)) = absurd (n)
+
     pair : (x y : Path) → (x ≡ p) ⊎ (x ≡ q) → (y ≡ p) ⊎ (y ≡ q) → (x ≡ y) ⊎ Agrees x y
     pair x y (inl e) (inl f) = inl (e ∙ sym f)
     pair x y (inl e) (inr f) = inr (subst (λ z. Agrees z y) (sym e) (subst (λ z. Agrees p z) (sym f) a))
@@ -155,22 +156,24 @@ either_way m n = go (ltb m n) refl
 
 -- what a clock names
 clocked : (w : List Label) (p c : Path) (t : ℕ) → IsSound p → HasEvenMeetings p → HasPast p w → clock_of p t ≡ Some c → IsSound c × HasEvenMeetings c × HasPast c w × (thread_of c ≡ t)
-clocked w p c t h k r e =
-    (made_sound c (sound_past p (move_of c) h (clock_in p t c (move_of c) e (rests_move c))),
-     (λ s q x. k s q (clock_in p t c (sent s q) e x)),
-     (λ z x. r z (clock_in p t c (move_of z) e x)),
-     clock_thread p t c e)
+clocked w p c t h k r e = (
+  made_sound c (sound_past p (move_of c) h (clock_in p t c (move_of c) e (rests_move c))),
+  (λ s q x. k s q (clock_in p t c (sent s q) e x)),
+  (λ z x. r z (clock_in p t c (move_of z) e x)),
+  clock_thread p t c e,
+)
 
 pub share : (w : List Label) (p q : Path) → IsSound p → IsSound q → HasEvenMeetings p → HasEvenMeetings q → HasPast p w → HasPast q w → nat_eq (thread_of p) (thread_of q) ≡ false → view_of (thread_of p) w ≡ own_labels p → view_of (thread_of q) w ≡ own_labels q → Agrees p q
 share w p q hp hq kp kq rp rq ne vp vq = record {
-    apart = ne;
-    lines = λ t a b e f. line a b (clocked w p a t hp kp rp e) (clocked w q b t hq kq rq f);
-    first = λ b e. low p b hp kp rp vp (clocked w q b (thread_of p) hq kq rq e);
-    second = λ a e. low q a hq kq rq vq (clocked w p a (thread_of q) hp kp rp e)
-  }
+  apart = ne;
+  lines = λ t a b e f. line a b (clocked w p a t hp kp rp e) (clocked w q b t hq kq rq f);
+  first = λ b e. low p b hp kp rp vp (clocked w q b (thread_of p) hq kq rq e);
+  second = λ a e. low q a hq kq rq vq (clocked w p a (thread_of q) hp kp rp e);
+}
   where
     line : {t : ℕ} (a b : Path) → IsSound a × HasEvenMeetings a × HasPast a w × (thread_of a ≡ t) → IsSound b × HasEvenMeetings b × HasPast b w × (thread_of b ≡ t) → OnOneLine a b
     line a b (sa, ka, ra, ta) (sb, kb, rb, tb) = elim (either_way (depth_of a) (depth_of b)) [ inl d ↦ inl (near w a b sa sb ka kb ra rb (ta ∙ sym tb) d) | inr d ↦ inr (near w b a sb sa kb ka rb ra (tb ∙ sym ta) d) ]
+
     low : (x c : Path) → IsSound x → HasEvenMeetings x → HasPast x w → view_of (thread_of x) w ≡ own_labels x → IsSound c × HasEvenMeetings c × HasPast c w × (thread_of c ≡ thread_of x) → IsAbove c x
     low x c sx kx rx vx (sc, kc, rc, tc) =
         let pc : Begins (own_labels c) (view_of (thread_of c) w) = rc c (rests_move c) in
@@ -200,9 +203,9 @@ names_apart g store good p q hp hq e same =
     let fq : HasState g q = good.state q hq in
     let past : HasPast q (trail_of store q) = trail_has_past g store q good.made sq fq tq in
     unique (trail_of store p) p q sp sq (known_in g store good.made p sp fp tp) (known_in g store good.made q sq fq tq)
-      (trail_has_past g store p good.made sp fp tp)
-      (λ z k. subst (Begins (own_labels z)) (sym (same (thread_of z))) (past z k)) e
-      (sym (own_trail g store p good.made sp fp tp) ∙ same (thread_of p) ∙ ap (λ n. view_of n (trail_of store q)) e ∙ own_trail g store q good.made sq fq tq)
+    (trail_has_past g store p good.made sp fp tp)
+    (λ z k. subst (Begins (own_labels z)) (sym (same (thread_of z))) (past z k)) e
+    (sym (own_trail g store p good.made sp fp tp) ∙ same (thread_of p) ∙ ap (λ n. view_of n (trail_of store q)) e ∙ own_trail g store q good.made sq fq tq)
 
 -- a path's trail is a chain that leaves its thread at its state
 pub path_played : (g : List Member) (store : List Path) → IsStore g store → (p : Path) → Holds store p → (chain : Chain g (trail_of store p)) × (member_of (thread_of p) chain.end ≡ state_of g p)

@@ -29,10 +29,10 @@ node_at records k x e = get_some records k (omega (arith, get_low (paths_of reco
 
 pub tidy : (records : List PathRecord) (ticks : List Tick) (paths : List Path) → FitsAll records ticks → paths_of records ≡ paths → AreTidy paths
 tidy records ticks paths kept view = subst AreTidy view (record {
-    once = kept.once;
-    ups = λ k x y e f. (let n : (n : PathRecord) × (slice_get records k ≡ Some n) = node_at records k x e in up k x y f (parent_number n.0.last n.0.parent) (kept.fits k n.0 x n.1 e).up);
-    sounds = λ k x e. (let n : (n : PathRecord) × (slice_get records k ≡ Some n) = node_at records k x e in (kept.fits k n.0 x n.1 e).sound)
-  })
+  once = kept.once;
+  ups = λ k x y e f. (let n : (n : PathRecord) × (slice_get records k ≡ Some n) = node_at records k x e in up k x y f (parent_number n.0.last n.0.parent) (kept.fits k n.0 x n.1 e).up);
+  sounds = λ k x e. (let n : (n : PathRecord) × (slice_get records k ≡ Some n) = node_at records k x e in (kept.fits k n.0 x n.1 e).sound);
+})
   where
     up : (k : ℕ) (x y : Path) → parent_of x ≡ Some y → (o : Option ℕ) → HasParent (paths_of records) k x o → (r : ℕ) × (r < k) × (slice_get (paths_of records) r ≡ Some y)
     up k x y f None u = cc
@@ -75,10 +75,13 @@ parent_known records ticks paths p n o kept view h e is = subst (λ q. TellsPare
   where
     low : p < length records
     low = omega (arith, h, length_paths records, ap length view)
+
     en : slice_get records p ≡ Some n
     en = got_there records p n low e
+
     up : (x : Path) → slice_get (paths_of records) p ≡ Some x → (o : Option ℕ) → parent_number n.last n.parent ≡ o → HasParent (paths_of records) p x o
     up x ex o is = subst (HasParent (paths_of records) p x) is (kept.fits p n x en ex).up
+
     go : (o : Option ℕ) → parent_number n.last n.parent ≡ o → TellsParent (paths_of records) p o
     go None is = λ x ex. up x ex None is
     go (Some r) is = (let x : (x : Path) × (slice_get (paths_of records) p ≡ Some x) = get_some (paths_of records) p (omega (arith, low, length_paths records)) in (up x.0 x.1 (Some r) is).0, λ x ex. (let u : (r < p) × (y : Path) × (slice_get (paths_of records) r ≡ Some y) × (parent_of x ≡ Some y) = up x ex (Some r) is in (u.1, u.2, u.3)))

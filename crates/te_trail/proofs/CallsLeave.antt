@@ -70,9 +70,9 @@ pub record Leaves (events : List Planned) (cells : Cells) (records : List PathRe
 
 leaves : (events : List Planned) (cells : Cells) (records : List PathRecord) (ticks : List Tick) (marks : List StoreMark) (old : Trail) → IsWhole events cells records ticks marks → viewed events records marks ≡ old → (ns : List PathRecord) (xs : List Path) (out : List Tick) → AreAdded events cells records ticks ns xs out → (records2 : List PathRecord) (ticks2 : List Tick) → records2 ≡ records ++ ns → ticks2 ≡ ticks ++ out → Leaves events cells records2 ticks2 marks (with_paths old xs)
 leaves events cells records ticks marks old w v ns xs out added records2 ticks2 en et = subst (λ n. Leaves events cells n ticks2 marks (with_paths old xs)) (sym en) (subst (λ t. Leaves events cells (records ++ ns) t marks (with_paths old xs)) (sym et) (record {
-    whole = r.1;
-    view = ap (λ p. record { events = members_of events; paths = p; marks = map mark_seen marks }) r.0 ∙ ap (λ o. with_paths o xs) v;
-  }))
+  whole = r.1;
+  view = ap (λ p. record { events = members_of events; paths = p; marks = map mark_seen marks }) r.0 ∙ ap (λ o. with_paths o xs) v;
+}))
   where
     r : (paths_of (records ++ ns) ≡ paths_of records ++ xs) × IsWhole events cells (records ++ ns) (ticks ++ out) marks
     r = whole_pushed events cells records ticks marks ns xs out w added
@@ -92,22 +92,27 @@ plant_leaves events cells records ticks marks old w v i e ae spot is spells free
   where
     event_at : slice_get (members_of events) i ≡ Some (member_of_event e)
     event_at = slice_get-map member_of_event events i ∙ ap (option_map member_of_event) ae
+
     same : (m : Member) → slice_get old.events i ≡ Some m → e.thread ≡ m.thread
     same m em = let there : slice_get (members_of events) i ≡ Some m = ap (λ o. slice_get o.events i) v ∙ em in ap (λ z. z.thread) (some_same (slice_get (members_of events) i) (member_of_event e) m event_at there)
+
     none : ¬ Holds (paths_of records) (planted e.thread)
     none = subst (λ o. ¬ Holds o.paths (planted e.thread)) (sym v) (free (member_of_event e) (ap (λ o. slice_get o.events i) (sym v) ∙ event_at))
+
     low : length records < 2147483648
     low = omega (arith, room, length_paths records, ap (λ o. length o.paths) v)
+
     state : state_of (members_of events) (planted e.thread) ≡ Some (settled (member_of_event e))
     state = ap (option_map settled) (event_found events w.kept.events_are i e ae)
+
     l : Leaves events cells records2 ticks2 marks (with_paths old (planted e.thread ∷ []))
     l = leaves events cells records ticks marks old w v (planted_record spot i e.thread (record { at = at; len = 1 }) ∷ []) (planted e.thread ∷ []) (record { thread = e.thread; path = number } ∷ []) (record {
-        new = plant_new records ticks spot i e.thread number (record { at = at; len = 1 }) en ea refl (missing (paths_of records) (planted e.thread) none);
-        made = (not_moved (paths_of records) (planted e.thread) none, tt);
-        pairs = λ k a b ek. no_pair (planted e.thread) k a b ek (λ u v is. cc);
-        stands = λ k n x nn nx. subst (Stands events cells n) (only_one (planted e.thread) x k nx) (subst (λ z. Stands events cells z (planted e.thread)) (only_one (planted_record spot i e.thread (record { at = at; len = 1 })) n k nn) (record { member = settled (member_of_event e); state = state; spot = record { event = e; is_event = ae; is_spot = is; spells = spells } }));
-        few = omega (arith, low);
-      }) records2 ticks2 e1 e2
+      new = plant_new records ticks spot i e.thread number (record { at = at; len = 1 }) en ea refl (missing (paths_of records) (planted e.thread) none);
+      made = (not_moved (paths_of records) (planted e.thread) none, tt);
+      pairs = λ k a b ek. no_pair (planted e.thread) k a b ek (λ u v is. cc);
+      stands = λ k n x nn nx. subst (Stands events cells n) (only_one (planted e.thread) x k nx) (subst (λ z. Stands events cells z (planted e.thread)) (only_one (planted_record spot i e.thread (record { at = at; len = 1 })) n k nn) (record { member = settled (member_of_event e); state = state; spot = record { event = e; is_event = ae; is_spot = is; spells = spells } }));
+      few = omega (arith, low);
+    }) records2 ticks2 e1 e2
 
 -- ---- branch
 
@@ -124,6 +129,7 @@ path_there events cells records ticks marks old w v p n h e = record { path = x.
   where
     en : slice_get records p ≡ Some n
     en = record_there records old.paths p n (ap (λ o. o.paths) v) h e
+
     x : (x : Path) × (slice_get (paths_of records) p ≡ Some x)
     x = get_some (paths_of records) p (omega (arith, get_low records n p en, length_paths records))
 
@@ -135,22 +141,27 @@ branch_leaves events cells records ticks marks old w v p n x en ex m sx e ae spo
   where
     there : slice_get old.paths p ≡ Some x
     there = ap (λ o. slice_get o.paths p) (sym v) ∙ ex
+
     same : (y : Path) → slice_get old.paths p ≡ Some y → x ≡ y
     same y ey = cc
+
     none : ¬ Holds (paths_of records) (branched x left)
     none = subst (λ o. ¬ Holds o.paths (branched x left)) (sym v) (free x there)
+
     low : length records < 2147483648
     low = omega (arith, room, length_paths records, ap (λ o. length o.paths) v)
+
     own : Tick
     own = record { thread = n.thread; path = number }
+
     l : Leaves events cells records2 ticks2 marks (with_paths old (branched x left ∷ []))
     l = leaves events cells records ticks marks old w v (branched_record spot n.event n.thread side p c ∷ []) (branched x left ∷ []) (map (marked (record { thread = n.thread; path = number }) (record { thread = n.thread; path = number })) (ticks_of ticks n.clock)) (record {
-        new = branch_new records ticks w.kept.fit spot n.event p n x en ex left side sl (record { thread = n.thread; path = number }) refl num c r.at r.len (missing (paths_of records) (branched x left) none);
-        made = ((grown_has (paths_of records) [] x w.kept.made (held (paths_of records) p x ex), not_moved (paths_of records) (branched x left) none), tt);
-        pairs = λ k u z ek. no_pair (branched x left) k u z ek (λ u2 v is. cc);
-        stands = λ k a y na ny. subst (Stands events cells a) (only_one (branched x left) y k ny) (subst (λ z. Stands events cells z (branched x left)) (only_one (branched_record spot n.event n.thread side p c) a k na) (record { member = spelled (origin_at e) cells spot; state = branch_state (members_of events) x left m (spelled (origin_at e) cells spot) sx step; spot = record { event = e; is_event = ae; is_spot = is; spells = refl } }));
-        few = omega (arith, low);
-      }) records2 ticks2 e1 r.appended
+      new = branch_new records ticks w.kept.fit spot n.event p n x en ex left side sl (record { thread = n.thread; path = number }) refl num c r.at r.len (missing (paths_of records) (branched x left) none);
+      made = ((grown_has (paths_of records) [] x w.kept.made (held (paths_of records) p x ex), not_moved (paths_of records) (branched x left) none), tt);
+      pairs = λ k u z ek. no_pair (branched x left) k u z ek (λ u2 v is. cc);
+      stands = λ k a y na ny. subst (Stands events cells a) (only_one (branched x left) y k ny) (subst (λ z. Stands events cells z (branched x left)) (only_one (branched_record spot n.event n.thread side p c) a k na) (record { member = spelled (origin_at e) cells spot; state = branch_state (members_of events) x left m (spelled (origin_at e) cells spot) sx step; spot = record { event = e; is_event = ae; is_spot = is; spells = refl } }));
+      few = omega (arith, low);
+    }) records2 ticks2 e1 r.appended
 
 -- ---- meet
 
@@ -168,44 +179,58 @@ meet_leaves events cells records ticks marks old w v p q n k x y en ex ek ey a b
   where
     one : {A : Type 0} (o : Option A) (u z : A) → o ≡ Some u → o ≡ Some z → u ≡ z
     one o u z f g = cc
+
     there_x : slice_get old.paths p ≡ Some x
     there_x = ap (λ o. slice_get o.paths p) (sym v) ∙ ex
+
     there_y : slice_get old.paths q ≡ Some y
     there_y = ap (λ o. slice_get o.paths q) (sym v) ∙ ey
+
     store : IsStore (members_of events) (paths_of records)
     store = is_store events cells records ticks w.kept
+
     hx : Holds (paths_of records) x
     hx = held (paths_of records) p x ex
+
     hy : Holds (paths_of records) y
     hy = held (paths_of records) q y ey
+
     ag : Agrees x y
     ag = agrees_by x y (store.sound x hx) (store.sound y hy) (agree x y there_x there_y)
+
     none : ¬ Holds (paths_of records) (sent x y)
     none = subst (λ o. ¬ Holds o.paths (sent x y)) (sym v) (free x y there_x there_y)
+
     low : length records < 2147483648
     low = omega (arith, room, length_paths records, ap (λ o. length o.paths) v)
+
     states : (state_of (members_of events) (sent x y) ≡ Some (settled both.ends.sender)) × (state_of (members_of events) (got x y) ≡ Some (settled both.ends.receiver))
     states = state_after (members_of events) x y a b both.ends sx sy both.meeting
+
     first : PathRecord
     first = sender_record s n.event n.thread p c
+
     second : PathRecord
     second = receiver_record r k.event k.thread q c
+
     stand : (i : ℕ) (z : PathRecord) (u : Path) → slice_get (met_records (sender_record s n.event n.thread p c) (receiver_record r k.event k.thread q c)) i ≡ Some z → slice_get (sent x y ∷ (got x y ∷ [])) i ≡ Some u → Stands events cells z u
     stand zero z u ez eu = let f : sender_record s n.event n.thread p c ≡ z = cc in let g : sent x y ≡ u = cc in subst (Stands events cells z) g (subst (λ t. Stands events cells t (sent x y)) f (record { member = settled both.ends.sender; state = states.0; spot = both.sender }))
     stand (suc zero) z u ez eu = let f : receiver_record r k.event k.thread q c ≡ z = cc in let g : got x y ≡ u = cc in subst (Stands events cells z) g (subst (λ t. Stands events cells t (got x y)) f (record { member = settled both.ends.receiver; state = states.1; spot = both.receiver }))
     stand (suc (suc i)) z u ez eu = cc
+
     pair : (i : ℕ) (u z : Path) → slice_get (sent x y ∷ (got x y ∷ [])) i ≡ Some (sent u z) → slice_get (sent x y ∷ (got x y ∷ [])) (suc i) ≡ Some (got u z)
     pair zero u z e = let f : x ≡ u = cc in let g : y ≡ z = cc in ap₂ (λ s r. Some (got s r)) f g
     pair (suc zero) u z e = cc
     pair (suc (suc i)) u z e = cc
+
     l : Leaves events cells records2 ticks2 marks (with_paths old (sent x y ∷ (got x y ∷ [])))
     l = leaves events cells records ticks marks old w v (met_records (sender_record s n.event n.thread p c) (receiver_record r k.event k.thread q c)) (sent x y ∷ (got x y ∷ [])) (map (marked (record { thread = n.thread; path = number }) (record { thread = k.thread; path = number + 1 })) (merged (ticks_of ticks n.clock) (ticks_of ticks k.clock))) (record {
-        new = meet_new records ticks w.kept.fit s r n.event k.event p q n k x y en ex ek ey ag (record { thread = n.thread; path = number }) (record { thread = k.thread; path = number + 1 }) refl refl num (ap (λ i. i + 1) num) c j.at j.len (missing (paths_of records) (sent x y) none) (got_missing (paths_of records) x y w.kept.made none);
-        made = ((grown_has (paths_of records) [] x w.kept.made hx, grown_has (paths_of records) [] y w.kept.made hy, not_moved (paths_of records) (sent x y) none), (inl refl, tt));
-        pairs = pair;
-        stands = stand;
-        few = omega (arith, low);
-      }) records2 ticks2 e1 j.appended
+      new = meet_new records ticks w.kept.fit s r n.event k.event p q n k x y en ex ek ey ag (record { thread = n.thread; path = number }) (record { thread = k.thread; path = number + 1 }) refl refl num (ap (λ i. i + 1) num) c j.at j.len (missing (paths_of records) (sent x y) none) (got_missing (paths_of records) x y w.kept.made none);
+      made = ((grown_has (paths_of records) [] x w.kept.made hx, grown_has (paths_of records) [] y w.kept.made hy, not_moved (paths_of records) (sent x y) none), (inl refl, tt));
+      pairs = pair;
+      stands = stand;
+      few = omega (arith, low);
+    }) records2 ticks2 e1 j.appended
 
 -- ---- put, mark, cut
 
@@ -226,10 +251,13 @@ cut_leaves events cells records ticks marks old w v i m h e = (r.0, λ k ek. vie
   where
     em : slice_get marks i ≡ Some m
     em = got_there marks i m (subst (λ n. i < n) (length-map marks mark_seen) (subst (λ o. i < length o.marks) (sym v) h)) e
+
     r : IsWhole (take m.events events) (cut_to m.cells cells) (take m.paths records) (take m.ticks ticks) (take i marks) × (paths_of (take m.paths records) ≡ take m.paths (paths_of records))
     r = whole_cut events cells records ticks marks i m w em
+
     seen : (k : Mark) → slice_get old.marks i ≡ Some k → mark_seen m ≡ k
     seen k ek = let there : slice_get (map mark_seen marks) i ≡ Some (mark_seen m) = slice_get-map mark_seen marks i ∙ ap (option_map mark_seen) em in let also : slice_get (map mark_seen marks) i ≡ Some k = ap (λ o. slice_get o.marks i) v ∙ ek in some_same (slice_get (map mark_seen marks) i) (mark_seen m) k there also
+
     view : viewed (take m.events events) (take m.paths records) (take i marks) ≡ back_at old i (mark_seen m)
     view = ap (λ g. record { events = g; paths = paths_of (take m.paths records); marks = map mark_seen (take i marks) }) (map_take member_of_event m.events events) ∙ ap₂ (λ p k. record { events = take m.events (members_of events); paths = p; marks = k }) r.1 (map_take mark_seen i marks) ∙ ap (λ o. back_at o i (mark_seen m)) v
 

@@ -38,7 +38,6 @@ beyond_drop t ks zero b = b
 beyond_drop t [] (suc i) b = b
 beyond_drop t (k ∷ ks) (suc i) b = beyond_drop t ks i b.1
 
-
 low_step : (F : ℕ → ℕ → ℕ → Type 0) (x : Tick) (xs : List Tick) (y : Tick) (ys : List Tick) → AreRising (y ∷ ys) → x.thread < y.thread → AllFit F xs (y ∷ ys) → AllFit F (x ∷ xs) (y ∷ ys)
 low_step F x xs y ys r less all t m n e f = go (nat_eq t x.thread) refl e
   where
@@ -122,7 +121,6 @@ pub record IsClocked (paths : List Path) (x : Path) (ks : List Tick) : Type 0 wh
   pub rising : AreRising ks
   pub clock : (t : ℕ) → ClockAt paths x t (named t ks)
 
-
 clock_out : (paths : List Path) (x a : Path) (t : ℕ) (ks : List Tick) → IsClocked paths x ks → clock_of x t ≡ Some a → (m : ℕ) × (named t ks ≡ Some m) × (slice_get paths m ≡ Some a)
 clock_out paths x a t ks g e = go (named t ks) refl (g.clock t)
   where
@@ -138,11 +136,11 @@ eq_self n = eq-eqb n n refl
 
 agree_from : (paths : List Path) (x y : Path) (ks js : List Tick) → IsClocked paths x ks → IsClocked paths y js → nat_eq (thread_of x) (thread_of y) ≡ false → AllFit (FittingFor paths (thread_of x) (thread_of y)) ks js → Agrees x y
 agree_from paths x y ks js cx cy apart all = record {
-    apart = apart;
-    lines = λ t a b e f. (at t a b e f).0;
-    first = λ b e. (at (thread_of x) x b (clock_self x cx.sound) e).1 (eq_self (thread_of x));
-    second = λ a e. (at (thread_of y) a y e (clock_self y cy.sound)).2 (eq_self (thread_of y))
-  }
+  apart = apart;
+  lines = λ t a b e f. (at t a b e f).0;
+  first = λ b e. (at (thread_of x) x b (clock_self x cx.sound) e).1 (eq_self (thread_of x));
+  second = λ a e. (at (thread_of y) a y e (clock_self y cy.sound)).2 (eq_self (thread_of y));
+}
   where
     at : (t : ℕ) (a b : Path) → clock_of x t ≡ Some a → clock_of y t ≡ Some b → FitAt (nat_eq t (thread_of x)) (nat_eq t (thread_of y)) a b
     at t a b e f = let m : (m : ℕ) × (named t ks ≡ Some m) × (slice_get paths m ≡ Some a) = clock_out paths x a t ks cx e in let n : (m : ℕ) × (named t js ≡ Some m) × (slice_get paths m ≡ Some b) = clock_out paths y b t js cy f in (all t m.0 n.0 m.1 n.1 a b m.2 n.2).0 refl
@@ -152,14 +150,19 @@ agree_to paths x y ks js cx cy ag t m n e f a b ea eb = ((λ w. make), (λ w. re
   where
     one : {A : Type 0} (o : Option A) (c d : A) → o ≡ Some c → o ≡ Some d → c ≡ d
     one o c d e f = cc
+
     ha : clock_of x t ≡ Some a
     ha = let c : (a : Path) × (slice_get paths m ≡ Some a) × (clock_of x t ≡ Some a) = clock_into paths x t m ks cx e in c.2 ∙ ap Some (one (slice_get paths m) c.0 a c.1 ea)
+
     hb : clock_of y t ≡ Some b
     hb = let c : (a : Path) × (slice_get paths n ≡ Some a) × (clock_of y t ≡ Some a) = clock_into paths y t n js cy f in c.2 ∙ ap Some (one (slice_get paths n) c.0 b c.1 eb)
+
     own : IsTrue (nat_eq t (thread_of x)) → IsAbove b a
     own w = let same : t ≡ thread_of x = eqb-true t (thread_of x) w in let xa : x ≡ a = one (clock_of x t) x a (ap (clock_of x) same ∙ clock_self x cx.sound) ha in subst (IsAbove b) xa (ag.first b (ap (clock_of y) (sym same) ∙ hb))
+
     other : IsTrue (nat_eq t (thread_of y)) → IsAbove a b
     other w = let same : t ≡ thread_of y = eqb-true t (thread_of y) w in let yb : y ≡ b = one (clock_of y t) y b (ap (clock_of y) same ∙ clock_self y cy.sound) hb in subst (IsAbove a) yb (ag.second a (ap (clock_of x) (sym same) ∙ ha))
+
     make : FitAt (nat_eq t (thread_of x)) (nat_eq t (thread_of y)) a b
     make = (ag.lines t a b ha hb, own, other)
 
@@ -173,19 +176,22 @@ pub record IsKnown (records : List PathRecord) (ticks : List Tick) (paths : List
 
 pub known : (records : List PathRecord) (ticks : List Tick) (paths : List Path) → FitsAll records ticks → paths_of records ≡ paths → (p : ℕ) (n : PathRecord) → p < length paths → n ≡ get_or records p n → IsKnown records ticks paths p n
 known records ticks paths kept view p n h e = subst (λ q. IsKnown records ticks q p n) view (record {
-    clocked = λ x ex. (let f : Fits (paths_of records) ticks p n x = kept.fits p n x en ex in record { sound = f.sound; rising = f.rising; clock = f.clock });
-    thread = λ x ex. (kept.fits p n x en ex).thread;
-    within = fit.within;
-    rising = fit.rising;
-    named_low = λ t m w. (let c : (a : Path) × (slice_get (paths_of records) m ≡ Some a) × (clock_of tree.0 t ≡ Some a) = subst (ClockAt (paths_of records) tree.0 t) w (fit.clock t) in low (paths_of records) m c.0 c.1)
-  })
+  clocked = λ x ex. (let f : Fits (paths_of records) ticks p n x = kept.fits p n x en ex in record { sound = f.sound; rising = f.rising; clock = f.clock });
+  thread = λ x ex. (kept.fits p n x en ex).thread;
+  within = fit.within;
+  rising = fit.rising;
+  named_low = λ t m w. (let c : (a : Path) × (slice_get (paths_of records) m ≡ Some a) × (clock_of tree.0 t ≡ Some a) = subst (ClockAt (paths_of records) tree.0 t) w (fit.clock t) in low (paths_of records) m c.0 c.1);
+})
   where
     en : slice_get records p ≡ Some n
     en = got_there records p n (omega (arith, h, length_paths records, ap length view)) e
+
     tree : (x : Path) × (slice_get (paths_of records) p ≡ Some x)
     tree = get_some (paths_of records) p (omega (arith, h, ap length view))
+
     fit : Fits (paths_of records) ticks p n tree.0
     fit = kept.fits p n tree.0 en tree.1
+
     low : (xs : List Path) (k : ℕ) (y : Path) → slice_get xs k ≡ Some y → k < length xs
     low [] k y e = cc
     low (z ∷ xs) zero y e = omega arith
@@ -205,7 +211,7 @@ agree_false records ticks paths p q a b ka kb t m n e f tell x y ex ey = ((λ w.
       where
         go : (c : Path) × (slice_get paths m ≡ Some c) × (clock_of x t ≡ Some c) → (d : Path) × (slice_get paths n ≡ Some d) × (clock_of y t ≡ Some d) → false ≡ true
         go c d = (tell c.0 d.0 c.1 d.1).1 (subst (λ v. FitAt (nat_eq t v) (nat_eq t b.thread) c.0 d.0) (ka.thread x ex) (subst (λ v. FitAt (nat_eq t (thread_of x)) (nat_eq t v) c.0 d.0) (kb.thread y ey)
-          ((agree_to paths x y (ticks_of ticks a.clock) (ticks_of ticks b.clock) (ka.clocked x ex) (kb.clocked y ey) ag t m n e f c.0 d.0 c.1 d.1).0 refl)))
+            ((agree_to paths x y (ticks_of ticks a.clock) (ticks_of ticks b.clock) (ka.clocked x ex) (kb.clocked y ey) ag t m n e f c.0 d.0 c.1 d.1).0 refl)))
 
 pub agree_true : (records : List PathRecord) (ticks : List Tick) (paths : List Path) (p q : ℕ) (a b : PathRecord) → IsKnown records ticks paths p a → IsKnown records ticks paths q b → (a.thread ≡ b.thread → ⊥) → AllFit (FittingFor paths a.thread b.thread) (ticks_of ticks a.clock) (ticks_of ticks b.clock) → TellsWhether paths p q Agrees true
 agree_true records ticks paths p q a b ka kb ne all x y ex ey = ((λ w. agree_from paths x y (ticks_of ticks a.clock) (ticks_of ticks b.clock) (ka.clocked x ex) (kb.clocked y ey) (off (nat_eq (thread_of x) (thread_of y)) refl) (subst (λ v. AllFit (FittingFor paths v (thread_of y)) (ticks_of ticks a.clock) (ticks_of ticks b.clock)) (sym (ka.thread x ex)) (subst (λ v. AllFit (FittingFor paths a.thread v) (ticks_of ticks a.clock) (ticks_of ticks b.clock)) (sym (kb.thread y ey)) all))), (λ f. refl))
@@ -219,13 +225,13 @@ tick_low paths ks i d r low h = low (get_or ks i d).thread (get_or ks i d).path 
 
 pub misfit : (paths : List Path) (s r : ℕ) (ks js : List Tick) (i j : ℕ) (d : Tick) → AreRising ks → AreRising js → i < length ks → j < length js → (get_or ks i d).thread ≡ (get_or js j d).thread → (o v b : Bool) → o ≡ nat_eq (get_or ks i d).thread s → v ≡ nat_eq (get_or ks i d).thread r → b ≡ false → TellsWhether paths (get_or ks i d).path (get_or js j d).path (FitAt o v) b → Misfit paths s r ks js
 misfit paths s r ks js i j d rk rj hi hj same o v b eo ev eb tells = record {
-    of = (get_or ks i d).thread;
-    first = (get_or ks i d).path;
-    second = (get_or js j d).path;
-    named_first = named_at ks i d rk hi;
-    named_second = ap (λ t. named t js) same ∙ named_at js j d rj hj;
-    tells = subst (λ x. TellsWhether paths (get_or ks i d).path (get_or js j d).path (FitAt x (nat_eq (get_or ks i d).thread r)) false) eo (subst (λ x. TellsWhether paths (get_or ks i d).path (get_or js j d).path (FitAt o x) false) ev (subst (λ x. TellsWhether paths (get_or ks i d).path (get_or js j d).path (FitAt o v) x) eb tells))
-  }
+  of = (get_or ks i d).thread;
+  first = (get_or ks i d).path;
+  second = (get_or js j d).path;
+  named_first = named_at ks i d rk hi;
+  named_second = ap (λ t. named t js) same ∙ named_at js j d rj hj;
+  tells = subst (λ x. TellsWhether paths (get_or ks i d).path (get_or js j d).path (FitAt x (nat_eq (get_or ks i d).thread r)) false) eo (subst (λ x. TellsWhether paths (get_or ks i d).path (get_or js j d).path (FitAt o x) false) ev (subst (λ x. TellsWhether paths (get_or ks i d).path (get_or js j d).path (FitAt o v) x) eb tells));
+}
 
 pub fitting : (paths : List Path) (s r : ℕ) (x y : Tick) (o v b : Bool) → o ≡ nat_eq x.thread s → v ≡ nat_eq x.thread r → b ≡ true → TellsWhether paths x.path y.path (FitAt o v) b → FittingFor paths s r x.thread x.path y.path
 fitting paths s r x y o v b eo ev eb tells = subst (λ z. TellsWhether paths x.path y.path (FitAt z (nat_eq x.thread r)) true) eo (subst (λ z. TellsWhether paths x.path y.path (FitAt o z) true) ev (subst (λ z. TellsWhether paths x.path y.path (FitAt o v) z) eb tells))

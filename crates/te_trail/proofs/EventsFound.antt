@@ -44,16 +44,18 @@ event_absent (x ∷ xs) t none i e at same = go (λ n k a. event_absent xs t n k
 
 pub events_put : (events : List Planned) (new : Planned) → AreEvents events → new.root < length new.code.value → member_of new.thread (members_of events) ≡ None → AreEvents (events ++ (new ∷ []))
 events_put events new are low none = record {
-    rooted = λ i e at. root e i (get_which events (new ∷ []) e i at);
-    once = λ i j e f ei fj same. one i j e f same (get_which events (new ∷ []) e i ei) (get_which events (new ∷ []) f j fj);
-  }
+  rooted = λ i e at. root e i (get_which events (new ∷ []) e i at);
+  once = λ i j e f ei fj same. one i j e f same (get_which events (new ∷ []) e i ei) (get_which events (new ∷ []) f j fj);
+}
   where
     last : (j : ℕ) (e : Planned) → slice_get (new ∷ []) j ≡ Some e → (j ≡ 0) × (new ≡ e)
     last zero e at = (refl, cc)
     last (suc j) e at = cc
+
     root : (e : Planned) (i : ℕ) → (slice_get events i ≡ Some e) ⊎ ((j : ℕ) × (i ≡ length events + j) × (slice_get (new ∷ []) j ≡ Some e)) → e.root < length e.code.value
     root e i (inl a) = are.rooted i e a
     root e i (inr a) = subst (λ y. y.root < length y.code.value) (last a.0 e a.2).1 low
+
     one : (i j : ℕ) (e f : Planned) → e.thread ≡ f.thread → (slice_get events i ≡ Some e) ⊎ ((k : ℕ) × (i ≡ length events + k) × (slice_get (new ∷ []) k ≡ Some e)) → (slice_get events j ≡ Some f) ⊎ ((k : ℕ) × (j ≡ length events + k) × (slice_get (new ∷ []) k ≡ Some f)) → i ≡ j
     one i j e f same (inl a) (inl b) = are.once i j e f a b same
     one i j e f same (inl a) (inr b) = absurd (event_absent events new.thread none i e a (same ∙ ap (λ y. y.thread) (sym (last b.0 f b.2).1)))

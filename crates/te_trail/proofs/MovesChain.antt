@@ -49,8 +49,8 @@ fresh g s done h w t at shut m z e new r = (new (shut (move_of z) m (at.sits z e
 
 -- a path that is new stands right below the thread's place
 place_is : (g : List Member) (s : Together g) (done : List Path) (h : List Member) (w : List Label) (t : ℕ) (at : PlaceAt g s done h w t) → AreClosed done
-  → (n p m : Path) → move_of n ≡ m → thread_of n ≡ t → thread_of p ≡ t → ((z : Path) → IsAbove z n → (z ≡ n) ⊎ IsAbove z p)
-  → IsTrue (s.has m) → IsTrue (s.has (move_of p)) → Holds done (move_of p) → (Holds done m → ⊥) → at.place ≡ Some p
+    → (n p m : Path) → move_of n ≡ m → thread_of n ≡ t → thread_of p ≡ t → ((z : Path) → IsAbove z n → (z ≡ n) ⊎ IsAbove z p)
+    → IsTrue (s.has m) → IsTrue (s.has (move_of p)) → Holds done (move_of p) → (Holds done m → ⊥) → at.place ≡ Some p
 place_is g s done h w t at shut n p m nm tn tp under sm sp dp new = go (at.top p tp sp dp)
   where
     go : (z : Path) × (at.place ≡ Some z) × IsAbove p z → at.place ≡ Some p
@@ -61,7 +61,7 @@ place_is g s done h w t at shut n p m nm tn tp under sm sp dp new = go (at.top p
         on (inr b) = absurd (fresh g s done h w t at shut m z e new (above_rests n z m b (subst (λ q. RestsOn q n) nm (rests_move n))))
 
 place_none : (g : List Member) (s : Together g) (done : List Path) (h : List Member) (w : List Label) (t : ℕ) (at : PlaceAt g s done h w t) → AreClosed done
-  → IsTrue (s.has (planted t)) → (Holds done (planted t) → ⊥) → at.place ≡ None
+    → IsTrue (s.has (planted t)) → (Holds done (planted t) → ⊥) → at.place ≡ None
 place_none g s done h w t at shut sm new = go at.place refl
   where
     go : (o : Option Path) → at.place ≡ o → o ≡ None
@@ -74,14 +74,14 @@ place_none g s done h w t at shut sm new = go at.place refl
 
 -- a thread that the move doesn't touch, or a move that isn't in the set
 at_still : (g : List Member) (s : Together g) (done : List Path) (h : List Member) (w : List Label) (t : ℕ) (at : PlaceAt g s done h w t) (m : Path) (k : List Member) (l : List Label)
-  → ((x : Path) → move_of x ≡ m → thread_of x ≡ t → IsTrue (s.has m) → ⊥) → member_of t k ≡ member_of t h → view_of t l ≡ [] → PlaceAt g s (m ∷ done) k (w ++ l) t
+    → ((x : Path) → move_of x ≡ m → thread_of x ≡ t → IsTrue (s.has m) → ⊥) → member_of t k ≡ member_of t h → view_of t l ≡ [] → PlaceAt g s (m ∷ done) k (w ++ l) t
 at_still g s done h w t at m k l none same quiet = record {
-    place = at.place;
-    sits = λ z e. ((at.sits z e).0, (at.sits z e).1, inr (at.sits z e).2);
-    top = λ x tx sx dx. top x tx sx dx;
-    stands = same ∙ at.stands;
-    told = view_append t w l ∙ rw quiet (append-nil (view_of t w)) ∙ at.told
-  }
+  place = at.place;
+  sits = λ z e. ((at.sits z e).0, (at.sits z e).1, inr (at.sits z e).2);
+  top = λ x tx sx dx. top x tx sx dx;
+  stands = same ∙ at.stands;
+  told = view_append t w l ∙ rw quiet (append-nil (view_of t w)) ∙ at.told;
+}
   where
     top : (x : Path) → thread_of x ≡ t → IsTrue (s.has (move_of x)) → (move_of x ≡ m) ⊎ Holds done (move_of x) → (z : Path) × (at.place ≡ Some z) × IsAbove x z
     top x tx sx (inl e) = absurd ((none x e tx (subst (λ q. IsTrue (s.has q)) e sx)))
@@ -89,15 +89,15 @@ at_still g s done h w t at m k l none same quiet = record {
 
 -- a thread whose path the move makes
 at_moved : (g : List Member) (s : Together g) (done : List Path) (h : List Member) (w : List Label) (t : ℕ) (at : PlaceAt g s done h w t) (n m : Path) (k : List Member) (l : List Label)
-  → move_of n ≡ m → thread_of n ≡ t → IsTrue (s.has m) → ((x : Path) → move_of x ≡ m → thread_of x ≡ t → x ≡ n) → ((z : Path) → at.place ≡ Some z → IsAbove z n)
-  → member_of t k ≡ state_of g n → owned_by at.place ++ view_of t l ≡ own_labels n → PlaceAt g s (m ∷ done) k (w ++ l) t
+    → move_of n ≡ m → thread_of n ≡ t → IsTrue (s.has m) → ((x : Path) → move_of x ≡ m → thread_of x ≡ t → x ≡ n) → ((z : Path) → at.place ≡ Some z → IsAbove z n)
+    → member_of t k ≡ state_of g n → owned_by at.place ++ view_of t l ≡ own_labels n → PlaceAt g s (m ∷ done) k (w ++ l) t
 at_moved g s done h w t at n m k l nm tn sm one below stand told = record {
-    place = Some n;
-    sits = λ z e. (let same : n ≡ z = cc in subst (λ q. (thread_of q ≡ t) × IsTrue (s.has (move_of q)) × Holds (m ∷ done) (move_of q)) same (tn, subst (λ q. IsTrue (s.has q)) (sym nm) sm, inl nm));
-    top = λ x tx sx dx. (n, refl, top x tx sx dx);
-    stands = stand;
-    told = view_append t w l ∙ rw at.told told
-  }
+  place = Some n;
+  sits = λ z e. (let same : n ≡ z = cc in subst (λ q. (thread_of q ≡ t) × IsTrue (s.has (move_of q)) × Holds (m ∷ done) (move_of q)) same (tn, subst (λ q. IsTrue (s.has q)) (sym nm) sm, inl nm));
+  top = λ x tx sx dx. (n, refl, top x tx sx dx);
+  stands = stand;
+  told = view_append t w l ∙ rw at.told told;
+}
   where
     top : (x : Path) → thread_of x ≡ t → IsTrue (s.has (move_of x)) → (move_of x ≡ m) ⊎ Holds done (move_of x) → IsAbove x n
     top x tx sx (inl e) = subst (λ q. IsAbove x q) (one x e tx) (above_self x)
@@ -159,7 +159,7 @@ plants g s done h w ats shut t inside new =
     let mv : Moves h [] t (settled ev.0) = settles_there h t ev.0 now in
     record {
       chain = mv.chain;
-      ats = λ u. go u mv (nat_eq u t) refl free (mv.here ∙ ap Some ev.2 ∙ sym fit.1)
+      ats = λ u. go u mv (nat_eq u t) refl free (mv.here ∙ ap Some ev.2 ∙ sym fit.1);
     }
   where
     go : (u : ℕ) {x : Member} (mv : Moves h [] t x) (o : Bool) → nat_eq u t ≡ o → (ats t).place ≡ None → member_of t mv.chain.end ≡ state_of g (planted t) → PlaceAt g s (planted t ∷ done) mv.chain.end (w ++ []) u
@@ -180,13 +180,13 @@ branches g s done h w ats shut p l inside dp new =
     let mv : Moves h (choice (thread_of p) l ∷ []) (thread_of p) (settled ch.0) = chooses h (thread_of p) l fp.0 ch.0 now ch.1 in
     record {
       chain = mv.chain;
-      ats = λ u. go u mv (nat_eq u (thread_of p)) refl at (mv.here ∙ ap Some ch.2 ∙ sym fn.1)
+      ats = λ u. go u mv (nat_eq u (thread_of p)) refl at (mv.here ∙ ap Some ch.2 ∙ sym fn.1);
     }
   where
     go : (u : ℕ) {x : Member} (mv : Moves h (choice (thread_of p) l ∷ []) (thread_of p) x) (o : Bool) → nat_eq u (thread_of p) ≡ o → (ats (thread_of p)).place ≡ Some p → member_of (thread_of p) mv.chain.end ≡ state_of g (branched p l) → PlaceAt g s (branched p l ∷ done) mv.chain.end (w ++ (choice (thread_of p) l ∷ [])) u
     go u mv true e at here = subst (λ n. PlaceAt g s (branched p l ∷ done) mv.chain.end (w ++ (choice (thread_of p) l ∷ [])) n) (sym (eqb-true u (thread_of p) e))
         (at_moved g s done h w (thread_of p) (ats (thread_of p)) (branched p l) (branched p l) mv.chain.end (choice (thread_of p) l ∷ []) refl refl inside (λ x e tx. made_branched x p l e)
-            (λ z e. (let one : p ≡ z = cc in inr (subst (λ q. IsAbove q p) one (above_self p)))) here (rw (at, view_choice (thread_of p) l) refl))
+        (λ z e. (let one : p ≡ z = cc in inr (subst (λ q. IsAbove q p) one (above_self p)))) here (rw (at, view_choice (thread_of p) l) refl))
     go u mv false e at here = at_still g s done h w u (ats u) (branched p l) mv.chain.end (choice (thread_of p) l ∷ []) (λ x m tx y. unsame u (thread_of p) (sym tx ∙ ap thread_of (made_branched x p l m)) e) (mv.others u e) (view_choice_other u (thread_of p) l e)
 
 joins : (g : List Member) (s : Together g) (done : List Path) (h : List Member) (w : List Label) → AllPlaced g s done h w → AreClosed done → (a b : Path) → s.has (sent a b) ≡ true → Holds done (move_of a) → Holds done (move_of b) → (Holds done (sent a b) → ⊥) → Goes_on g s (sent a b ∷ done) h w (meeting (thread_of a) (thread_of b) ∷ [])
@@ -206,19 +206,19 @@ joins g s done h w ats shut a b inside da db new =
     let mv : Meets h (thread_of a) (thread_of b) (settled m.0.sender) (settled m.0.receiver) = meets h (thread_of a) (thread_of b) fa.0 fb.0 m.0 ne nowa nowb m.1 in
     record {
       chain = mv.chain;
-      ats = λ u. go u mv (nat_eq u (thread_of a)) refl (nat_eq u (thread_of b)) refl ne ata atb (mv.sender ∙ sym m.2) (mv.receiver ∙ sym m.3)
+      ats = λ u. go u mv (nat_eq u (thread_of a)) refl (nat_eq u (thread_of b)) refl ne ata atb (mv.sender ∙ sym m.2) (mv.receiver ∙ sym m.3);
     }
   where
     go : (u : ℕ) {x y : Member} (mv : Meets h (thread_of a) (thread_of b) x y) (o : Bool) → nat_eq u (thread_of a) ≡ o → (v : Bool) → nat_eq u (thread_of b) ≡ v → nat_eq (thread_of a) (thread_of b) ≡ false → (ats (thread_of a)).place ≡ Some a → (ats (thread_of b)).place ≡ Some b
-      → member_of (thread_of a) mv.chain.end ≡ state_of g (sent a b) → member_of (thread_of b) mv.chain.end ≡ state_of g (got a b) → PlaceAt g s (sent a b ∷ done) mv.chain.end (w ++ (meeting (thread_of a) (thread_of b) ∷ [])) u
+        → member_of (thread_of a) mv.chain.end ≡ state_of g (sent a b) → member_of (thread_of b) mv.chain.end ≡ state_of g (got a b) → PlaceAt g s (sent a b ∷ done) mv.chain.end (w ++ (meeting (thread_of a) (thread_of b) ∷ [])) u
     go u mv true e v f ne ata atb ha hb = subst (λ n. PlaceAt g s (sent a b ∷ done) mv.chain.end (w ++ (meeting (thread_of a) (thread_of b) ∷ [])) n) (sym (eqb-true u (thread_of a) e))
         (at_moved g s done h w (thread_of a) (ats (thread_of a)) (sent a b) (sent a b) mv.chain.end (meeting (thread_of a) (thread_of b) ∷ []) refl refl inside
-            (λ x m tx. elim (made_met x a b m) [ inl same ↦ same | inr same ↦ absurd ((unsame (thread_of a) (thread_of b) (sym tx ∙ ap thread_of same) ne)) ])
-            (λ z e. (let one : a ≡ z = cc in inr (subst (λ q. IsAbove q a) one (above_self a)))) ha (rw (ata, view_sender (thread_of a) (thread_of b)) refl))
+        (λ x m tx. elim (made_met x a b m) [ inl same ↦ same | inr same ↦ absurd ((unsame (thread_of a) (thread_of b) (sym tx ∙ ap thread_of same) ne)) ])
+        (λ z e. (let one : a ≡ z = cc in inr (subst (λ q. IsAbove q a) one (above_self a)))) ha (rw (ata, view_sender (thread_of a) (thread_of b)) refl))
     go u mv false e true f ne ata atb ha hb = subst (λ n. PlaceAt g s (sent a b ∷ done) mv.chain.end (w ++ (meeting (thread_of a) (thread_of b) ∷ [])) n) (sym (eqb-true u (thread_of b) f))
         (at_moved g s done h w (thread_of b) (ats (thread_of b)) (got a b) (sent a b) mv.chain.end (meeting (thread_of a) (thread_of b) ∷ []) refl refl inside
-            (λ x m tx. elim (made_met x a b m) [ inl same ↦ absurd ((unsame (thread_of a) (thread_of b) (sym (ap thread_of same) ∙ tx) ne)) | inr same ↦ same ])
-            (λ z e. (let one : b ≡ z = cc in inr (subst (λ q. IsAbove q b) one (above_self b)))) hb (rw (atb, view_receiver (thread_of a) (thread_of b) ne) refl))
+        (λ x m tx. elim (made_met x a b m) [ inl same ↦ absurd ((unsame (thread_of a) (thread_of b) (sym (ap thread_of same) ∙ tx) ne)) | inr same ↦ same ])
+        (λ z e. (let one : b ≡ z = cc in inr (subst (λ q. IsAbove q b) one (above_self b)))) hb (rw (atb, view_receiver (thread_of a) (thread_of b) ne) refl))
     go u mv false e false f ne ata atb ha hb = at_still g s done h w u (ats u) (sent a b) mv.chain.end (meeting (thread_of a) (thread_of b) ∷ [])
         (λ x m tx y. elim (made_met x a b m) [ inl same ↦ unsame u (thread_of a) (sym tx ∙ ap thread_of same) e | inr same ↦ unsame u (thread_of b) (sym tx ∙ ap thread_of same) f ])
         (mv.others u e f) (view_other u (thread_of a) (thread_of b) e f)
@@ -252,7 +252,7 @@ runs g s (x ∷ rest) done h w made shut ats =
     let b : Goes_on g s (with_moves (with_move done x) rest) a.chain.end (w ++ cond (s.has x) (labels_of_move x) []) (labels_of s.has rest) = runs g s rest (with_move done x) a.chain.end (w ++ cond (s.has x) (labels_of_move x) []) made.1 (shut_grow done x shut made.0) a.ats in
     record {
       chain = chain_on h (cond (s.has x) (labels_of_move x) []) (labels_of s.has rest) a.chain b.chain;
-      ats = λ t. subst (λ v. PlaceAt g s (with_moves (with_move done x) rest) b.chain.end v t) (append_assoc w (cond (s.has x) (labels_of_move x) []) (labels_of s.has rest)) (b.ats t)
+      ats = λ t. subst (λ v. PlaceAt g s (with_moves (with_move done x) rest) b.chain.end v t) (append_assoc w (cond (s.has x) (labels_of_move x) []) (labels_of s.has rest)) (b.ats t);
     }
 
 pub shut_grown : (rest done : List Path) → AreClosed done → AreMade done rest → AreClosed (with_moves done rest)
@@ -265,9 +265,9 @@ store_shut store made = shut_grown store [] (λ m k d r. absurd (d)) made
 -- statement 1: from the events on
 pub runs_all : (g : List Member) (s : Together g) (store : List Path) → AreMade [] store → Goes_on g s (with_moves [] store) g [] (labels_of s.has store)
 runs_all g s store made = runs g s store [] g [] made (λ m k d r. absurd (d)) (λ t. record {
-    place = None;
-    sits = λ z e. cc;
-    top = λ x tx sx d. absurd (d);
-    stands = refl;
-    told = refl
-  })
+  place = None;
+  sits = λ z e. cc;
+  top = λ x tx sx d. absurd (d);
+  stands = refl;
+  told = refl;
+})

@@ -19,18 +19,21 @@ use Rattle.te_trail.proofs.AgreeIsExact.{known_in, names_apart, path_played}
 
 pub pasts_together : (g : List Member) (paths ps : List Path) → IsStore g paths → AreAmong ps paths → AllAgree ps → ChainOfAll g (joint_trail paths ps) ps
 pasts_together g paths ps store among agree = record {
-    chain = c.chain;
-    leaves = λ p h. left p h;
-    pasts = λ p h z k. c.within z (true_pasts ps p (move_of z) h k);
-  }
+  chain = c.chain;
+  leaves = λ p h. left p h;
+  pasts = λ p h z k. c.within z (true_pasts ps p (move_of z) h k);
+}
   where
     agrees : (p q : Path) → Holds ps p → Holds ps q → (p ≡ q) ⊎ Agree p q → (p ≡ q) ⊎ Agrees p q
     agrees p q hp hq (inl e) = inl e
     agrees p q hp hq (inr a) = inr (agrees_by p q (store.sound p (among p hp)) (store.sound q (among q hq)) a)
+
     team : Agreeing g ps
     team = record { sounds = λ x h. store.sound x (among x h); states = λ x h. store.state x (among x h); agrees = λ x y hx hy. agrees x y hx hy (agree x y hx hy) }
+
     c : PastsAre g paths ps
     c = one_chain g paths ps store.made team (λ x h. grown_has paths [] x store.made (among x h))
+
     left : (p : Path) → Holds ps p → LeavesAt g (joint_trail paths ps) c.chain.end p
     left p h =
         let l : (member_of (thread_of p) c.chain.end ≡ state_of g p) × (view_of (thread_of p) (joint_trail paths ps) ≡ own_labels p) = c.leaves p (true_pasts ps p (move_of p) h (rests_move p)) (λ z hz tz. team_low g ps team p h z hz tz) in
@@ -47,8 +50,8 @@ names_deepest p h = record {
 pub known_by_own : (g : List Member) (paths : List Path) (p q : Path) (word : List Label) → IsStore g paths → Holds paths p → Holds paths q → HasPast p word → HasPast q word → thread_of p ≡ thread_of q → own_labels p ≡ own_labels q → p ≡ q
 known_by_own g paths p q word store hp hq pp pq t o =
     unique word p q (store.sound p hp) (store.sound q hq)
-      (known_in g paths store.made p (store.sound p hp) (store.state p hp) (grown_has paths [] p store.made hp))
-      (known_in g paths store.made q (store.sound q hq) (store.state q hq) (grown_has paths [] q store.made hq)) pp pq t o
+    (known_in g paths store.made p (store.sound p hp) (store.state p hp) (grown_has paths [] p store.made hp))
+    (known_in g paths store.made q (store.sound q hq) (store.state q hq) (grown_has paths [] q store.made hq)) pp pq t o
 
 pub has_name : (g : List Member) (paths : List Path) (p : Path) (m : Member) → IsStore g paths → Holds paths p → member_of (thread_of p) g ≡ Some m → IsPathName g (name_of g (thread_of p) (trail_of paths p))
 has_name g paths p m store hp e = record { word = trail_of paths p; chain = (path_played g paths store p hp).0; member = m; is_member = e; views = refl }
@@ -79,6 +82,7 @@ step_absent t (labelled (meeting i j)) g h e none = go (nat_eq i j) e
     both a b sent c true f =
         let is : with_term (with_term g a (with_head (giving []) a.term)) b (with_head (giving sent.value) b.term) ≡ h = cc in
         subst (λ x. member_of t x ≡ None) is (absent_with t (at_term b (with_head (giving sent.value) b.term)) (with_term g a (with_head (giving []) a.term)) (absent_with t (at_term a (with_head (giving []) a.term)) g none))
+
     go : (o : Bool) → cond o None (option_and_then (λ a. option_and_then (meeting_of g a) (member_of j g)) (member_of i g)) ≡ Some h → member_of t h ≡ None
     go true f = cc
     go false f =
@@ -130,8 +134,10 @@ same_view v w (x ∷ g) e t m f = go (same_view v w g rest t m) first (nat_eq x.
   where
     first : view_of x.thread v ≡ view_of x.thread w
     first = cc
+
     rest : map (λ m. view_of m.thread v) g ≡ map (λ m. view_of m.thread w) g
     rest = cc
+
     go : (member_of t g ≡ Some m → view_of t v ≡ view_of t w) → view_of x.thread v ≡ view_of x.thread w → (o : Bool) → nat_eq x.thread t ≡ o → cond o (Some x) (member_of t g) ≡ Some m → view_of t v ≡ view_of t w
     go ih here true u f = subst (λ k. view_of k v ≡ view_of k w) (eqb-true x.thread t u) here
     go ih here false u f = ih f

@@ -41,13 +41,13 @@ single x y (suc k) e = cc
 
 pub new_one : (records : List PathRecord) (ticks : List Tick) (n : PathRecord) (x : Path) (out : List Tick) → path_by (paths_of records) n.thread n.parent 0 n.last ≡ x → is_sender n.last ≡ false → Fits (paths_of records ++ (x ∷ [])) (ticks ++ out) (length records) n x → Missing (paths_of records) x → AreNew records ticks (n ∷ []) (x ∷ []) out
 new_one records ticks n x out is calm fit miss = record {
-    trees_are = ap (λ q. paths_of records ++ (q ∷ [])) is;
-    shut = shut_append records n [] calm;
-    fits = λ k m y em ey. (let a : (k ≡ 0) × (n ≡ m) = single n m k em in let b : (k ≡ 0) × (x ≡ y) = single x y k ey in
+  trees_are = ap (λ q. paths_of records ++ (q ∷ [])) is;
+  shut = shut_append records n [] calm;
+  fits = λ k m y em ey. (let a : (k ≡ 0) × (n ≡ m) = single n m k em in let b : (k ≡ 0) × (x ≡ y) = single x y k ey in
       subst (λ j. Fits (paths_of records ++ (x ∷ [])) (ticks ++ out) j m y) (let e : length records ≡ length records + k = omega (arith, a.0) in e) (subst (λ q. Fits (paths_of records ++ (x ∷ [])) (ticks ++ out) (length records) q y) a.1 (subst (Fits (paths_of records ++ (x ∷ [])) (ticks ++ out) (length records) n) b.1 fit)));
-    fresh = λ k y ey. subst (Missing (paths_of records)) (single x y k ey).1 miss;
-    once = λ i j y ei ej. (single x y i ei).0 ∙ sym (single x y j ej).0
-  }
+  fresh = λ k y ey. subst (Missing (paths_of records)) (single x y k ey).1 miss;
+  once = λ i j y ei ej. (single x y i ei).0 ∙ sym (single x y j ej).0;
+}
 
 -- ---- plant
 abbrev pub planted_record : Spot → ℕ → ℕ → Stretch → PathRecord
@@ -55,19 +55,21 @@ planted_record spot e t c = record { spot = spot; clock = c; parent = 0; thread 
 
 pub plant_new : (records : List PathRecord) (ticks : List Tick) (spot : Spot) (e t number : ℕ) (c : Stretch) → number ≡ length records → c.at ≡ length ticks → c.len ≡ 1 → Missing (paths_of records) (planted t) → AreNew records ticks (planted_record spot e t c ∷ []) (planted t ∷ []) (record { thread = t; path = number } ∷ [])
 plant_new records ticks spot e t number c en ea el miss = new_one records ticks (planted_record spot e t c) (planted t) out refl refl (record {
-    kind = (t, refl);
-    up = refl;
-    thread = refl;
-    sound = tt;
-    within = within_last ticks out c ea el;
-    rising = subst AreRising (sym last) (tt, tt);
-    clock = λ u. subst (λ ks. ClockAt (paths_of records ++ (planted t ∷ [])) (planted t) u (named u ks)) (sym last) (own u (nat_eq u t) refl)
-  }) miss
+  kind = (t, refl);
+  up = refl;
+  thread = refl;
+  sound = tt;
+  within = within_last ticks out c ea el;
+  rising = subst AreRising (sym last) (tt, tt);
+  clock = λ u. subst (λ ks. ClockAt (paths_of records ++ (planted t ∷ [])) (planted t) u (named u ks)) (sym last) (own u (nat_eq u t) refl);
+}) miss
   where
     out : List Tick
     out = record { thread = t; path = number } ∷ []
+
     last : ticks_of (ticks ++ (record { thread = t; path = number } ∷ [])) c ≡ record { thread = t; path = number } ∷ []
     last = stretch_last ticks (record { thread = t; path = number } ∷ []) c ea el
+
     own : (u : ℕ) (o : Bool) → nat_eq u t ≡ o → ClockAt (paths_of records ++ (planted t ∷ [])) (planted t) u (cond (nat_eq u t) (Some number) None)
     own u true w = rw w (planted t, ap (slice_get (paths_of records ++ (planted t ∷ []))) (en ∙ sym (length_paths records)) ∙ get_end (paths_of records) (planted t) [], rw w refl)
     own u false w = rw w (rw w refl)
@@ -103,24 +105,27 @@ side_kind true l e x = subst (λ k. IsMadeBy k (branched x true)) (sym e) (x, re
 side_kind false l e x = subst (λ k. IsMadeBy k (branched x false)) (sym e) (x, refl)
 
 pub branch_new : (records : List PathRecord) (ticks : List Tick) → FitsAll records ticks → (spot : Spot) (e p : ℕ) (parent : PathRecord) (x : Path) → slice_get records p ≡ Some parent → slice_get (paths_of records) p ≡ Some x → (left : Bool) (l : Last) → SideIs left l → (own : Tick) → own.thread ≡ parent.thread → own.path ≡ length records → (c : Stretch) → c.at ≡ length ticks → c.len ≡ length (map (marked own own) (ticks_of ticks parent.clock)) → Missing (paths_of records) (branched x left)
-  → AreNew records ticks (branched_record spot e parent.thread l p c ∷ []) (branched x left ∷ []) (map (marked own own) (ticks_of ticks parent.clock))
+    → AreNew records ticks (branched_record spot e parent.thread l p c ∷ []) (branched x left ∷ []) (map (marked own own) (ticks_of ticks parent.clock))
 branch_new records ticks kept spot e p parent x en ex left l sl own eo ep c ea el miss = new_one records ticks (branched_record spot e parent.thread l p c) (branched x left) (map (marked own own) (ticks_of ticks parent.clock))
     (side_path (paths_of records) parent.thread p left l sl ∙ ap (λ q. branched q left) (got_or (paths_of records) p x (planted 0) ex)) (side_calm left l sl).0 (record {
-    kind = side_kind left l sl x;
-    up = subst (HasParent (paths_of records ++ (branched x left ∷ [])) (length records) (branched x left)) (sym ((side_calm left l sl).1 p)) (get_low records parent p en, x, get_old (paths_of records) (branched x left ∷ []) x p ex, refl);
-    thread = f.thread;
-    sound = f.sound;
-    within = within_last ticks (map (marked own own) (ticks_of ticks parent.clock)) c ea el;
-    rising = subst AreRising (sym last) (rising_marked own own (ticks_of ticks parent.clock) f.rising);
-    clock = λ u. subst (λ ks. ClockAt (paths_of records ++ (branched x left ∷ [])) (branched x left) u (named u ks)) (sym last) (names u (nat_eq u (thread_of x)) refl)
-  }) miss
+      kind = side_kind left l sl x;
+      up = subst (HasParent (paths_of records ++ (branched x left ∷ [])) (length records) (branched x left)) (sym ((side_calm left l sl).1 p)) (get_low records parent p en, x, get_old (paths_of records) (branched x left ∷ []) x p ex, refl);
+      thread = f.thread;
+      sound = f.sound;
+      within = within_last ticks (map (marked own own) (ticks_of ticks parent.clock)) c ea el;
+      rising = subst AreRising (sym last) (rising_marked own own (ticks_of ticks parent.clock) f.rising);
+      clock = λ u. subst (λ ks. ClockAt (paths_of records ++ (branched x left ∷ [])) (branched x left) u (named u ks)) (sym last) (names u (nat_eq u (thread_of x)) refl);
+    }) miss
   where
     f : Fits (paths_of records) ticks p parent x
     f = kept.fits p parent x en ex
+
     last : ticks_of (ticks ++ map (marked own own) (ticks_of ticks parent.clock)) c ≡ map (marked own own) (ticks_of ticks parent.clock)
     last = stretch_last ticks (map (marked own own) (ticks_of ticks parent.clock)) c ea el
+
     same : thread_of x ≡ own.thread
     same = f.thread ∙ sym eo
+
     names : (u : ℕ) (o : Bool) → nat_eq u (thread_of x) ≡ o → ClockAt (paths_of records ++ (branched x left ∷ [])) (branched x left) u (named u (map (marked own own) (ticks_of ticks parent.clock)))
     names u true w =
         let one : u ≡ own.thread = eqb-true u (thread_of x) w ∙ same in
@@ -155,15 +160,19 @@ deeper_best paths g oa ob (Some m) (Some n) a b line = go (ltb m n) refl
   where
     whole : deeper oa ob ≡ Some (cond (ltb (depth_of a.0) (depth_of b.0)) b.0 a.0)
     whole = ap₂ deeper a.2 b.2
+
     on : OnOneLine a.0 b.0
     on = line a.0 b.0 a.2 b.2
+
     equal : m ≡ n → a.0 ≡ b.0
     equal e = let x : slice_get paths n ≡ Some a.0 = subst (λ k. slice_get paths k ≡ Some a.0) e a.1 in let y : slice_get paths n ≡ Some b.0 = b.1 in cc
+
     go : (o : Bool) → ltb m n ≡ o → OptAt paths (deeper oa ob) (Some (cond o n m))
     go true e = (b.0, b.1, whole ∙ ap (λ o. Some (cond o b.0 a.0)) (lt-ltb (depth_of a.0) (depth_of b.0) (under (ltb-true m n e))))
       where
         up : m < n → IsAbove a.0 b.0
         up h = elim on [ inl u ↦ u | inr d ↦ absurd (omega (arith, above_le paths g n m b.0 a.0 b.1 a.1 d, h)) ]
+
         under : m < n → depth_of a.0 < depth_of b.0
         under h = apart (up h) (λ e. omega (arith, g.once m n a.0 a.1 (b.1 ∙ ap Some (sym e)), h))
           where
@@ -204,14 +213,19 @@ clock_meet paths g x y ks js cx cy ag one two e1 e2 p1 p2 t = go (nat_eq t (thre
   where
     j : MergesTo ks js (merged ks js)
     j = merged_joins ks js cx.rising cy.rising
+
     apart : nat_eq two.thread one.thread ≡ false
     apart = ap₂ nat_eq e2 e1 ∙ eq_apart (thread_of x) (thread_of y) ag.apart
+
     first : (k : ℕ) × (named one.thread (merged ks js) ≡ Some k)
     first = let m : (m : ℕ) × (named (thread_of x) ks ≡ Some m) = clock_names paths x ks cx in let b : (k : ℕ) × (best (named one.thread ks) (named one.thread js) ≡ Some k) = best_left m.0 (named one.thread ks) (named one.thread js) (ap (λ k. named k ks) e1 ∙ m.1) in (b.0, j.named_best one.thread ∙ b.1)
+
     second : (k : ℕ) × (named two.thread (merged ks js) ≡ Some k)
     second = let m : (m : ℕ) × (named (thread_of y) js ≡ Some m) = clock_names paths y js cy in let b : (k : ℕ) × (best (named two.thread ks) (named two.thread js) ≡ Some k) = best_right m.0 (named two.thread ks) (named two.thread js) (ap (λ k. named k js) e2 ∙ m.1) in (b.0, j.named_best two.thread ∙ b.1)
+
     whole : (o : Bool) → nat_eq t (thread_of x) ≡ o → (v : Bool) → nat_eq t (thread_of y) ≡ v → clock_of (sent x y) t ≡ cond o (Some (sent x y)) (cond v (Some (got x y)) (deeper (clock_of x t) (clock_of y t)))
     whole o e v f = ap₂ (λ a b. cond a (Some (sent x y)) (cond b (Some (got x y)) (deeper (clock_of x t) (clock_of y t)))) e f
+
     go : (o : Bool) → nat_eq t (thread_of x) ≡ o → (v : Bool) → nat_eq t (thread_of y) ≡ v → ClockAt (paths ++ ends x y) (sent x y) t (named t (map (marked one two) (merged ks js)))
     go true e v f =
         let n : named t (map (marked one two) (merged ks js)) ≡ Some one.path = ap (λ k. named k (map (marked one two) (merged ks js))) (eqb-true t (thread_of x) e ∙ sym e1) ∙ named_first one two first.0 (merged ks js) first.1 in
@@ -228,46 +242,57 @@ clock_other paths x y t None c = c
 clock_other paths x y t (Some m) c = c
 
 pub meet_new : (records : List PathRecord) (ticks : List Tick) → FitsAll records ticks → (spot1 spot2 : Spot) (e1 e2 p q : ℕ) (a b : PathRecord) (x y : Path) → slice_get records p ≡ Some a → slice_get (paths_of records) p ≡ Some x → slice_get records q ≡ Some b → slice_get (paths_of records) q ≡ Some y → Agrees x y → (one two : Tick) → one.thread ≡ a.thread → two.thread ≡ b.thread → one.path ≡ length records → two.path ≡ length records + 1
-  → (c : Stretch) → c.at ≡ length ticks → c.len ≡ length (map (marked one two) (merged (ticks_of ticks a.clock) (ticks_of ticks b.clock))) → Missing (paths_of records) (sent x y) → Missing (paths_of records) (got x y)
-  → AreNew records ticks (met_records (sender_record spot1 e1 a.thread p c) (receiver_record spot2 e2 b.thread q c)) (ends x y) (map (marked one two) (merged (ticks_of ticks a.clock) (ticks_of ticks b.clock)))
+    → (c : Stretch) → c.at ≡ length ticks → c.len ≡ length (map (marked one two) (merged (ticks_of ticks a.clock) (ticks_of ticks b.clock))) → Missing (paths_of records) (sent x y) → Missing (paths_of records) (got x y)
+    → AreNew records ticks (met_records (sender_record spot1 e1 a.thread p c) (receiver_record spot2 e2 b.thread q c)) (ends x y) (map (marked one two) (merged (ticks_of ticks a.clock) (ticks_of ticks b.clock)))
 meet_new records ticks kept spot1 spot2 e1 e2 p q a b x y ea ex eb ey ag one two t1 t2 p1 p2 c ca cl ms mg = record {
-    trees_are = append_assoc (paths_of records) (sent (path_at (paths_of records) p) (path_at (paths_of records) q) ∷ []) (other_end (last_of (paths_of records ++ (sent (path_at (paths_of records) p) (path_at (paths_of records) q) ∷ []))) ∷ [])
+  trees_are = append_assoc (paths_of records) (sent (path_at (paths_of records) p) (path_at (paths_of records) q) ∷ []) (other_end (last_of (paths_of records ++ (sent (path_at (paths_of records) p) (path_at (paths_of records) q) ∷ []))) ∷ [])
       ∙ ap (λ r. paths_of records ++ (sent (path_at (paths_of records) p) (path_at (paths_of records) q) ∷ (other_end r ∷ []))) (end_append (paths_of records) (sent (path_at (paths_of records) p) (path_at (paths_of records) q)))
       ∙ ap₂ (λ u v. paths_of records ++ ends u v) (got_or (paths_of records) p x (planted 0) ex) (got_or (paths_of records) q y (planted 0) ey);
-    shut = shut_append records ((sender_record spot1 e1 a.thread p c)) ((receiver_record spot2 e2 b.thread q c) ∷ []) refl;
-    fits = fit;
-    fresh = λ k z ez. new k z ez;
-    once = λ i j z ei ej. one_of i j z ei ej
-  }
+  shut = shut_append records ((sender_record spot1 e1 a.thread p c)) ((receiver_record spot2 e2 b.thread q c) ∷ []) refl;
+  fits = fit;
+  fresh = λ k z ez. new k z ez;
+  once = λ i j z ei ej. one_of i j z ei ej;
+}
   where
     fx : Fits (paths_of records) ticks p a x
     fx = kept.fits p a x ea ex
+
     fy : Fits (paths_of records) ticks q b y
     fy = kept.fits q b y eb ey
+
     cx : IsClocked (paths_of records) x (ticks_of ticks a.clock)
     cx = record { sound = fx.sound; rising = fx.rising; clock = fx.clock }
+
     cy : IsClocked (paths_of records) y (ticks_of ticks b.clock)
     cy = record { sound = fy.sound; rising = fy.rising; clock = fy.clock }
+
     last : ticks_of (ticks ++ map (marked one two) (merged (ticks_of ticks a.clock) (ticks_of ticks b.clock))) c ≡ map (marked one two) (merged (ticks_of ticks a.clock) (ticks_of ticks b.clock))
     last = stretch_last ticks (map (marked one two) (merged (ticks_of ticks a.clock) (ticks_of ticks b.clock))) c ca cl
+
     rise : AreRising (ticks_of (ticks ++ map (marked one two) (merged (ticks_of ticks a.clock) (ticks_of ticks b.clock))) c)
     rise = subst AreRising (sym last) (rising_marked one two (merged (ticks_of ticks a.clock) (ticks_of ticks b.clock)) (merged_joins (ticks_of ticks a.clock) (ticks_of ticks b.clock) fx.rising fy.rising).rising)
+
     clk : (t : ℕ) → ClockAt (paths_of records ++ ends x y) (sent x y) t (named t (ticks_of (ticks ++ map (marked one two) (merged (ticks_of ticks a.clock) (ticks_of ticks b.clock))) c))
     clk t = subst (λ ks. ClockAt (paths_of records ++ ends x y) (sent x y) t (named t ks)) (sym last) (clock_meet (paths_of records) (tidy records ticks (paths_of records) kept refl) x y (ticks_of ticks a.clock) (ticks_of ticks b.clock) cx cy ag one two (t1 ∙ sym fx.thread) (t2 ∙ sym fy.thread) (p1 ∙ sym (length_paths records)) (p2 ∙ ap (λ k. k + 1) (sym (length_paths records))) t)
+
     s_fit : Fits (paths_of records ++ ends x y) (ticks ++ map (marked one two) (merged (ticks_of ticks a.clock) (ticks_of ticks b.clock))) (length records) ((sender_record spot1 e1 a.thread p c)) (sent x y)
     s_fit = record { kind = (x, y, refl); up = (get_low records a p ea, x, get_old (paths_of records) (ends x y) x p ex, refl); thread = fx.thread; sound = (fx.sound, fy.sound, agree_by x y ag); within = within_last ticks (map (marked one two) (merged (ticks_of ticks a.clock) (ticks_of ticks b.clock))) c ca cl; rising = rise; clock = clk }
+
     g_fit : Fits (paths_of records ++ ends x y) (ticks ++ map (marked one two) (merged (ticks_of ticks a.clock) (ticks_of ticks b.clock))) (length records + 1) ((receiver_record spot2 e2 b.thread q c)) (got x y)
     g_fit = record { kind = (x, y, refl); up = (omega (arith, get_low records b q eb), y, get_old (paths_of records) (ends x y) y q ey, refl); thread = fy.thread; sound = (fx.sound, fy.sound, agree_by x y ag); within = within_last ticks (map (marked one two) (merged (ticks_of ticks a.clock) (ticks_of ticks b.clock))) c ca cl; rising = rise; clock = λ t. clock_other (paths_of records ++ ends x y) x y t (named t (ticks_of (ticks ++ map (marked one two) (merged (ticks_of ticks a.clock) (ticks_of ticks b.clock))) c)) (clk t) }
+
     fit : (k : ℕ) (n : PathRecord) (z : Path) → slice_get (met_records (sender_record spot1 e1 a.thread p c) (receiver_record spot2 e2 b.thread q c)) k ≡ Some n → slice_get (ends x y) k ≡ Some z → Fits (paths_of records ++ ends x y) (ticks ++ map (marked one two) (merged (ticks_of ticks a.clock) (ticks_of ticks b.clock))) (length records + k) n z
     fit zero n z en ez = let u : (sender_record spot1 e1 a.thread p c) ≡ n = cc in let v : sent x y ≡ z = cc in
-      subst (λ j. Fits (paths_of records ++ ends x y) (ticks ++ map (marked one two) (merged (ticks_of ticks a.clock) (ticks_of ticks b.clock))) j n z) (let e : length records ≡ length records + 0 = omega arith in e) (subst (λ j. Fits (paths_of records ++ ends x y) (ticks ++ map (marked one two) (merged (ticks_of ticks a.clock) (ticks_of ticks b.clock))) (length records) j z) u (subst (λ j. Fits (paths_of records ++ ends x y) (ticks ++ map (marked one two) (merged (ticks_of ticks a.clock) (ticks_of ticks b.clock))) (length records) ((sender_record spot1 e1 a.thread p c)) j) v s_fit))
+        subst (λ j. Fits (paths_of records ++ ends x y) (ticks ++ map (marked one two) (merged (ticks_of ticks a.clock) (ticks_of ticks b.clock))) j n z) (let e : length records ≡ length records + 0 = omega arith in e) (subst (λ j. Fits (paths_of records ++ ends x y) (ticks ++ map (marked one two) (merged (ticks_of ticks a.clock) (ticks_of ticks b.clock))) (length records) j z) u (subst (λ j. Fits (paths_of records ++ ends x y) (ticks ++ map (marked one two) (merged (ticks_of ticks a.clock) (ticks_of ticks b.clock))) (length records) ((sender_record spot1 e1 a.thread p c)) j) v s_fit))
     fit (suc zero) n z en ez = let u : (receiver_record spot2 e2 b.thread q c) ≡ n = cc in let v : got x y ≡ z = cc in
-      subst (λ j. Fits (paths_of records ++ ends x y) (ticks ++ map (marked one two) (merged (ticks_of ticks a.clock) (ticks_of ticks b.clock))) (length records + 1) j z) u (subst (λ j. Fits (paths_of records ++ ends x y) (ticks ++ map (marked one two) (merged (ticks_of ticks a.clock) (ticks_of ticks b.clock))) (length records + 1) ((receiver_record spot2 e2 b.thread q c)) j) v g_fit)
+        subst (λ j. Fits (paths_of records ++ ends x y) (ticks ++ map (marked one two) (merged (ticks_of ticks a.clock) (ticks_of ticks b.clock))) (length records + 1) j z) u (subst (λ j. Fits (paths_of records ++ ends x y) (ticks ++ map (marked one two) (merged (ticks_of ticks a.clock) (ticks_of ticks b.clock))) (length records + 1) ((receiver_record spot2 e2 b.thread q c)) j) v g_fit)
     fit (suc (suc k)) n z en ez = cc
+
     new : (k : ℕ) (z : Path) → slice_get (ends x y) k ≡ Some z → Missing (paths_of records) z
     new zero z ez = let v : sent x y ≡ z = cc in subst (Missing (paths_of records)) v ms
     new (suc zero) z ez = let v : got x y ≡ z = cc in subst (Missing (paths_of records)) v mg
     new (suc (suc k)) z ez = cc
+
     one_of : (i j : ℕ) (z : Path) → slice_get (ends x y) i ≡ Some z → slice_get (ends x y) j ≡ Some z → i ≡ j
     one_of zero zero z ei ej = refl
     one_of zero (suc zero) z ei ej = cc

@@ -52,6 +52,7 @@ parent_is paths once k p par l x y up e ex = by l up
   where
     some : (par < k) × (z : Path) × (slice_get paths par ≡ Some z) × (parent_of y ≡ Some z) → par ≡ p
     some (h, z, ez, pz) = once par p x (ez ∙ ap Some (some_same (parent_of y) z x pz e)) ex
+
     by : (l : Last) → HasParent paths k y (parent_number l par) → par ≡ p
     by Root u = let none : parent_of y ≡ None = u in cc
     by Left u = some u

@@ -103,7 +103,7 @@ partner w s r a b rx ry es eb ts tr e =
     let px : Begins (own_labels (got s r)) (view_of (thread_of r) w) = rx (got s r) (inl refl) in
     let py : Begins (own_labels (got a b)) (view_of (thread_of b) w) = ry (got a b) (inl refl) in
     let seen : own_labels r ++ (meeting (thread_of s) (thread_of r) ∷ px.0) ≡ own_labels b ++ (meeting (thread_of a) (thread_of b) ∷ py.0) =
-        sym (append_assoc (own_labels r) (meeting (thread_of s) (thread_of r) ∷ []) px.0) ∙ sym px.1 ∙ ap (λ n. view_of n w) tr ∙ py.1 ∙ append_assoc (own_labels b) (meeting (thread_of a) (thread_of b) ∷ []) py.0 in
+    sym (append_assoc (own_labels r) (meeting (thread_of s) (thread_of r) ∷ []) px.0) ∙ sym px.1 ∙ ap (λ n. view_of n w) tr ∙ py.1 ∙ append_assoc (own_labels b) (meeting (thread_of a) (thread_of b) ∷ []) py.0 in
     let first : touches (thread_of s) (meeting (thread_of s) (thread_of r)) ≡ true = touch_first (thread_of s) (thread_of r) in
     let second : touches (thread_of s) (meeting (thread_of a) (thread_of b)) ≡ true = subst (λ n. touches n (meeting (thread_of a) (thread_of b)) ≡ true) (sym ts) (touch_first (thread_of a) (thread_of b)) in
     let n1 : length (view_of (thread_of s) (own_labels (got s r))) ≡ suc (length (view_of (thread_of s) (own_labels r))) = told (thread_of s) (own_labels r) (meeting (thread_of s) (thread_of r)) first in
@@ -117,7 +117,7 @@ partner_back w s r a b rx ry es eb ts tr e =
     let px : Begins (own_labels (sent s r)) (view_of (thread_of s) w) = rx (sent s r) (inl refl) in
     let py : Begins (own_labels (sent a b)) (view_of (thread_of a) w) = ry (sent a b) (inl refl) in
     let seen : own_labels s ++ (meeting (thread_of s) (thread_of r) ∷ px.0) ≡ own_labels a ++ (meeting (thread_of a) (thread_of b) ∷ py.0) =
-        sym (append_assoc (own_labels s) (meeting (thread_of s) (thread_of r) ∷ []) px.0) ∙ sym px.1 ∙ ap (λ n. view_of n w) ts ∙ py.1 ∙ append_assoc (own_labels a) (meeting (thread_of a) (thread_of b) ∷ []) py.0 in
+    sym (append_assoc (own_labels s) (meeting (thread_of s) (thread_of r) ∷ []) px.0) ∙ sym px.1 ∙ ap (λ n. view_of n w) ts ∙ py.1 ∙ append_assoc (own_labels a) (meeting (thread_of a) (thread_of b) ∷ []) py.0 in
     let first : touches (thread_of r) (meeting (thread_of s) (thread_of r)) ≡ true = touch_second (thread_of s) (thread_of r) in
     let second : touches (thread_of r) (meeting (thread_of a) (thread_of b)) ≡ true = subst (λ n. touches n (meeting (thread_of a) (thread_of b)) ≡ true) (sym tr) (touch_second (thread_of a) (thread_of b)) in
     let n1 : length (view_of (thread_of r) (own_labels (sent s r))) ≡ suc (length (view_of (thread_of r) (own_labels s))) = told (thread_of r) (own_labels s) (meeting (thread_of s) (thread_of r)) first in
@@ -146,7 +146,7 @@ unique w (sent s r) (sent a b) sx sy kx ky rx ry e o =
     let tr : thread_of r ≡ thread_of b = let h : meeting (thread_of s) (thread_of r) ≡ meeting (thread_of a) (thread_of b) = last.1 in cc in
     let or : own_labels r ≡ own_labels b = partner w s r a b rx ry (kx s r (inl refl)) (ky a b (inl refl)) e tr o in
     ap₂ sent (unique w s a sx.0 sy.0 (λ i j h. kx i j (inr (inl h))) (λ i j h. ky i j (inr (inl h))) (λ z h. rx z (inr (inl h))) (λ z h. ry z (inr (inl h))) e last.0)
-        (unique w r b sx.1 sy.1 (λ i j h. kx i j (inr (inr h))) (λ i j h. ky i j (inr (inr h))) (λ z h. rx z (inr (inr h))) (λ z h. ry z (inr (inr h))) tr or)
+    (unique w r b sx.1 sy.1 (λ i j h. kx i j (inr (inr h))) (λ i j h. ky i j (inr (inr h))) (λ z h. rx z (inr (inr h))) (λ z h. ry z (inr (inr h))) tr or)
 unique w (sent s r) (got a b) sx sy kx ky rx ry e o =
     let h : meeting (thread_of s) (thread_of r) ≡ meeting (thread_of a) (thread_of b) = (last_same (own_labels s) (own_labels b) (meeting (thread_of s) (thread_of r)) (meeting (thread_of a) (thread_of b)) o).1 in
     let ts : thread_of s ≡ thread_of a = cc in
@@ -162,4 +162,4 @@ unique w (got s r) (got a b) sx sy kx ky rx ry e o =
     let ts : thread_of s ≡ thread_of a = let h : meeting (thread_of s) (thread_of r) ≡ meeting (thread_of a) (thread_of b) = last.1 in cc in
     let os : own_labels s ≡ own_labels a = partner_back w s r a b rx ry (kx s r (inl refl)) (ky a b (inl refl)) ts e o in
     ap₂ got (unique w s a sx.0 sy.0 (λ i j h. kx i j (inr (inl h))) (λ i j h. ky i j (inr (inl h))) (λ z h. rx z (inr (inl h))) (λ z h. ry z (inr (inl h))) ts os)
-        (unique w r b sx.1 sy.1 (λ i j h. kx i j (inr (inr h))) (λ i j h. ky i j (inr (inr h))) (λ z h. rx z (inr (inr h))) (λ z h. ry z (inr (inr h))) e last.0)
+    (unique w r b sx.1 sy.1 (λ i j h. kx i j (inr (inr h))) (λ i j h. ky i j (inr (inr h))) (λ z h. rx z (inr (inr h))) (λ z h. ry z (inr (inr h))) e last.0)

@@ -145,12 +145,12 @@ team_line g ps team x y hx hy t = go (pasts_true ps (move_of x) hx) (pasts_true 
 
 abbrev pub joined : (g : List Member) (ps : List Path) → Agreeing g ps → Together g
 joined g ps team = record {
-    has = any_rests_on ps;
-    closed = λ m k h r. (let a : (p : Path) × Holds ps p × RestsOn m p = pasts_true ps m h in true_pasts ps a.0 k a.1 (rests_trans k m a.0 r a.2));
-    lines = λ x y hx hy t. team_line g ps team x y hx hy t;
-    fits = λ x h. fitting x (pasts_true ps (move_of x) h);
-    sound = λ m h. (let a : (p : Path) × Holds ps p × RestsOn m p = pasts_true ps m h in sound_past a.0 m (team.sounds a.0 a.1) a.2)
-  }
+  has = any_rests_on ps;
+  closed = λ m k h r. (let a : (p : Path) × Holds ps p × RestsOn m p = pasts_true ps m h in true_pasts ps a.0 k a.1 (rests_trans k m a.0 r a.2));
+  lines = λ x y hx hy t. team_line g ps team x y hx hy t;
+  fits = λ x h. fitting x (pasts_true ps (move_of x) h);
+  sound = λ m h. (let a : (p : Path) × Holds ps p × RestsOn m p = pasts_true ps m h in sound_past a.0 m (team.sounds a.0 a.1) a.2);
+}
   where
     fitting : (x : Path) → (p : Path) × Holds ps p × RestsOn (move_of x) p → (e : Member) × (state_of g x ≡ Some e)
     fitting x a = fits_past g a.0 x (team.states a.0 a.1) a.2
@@ -199,20 +199,25 @@ one_chain g store ps made team there =
       leaves = λ x hx low. leaving all x (placed all x hx low ((all.ats (thread_of x)).top x refl hx (old x (pasts_true ps (move_of x) hx))));
       untouched = λ t free. rest all t free (all.ats t).place refl;
       within = λ x hx. deep all x (all.ats (thread_of x)).place refl ((all.ats (thread_of x)).top x refl hx (old x (pasts_true ps (move_of x) hx)));
-      shape = λ t. shaped all t (all.ats t).place refl
+      shape = λ t. shaped all t (all.ats t).place refl;
     }
   where
     placed : (all : Goes_on g (joined g ps team) (with_moves [] store) g [] (labels_of (any_rests_on ps) store)) (x : Path) → any_rests_on ps (move_of x) ≡ true → ((z : Path) → any_rests_on ps (move_of z) ≡ true → thread_of z ≡ thread_of x → IsAbove z x) → (z : Path) × ((all.ats (thread_of x)).place ≡ Some z) × IsAbove x z → (all.ats (thread_of x)).place ≡ Some x
     placed all x hx low (z, e, up) = e ∙ ap Some (above_both z x (low z ((all.ats (thread_of x)).sits z e).1 ((all.ats (thread_of x)).sits z e).0) up)
+
     leaving : (all : Goes_on g (joined g ps team) (with_moves [] store) g [] (labels_of (any_rests_on ps) store)) (p : Path) → (all.ats (thread_of p)).place ≡ Some p → (member_of (thread_of p) all.chain.end ≡ state_of g p) × (view_of (thread_of p) (labels_of (any_rests_on ps) store) ≡ own_labels p)
     leaving all p e = ((all.ats (thread_of p)).stands ∙ ap (stands_at g (thread_of p)) e, (all.ats (thread_of p)).told ∙ ap owned_by e)
+
     rest : (all : Goes_on g (joined g ps team) (with_moves [] store) g [] (labels_of (any_rests_on ps) store)) (t : ℕ) → ((x : Path) → thread_of x ≡ t → any_rests_on ps (move_of x) ≡ true → ⊥) → (o : Option Path) → (all.ats t).place ≡ o → member_of t all.chain.end ≡ member_of t g
     rest all t free None e = (all.ats t).stands ∙ ap (stands_at g t) e
     rest all t free (Some z) e = absurd ((free z ((all.ats t).sits z e).0 ((all.ats t).sits z e).1))
+
     deep : (all : Goes_on g (joined g ps team) (with_moves [] store) g [] (labels_of (any_rests_on ps) store)) (x : Path) (o : Option Path) → (all.ats (thread_of x)).place ≡ o → (z : Path) × ((all.ats (thread_of x)).place ≡ Some z) × IsAbove x z → (c : List Label) × (view_of (thread_of x) (labels_of (any_rests_on ps) store) ≡ own_labels x ++ c)
     deep all x o e (z, k, up) = let b : (c : List Label) × (own_labels z ≡ own_labels x ++ c) = above_own x z up in (b.0, (all.ats (thread_of x)).told ∙ ap owned_by k ∙ b.1)
+
     old : (x : Path) → (p : Path) × Holds ps p × RestsOn (move_of x) p → Holds (with_moves [] store) (move_of x)
     old x (p, hp, r) = store_shut store made (move_of p) (move_of x) (there p hp) (rests_made (move_of x) p r)
+
     shaped : (all : Goes_on g (joined g ps team) (with_moves [] store) g [] (labels_of (any_rests_on ps) store)) (t : ℕ) (o : Option Path) → (all.ats t).place ≡ o → (view_of t (labels_of (any_rests_on ps) store) ≡ []) ⊎ ((z : Path) × (thread_of z ≡ t) × (any_rests_on ps (move_of z) ≡ true) × (view_of t (labels_of (any_rests_on ps) store) ≡ own_labels z))
     shaped all t None e = inl ((all.ats t).told ∙ ap owned_by e)
     shaped all t (Some z) e = inr (z, ((all.ats t).sits z e).0, ((all.ats t).sits z e).1, (all.ats t).told ∙ ap owned_by e)

@@ -44,6 +44,7 @@ rests_not paths sound p i t thread is x y ex ey = ((λ a. absurd (not_true a)), 
   where
     not_true : IsTrue false → ⊥
     not_true a = cc
+
     none : (d : Path) × (clock_of x (thread_of y) ≡ Some d) × IsAbove y d → ⊥
     none (d, kd, up) = let a : clock_of x t ≡ None = is x ex in let b : clock_of x t ≡ Some d = ap (clock_of x) (sym (thread y ey)) ∙ kd in cc
 
@@ -89,11 +90,13 @@ mate_there records ticks fit pairs i n en e = go (get_some (paths_of records) i 
   where
     kind : (y : Path) → slice_get (paths_of records) i ≡ Some y → (s : Path) × (r : Path) × (y ≡ sent s r)
     kind y ey = subst (λ k. IsMadeBy k y) e (fit.fits i n y en ey).kind
+
     go : (y : Path) × (slice_get (paths_of records) i ≡ Some y) → Mate records i
     go (y, ey) = record { low = low (kind y ey); tells = λ z m t ez em same. told z m t (kind z ez) ez em same }
       where
         low : (s : Path) × (r : Path) × (y ≡ sent s r) → suc i < length records
         low (s, r, is) = omega (arith, get_low (paths_of records) (got s r) (suc i) (pairs i s r (ey ∙ ap Some is)), length_paths records)
+
         told : (z : Path) (m : PathRecord) (t : ℕ) → (s : Path) × (r : Path) × (z ≡ sent s r) → slice_get (paths_of records) i ≡ Some z → slice_get records (suc i) ≡ Some m → thread_of z ≡ t → meeting t m.thread ∷ [] ≡ labels_of_move z
         told z m t (s, r, is) ez em same =
             let other : Fits (paths_of records) ticks (suc i) m (got s r) = fit.fits (suc i) m (got s r) em (pairs i s r (ez ∙ ap Some is)) in

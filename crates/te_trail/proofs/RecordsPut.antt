@@ -45,7 +45,7 @@ fit_wide paths more ticks new k n x f =
       sound = f.sound;
       within = omega (arith, f.within, length-append ticks new);
       rising = subst AreRising (sym s) f.rising;
-      clock = λ t. subst (λ ks. ClockAt (paths ++ more) x t (named t ks)) (sym s) (clock_wide paths more x t (named t (ticks_of ticks n.clock)) (f.clock t))
+      clock = λ t. subst (λ ks. ClockAt (paths ++ more) x t (named t ks)) (sym s) (clock_wide paths more x t (named t (ticks_of ticks n.clock)) (f.clock t));
     }
 
 -- the last stretch
@@ -69,19 +69,24 @@ pub record AreNew (records : List PathRecord) (ticks : List Tick) (ns : List Pat
   pub once : (i j : ℕ) (x : Path) → slice_get xs i ≡ Some x → slice_get xs j ≡ Some x → i ≡ j
 
 pub kept_push : (records : List PathRecord) (ticks : List Tick) (ns : List PathRecord) (xs : List Path) (out : List Tick) → FitsAll records ticks → AreNew records ticks ns xs out → (paths_of (records ++ ns) ≡ paths_of records ++ xs) × FitsAll (records ++ ns) (ticks ++ out)
-kept_push records ticks ns xs out kept new = (whole, record {
+kept_push records ticks ns xs out kept new = (
+  whole,
+  record {
     shut = new.shut;
     fits = λ k n x en ex. subst (λ q. Fits q (ticks ++ out) k n x) (sym whole) (fit k n x (get_which records ns n k en) (get_which (paths_of records) xs x k (subst (λ q. slice_get q k ≡ Some x) whole ex)));
-    once = λ i j x ei ej. one i j x (get_which (paths_of records) xs x i (subst (λ q. slice_get q i ≡ Some x) whole ei)) (get_which (paths_of records) xs x j (subst (λ q. slice_get q j ≡ Some x) whole ej))
-  })
+    once = λ i j x ei ej. one i j x (get_which (paths_of records) xs x i (subst (λ q. slice_get q i ≡ Some x) whole ei)) (get_which (paths_of records) xs x j (subst (λ q. slice_get q j ≡ Some x) whole ej));
+  },
+)
   where
     whole : paths_of (records ++ ns) ≡ paths_of records ++ xs
     whole = trees_append records ns kept.shut ∙ new.trees_are
+
     fit : (k : ℕ) (n : PathRecord) (x : Path) → (slice_get records k ≡ Some n) ⊎ ((j : ℕ) × (k ≡ length records + j) × (slice_get ns j ≡ Some n)) → (slice_get (paths_of records) k ≡ Some x) ⊎ ((j : ℕ) × (k ≡ length (paths_of records) + j) × (slice_get xs j ≡ Some x)) → Fits (paths_of records ++ xs) (ticks ++ out) k n x
     fit k n x (inl a) (inl b) = fit_wide (paths_of records) xs ticks out k n x (kept.fits k n x a b)
     fit k n x (inl a) (inr b) = absurd (omega (arith, get_low records n k a, length_paths records, b.1))
     fit k n x (inr a) (inl b) = absurd (omega (arith, get_low (paths_of records) x k b, length_paths records, a.1))
     fit k n x (inr a) (inr b) = let same : a.0 ≡ b.0 = omega (arith, a.1, b.1, length_paths records) in subst (λ m. Fits (paths_of records ++ xs) (ticks ++ out) m n x) (sym a.1) (new.fits a.0 n x a.2 (subst (λ j. slice_get xs j ≡ Some x) (sym same) b.2))
+
     one : (i j : ℕ) (x : Path) → (slice_get (paths_of records) i ≡ Some x) ⊎ ((k : ℕ) × (i ≡ length (paths_of records) + k) × (slice_get xs k ≡ Some x)) → (slice_get (paths_of records) j ≡ Some x) ⊎ ((k : ℕ) × (j ≡ length (paths_of records) + k) × (slice_get xs k ≡ Some x)) → i ≡ j
     one i j x (inl a) (inl b) = kept.once i j x a b
     one i j x (inl a) (inr b) = absurd (new.fresh b.0 x b.2 i a)
@@ -158,30 +163,32 @@ beside_joins go x xs rx ih (y ∷ ys) rj = elim (order x.thread y.thread) [ inl 
   where
     lower : ltb x.thread y.thread ≡ true → x.thread < y.thread → MergesTo xs (y ∷ ys) (go (y ∷ ys)) → MergesTo (x ∷ xs) (y ∷ ys) (beside go x xs (y ∷ ys))
     lower e h j = subst (MergesTo (x ∷ xs) (y ∷ ys)) (sym (ap (λ o. cond o (x ∷ go (y ∷ ys)) (cond (ltb y.thread x.thread) (y ∷ beside go x xs ys) (later x y ∷ go ys))) e)) (record {
-        rising = (j.beyond x.thread rx.0 (h, beyond_wide x.thread y.thread ys (omega (arith, h)) rj.0), j.rising);
-        beyond = λ t b c. (b.0, j.beyond t b.1 c);
-        named_best = λ t. at t (nat_eq t x.thread) refl
-      })
+      rising = (j.beyond x.thread rx.0 (h, beyond_wide x.thread y.thread ys (omega (arith, h)) rj.0), j.rising);
+      beyond = λ t b c. (b.0, j.beyond t b.1 c);
+      named_best = λ t. at t (nat_eq t x.thread) refl;
+    })
       where
         at : (t : ℕ) (o : Bool) → nat_eq t x.thread ≡ o → cond o (Some x.path) (named t (go (y ∷ ys))) ≡ best (cond o (Some x.path) (named t xs)) (named t (y ∷ ys))
         at t true w = best_first (named t (y ∷ ys)) x.path (named_beyond x.thread t (y ∷ ys) (h, beyond_wide x.thread y.thread ys (omega (arith, h)) rj.0) (omega (arith, eqb-true t x.thread w)))
         at t false w = j.named_best t
+
     higher : ltb x.thread y.thread ≡ false → ltb y.thread x.thread ≡ true → y.thread < x.thread → MergesTo (x ∷ xs) ys (beside go x xs ys) → MergesTo (x ∷ xs) (y ∷ ys) (beside go x xs (y ∷ ys))
     higher e f h j = subst (MergesTo (x ∷ xs) (y ∷ ys)) (sym (ap (λ o. cond o (x ∷ go (y ∷ ys)) (cond (ltb y.thread x.thread) (y ∷ beside go x xs ys) (later x y ∷ go ys))) e ∙ ap (λ o. cond o (y ∷ beside go x xs ys) (later x y ∷ go ys)) f)) (record {
-        rising = (j.beyond y.thread (h, beyond_wide y.thread x.thread xs (omega (arith, h)) rx.0) rj.0, j.rising);
-        beyond = λ t b c. (c.0, j.beyond t b c.1);
-        named_best = λ t. at t (nat_eq t y.thread) refl
-      })
+      rising = (j.beyond y.thread (h, beyond_wide y.thread x.thread xs (omega (arith, h)) rx.0) rj.0, j.rising);
+      beyond = λ t b c. (c.0, j.beyond t b c.1);
+      named_best = λ t. at t (nat_eq t y.thread) refl;
+    })
       where
         at : (t : ℕ) (o : Bool) → nat_eq t y.thread ≡ o → cond o (Some y.path) (named t (beside go x xs ys)) ≡ best (named t (x ∷ xs)) (cond o (Some y.path) (named t ys))
         at t true w = best_second (named t (x ∷ xs)) (Some y.path) (named_beyond y.thread t (x ∷ xs) (h, beyond_wide y.thread x.thread xs (omega (arith, h)) rx.0) (omega (arith, eqb-true t y.thread w)))
         at t false w = j.named_best t
+
     both : ltb x.thread y.thread ≡ false → ltb y.thread x.thread ≡ false → x.thread ≡ y.thread → MergesTo xs ys (go ys) → MergesTo (x ∷ xs) (y ∷ ys) (beside go x xs (y ∷ ys))
     both e f same j = subst (MergesTo (x ∷ xs) (y ∷ ys)) (sym (ap (λ o. cond o (x ∷ go (y ∷ ys)) (cond (ltb y.thread x.thread) (y ∷ beside go x xs ys) (later x y ∷ go ys))) e ∙ ap (λ o. cond o (y ∷ beside go x xs ys) (later x y ∷ go ys)) f)) (record {
-        rising = (subst (λ n. AreBeyond n (go ys)) (sym (later_thread x y same)) (j.beyond x.thread rx.0 (subst (λ n. AreBeyond n ys) (sym same) rj.0)), j.rising);
-        beyond = λ t b c. (subst (λ n. t < n) (sym (later_thread x y same)) b.0, j.beyond t b.1 c.1);
-        named_best = λ t. ap (λ n. cond (nat_eq t n) (Some (later x y).path) (named t (go ys))) (later_thread x y same) ∙ at t (nat_eq t x.thread) refl ∙ ap (λ n. best (cond (nat_eq t x.thread) (Some x.path) (named t xs)) (cond (nat_eq t n) (Some y.path) (named t ys))) same
-      })
+      rising = (subst (λ n. AreBeyond n (go ys)) (sym (later_thread x y same)) (j.beyond x.thread rx.0 (subst (λ n. AreBeyond n ys) (sym same) rj.0)), j.rising);
+      beyond = λ t b c. (subst (λ n. t < n) (sym (later_thread x y same)) b.0, j.beyond t b.1 c.1);
+      named_best = λ t. ap (λ n. cond (nat_eq t n) (Some (later x y).path) (named t (go ys))) (later_thread x y same) ∙ at t (nat_eq t x.thread) refl ∙ ap (λ n. best (cond (nat_eq t x.thread) (Some x.path) (named t xs)) (cond (nat_eq t n) (Some y.path) (named t ys))) same;
+    })
       where
         at : (t : ℕ) (o : Bool) → nat_eq t x.thread ≡ o → cond o (Some (later x y).path) (named t (go ys)) ≡ best (cond o (Some x.path) (named t xs)) (cond o (Some y.path) (named t ys))
         at t true w = best_both x.path y.path (later x y).path (later_path x y)

@@ -82,22 +82,27 @@ pub record Handed (e f : Planned) (c0 c1 c2 : Cells) (s s2 r r2 : Spot) (v : Lis
 
 pub both_met : (events : List Planned) (e f : Planned) (c0 c1 c2 : Cells) (i j : ℕ) (s s2 r r2 : Spot) (k : ℕ) (v : List Atom) (a b : Member) → slice_get events i ≡ Some e → slice_get events j ≡ Some f → Spells events c0 i s a → Spells events c0 j r b → (face : FaceEachOther a b) → s.stop ≡ stops.Send k v → Handed e f c0 c1 c2 s s2 r r2 v → BothMet events c2 i s2 j r2 a b
 both_met events e f c0 c1 c2 i j s s2 r r2 k v a b ae af sa sb face stop h = record {
-    ends = record { sender = at_term a (with_head (giving []) a.term); receiver = at_term b (with_head (giving face.message.value) b.term) };
-    meeting = rw (face.sends, face.receives, eq_same face.message.channel) refl;
-    sender = record { event = e; is_event = ae; is_spot = spot_grown (origin_at e) c1 c2 s2 h.second h.sender; spells = spelled_grown (origin_at e) c1 c2 s2 h.second h.sender ∙ sym first };
-    receiver = record { event = f; is_event = af; is_spot = h.receiver; spells = sym second };
-  }
+  ends = record { sender = at_term a (with_head (giving []) a.term); receiver = at_term b (with_head (giving face.message.value) b.term) };
+  meeting = rw (face.sends, face.receives, eq_same face.message.channel) refl;
+  sender = record { event = e; is_event = ae; is_spot = spot_grown (origin_at e) c1 c2 s2 h.second h.sender; spells = spelled_grown (origin_at e) c1 c2 s2 h.second h.sender ∙ sym first };
+  receiver = record { event = f; is_event = af; is_spot = h.receiver; spells = sym second };
+}
   where
     at_s : SpellsAt e c0 s a
     at_s = spells_at events c0 i s a e sa ae
+
     at_r : SpellsAt f c0 r b
     at_r = spells_at events c0 j r b f sb af
+
     value : v ≡ face.message.value
     value = let z : stops.Send k v ≡ stops.Send face.message.channel face.message.value = sym stop ∙ send_stop events c0 i s a face.message sa face.sends in cc
+
     first : settled (at_term a (with_head (giving []) a.term)) ≡ spelled (origin_at e) c1 s2
     first = sent_end a (spelled (origin_at e) c1 s2) face.message face.sends (subst (λ z. StepsTo z (after_sending z.term) (spelled (origin_at e) c1 s2)) at_s.spells h.sends)
+
     in_between : spelled (origin_at f) c1 r ≡ b
     in_between = spelled_grown (origin_at f) c0 c1 r h.first at_r.is_spot ∙ at_r.spells
+
     second : settled (at_term b (with_head (giving face.message.value) b.term)) ≡ spelled (origin_at f) c2 r2
     second = ap (λ w. settled (at_term b (with_head (giving w) b.term))) (sym value) ∙ got_end b (spelled (origin_at f) c2 r2) v face.message.channel face.receives (subst (λ z. StepsTo z (after_receiving v z.term) (spelled (origin_at f) c2 r2)) in_between h.receives)
 

@@ -34,15 +34,16 @@ place_held (y ∷ xs) x (inr h) = let r : (k : ℕ) × (slice_get xs k ≡ Some 
 
 pub is_store : (events : List Planned) (cells : Cells) (records : List PathRecord) (ticks : List Tick) → IsKept events cells records ticks → IsStore (members_of events) (paths_of records)
 is_store events cells records ticks kept = record {
-    made = kept.made;
-    sound = λ x h. sound x (place_held (paths_of records) x h);
-    state = λ x h. state x (place_held (paths_of records) x h);
-    once = kept.fit.once;
-    pairs = kept.pairs;
-  }
+  made = kept.made;
+  sound = λ x h. sound x (place_held (paths_of records) x h);
+  state = λ x h. state x (place_held (paths_of records) x h);
+  once = kept.fit.once;
+  pairs = kept.pairs;
+}
   where
     sound : (x : Path) → (k : ℕ) × (slice_get (paths_of records) k ≡ Some x) → IsSound x
     sound x (k, e) = let n : (n : PathRecord) × (slice_get records k ≡ Some n) = node_at records k x e in (kept.fit.fits k n.0 x n.1 e).sound
+
     state : (x : Path) → (k : ℕ) × (slice_get (paths_of records) k ≡ Some x) → HasState (members_of events) x
     state x (k, e) = let n : (n : PathRecord) × (slice_get records k ≡ Some n) = node_at records k x e in let s : Stands events cells n.0 x = kept.stands k n.0 x n.1 e in (s.member, s.state)
 
@@ -57,9 +58,11 @@ tells_chain g paths store p q answer tells x y ex ey = ((λ t. there ((tells x y
   where
     there : Agrees x y → HaveOneChain g x y
     there a = ((agree_by x y a).apart, agree_together g paths store x y (held paths p x ex) (held paths q y ey) a)
+
     apart : (o : Bool) → nat_eq (thread_of x) (thread_of y) ≡ o → (thread_of x ≡ thread_of y → ⊥) → nat_eq (thread_of x) (thread_of y) ≡ false
     apart true e ne = absurd (ne (eqb-true (thread_of x) (thread_of y) e))
     apart false e ne = e
+
     back : HaveOneChain g x y → Agrees x y
     back (ne, c) = together_agree g paths store x y (held paths p x ex) (held paths q y ey) (apart (nat_eq (thread_of x) (thread_of y)) refl ne) c
 
@@ -82,18 +85,21 @@ pub record Standing (events : List Planned) (records : List PathRecord) (p : ℕ
 
 pub standing : (events : List Planned) (cells : Cells) (records : List PathRecord) (ticks : List Tick) → IsKept events cells records ticks → (p : ℕ) (n : PathRecord) → slice_get records p ≡ Some n → Standing events records p n
 standing events cells records ticks kept p n en = record {
-    path = x.0;
-    is_path = x.1;
-    left = λ y ey. leaves y (kept.stands p n y en ey) ey;
-    only = λ y m stop ey sm st. one y m stop (kept.stands p n y en ey) sm st;
-  }
+  path = x.0;
+  is_path = x.1;
+  left = λ y ey. leaves y (kept.stands p n y en ey) ey;
+  only = λ y m stop ey sm st. one y m stop (kept.stands p n y en ey) sm st;
+}
   where
     x : (x : Path) × (slice_get (paths_of records) p ≡ Some x)
     x = get_some (paths_of records) p (omega (arith, get_low records n p en, length_paths records))
+
     stands : (y : Path) (s : Stands events cells n y) → StandsAt s.member.term n.spot.stop
     stands y s = subst (λ m. StandsAt m.term n.spot.stop) s.spot.spells s.spot.is_spot.stands
+
     leaves : (y : Path) → Stands events cells n y → slice_get (paths_of records) p ≡ Some y → (m : Member) × IsLeft (members_of events) (paths_of records) y m × StandsAt m.term n.spot.stop
     leaves y s ey = (s.member, is_left (members_of events) (paths_of records) (is_store events cells records ticks kept) p y s.member ey s.state (subst IsSettled s.spot.spells s.spot.is_spot.settled), stands y s)
+
     one : (y : Path) (m : Member) (stop : Stop) (s : Stands events cells n y) → state_of (members_of events) y ≡ Some m → StandsAt m.term stop → n.spot.stop ≡ stop
     one y m stop s sm st = same_stop s.member.term n.spot.stop stop (stands y s) (subst (λ z. StandsAt z.term stop) (one_state (members_of events) y m s.member sm s.state) st)
 

@@ -62,19 +62,19 @@ marked_grown events c c2 records ticks m grows k =
 
 pub whole_grown : (events : List Planned) (c c2 : Cells) (records : List PathRecord) (ticks : List Tick) (marks : List StoreMark) → Grows c c2 → IsWhole events c records ticks marks → IsWhole events c2 records ticks marks
 whole_grown events c c2 records ticks marks grows w = record {
-    kept = kept_grown events c c2 records ticks grows w.kept;
-    few = w.few;
-    marked = λ i m e. marked_grown events c c2 records ticks m grows (w.marked i m e);
-    rising = λ i j m l ei ej h. later m l (w.marked i m ei) (w.marked j l ej) (w.rising i j m l ei ej h);
-  }
+  kept = kept_grown events c c2 records ticks grows w.kept;
+  few = w.few;
+  marked = λ i m e. marked_grown events c c2 records ticks m grows (w.marked i m e);
+  rising = λ i j m l ei ej h. later m l (w.marked i m ei) (w.marked j l ej) (w.rising i j m l ei ej h);
+}
   where
     later : (m l : StoreMark) → IsMarked events c records ticks m → IsMarked events c records ticks l → IsEarlier c m l → IsEarlier c2 m l
     later m l a b r = record {
-        events = r.events;
-        paths = r.paths;
-        ticks = r.ticks;
-        of_cells = subst (λ z. Grows z (cut_to l.cells c2)) (sym (cut_grown c c2 m.cells grows a.of_cells a.grown)) (subst (Grows (cut_to m.cells c)) (sym (cut_grown c c2 l.cells grows b.of_cells b.grown)) r.of_cells);
-      }
+      events = r.events;
+      paths = r.paths;
+      ticks = r.ticks;
+      of_cells = subst (λ z. Grows z (cut_to l.cells c2)) (sym (cut_grown c c2 m.cells grows a.of_cells a.grown)) (subst (Grows (cut_to m.cells c)) (sym (cut_grown c c2 l.cells grows b.of_cells b.grown)) r.of_cells);
+    }
 
 -- ---- more events
 
@@ -87,18 +87,18 @@ stands_put events new c n x st = record {
 
 pub whole_put : (events : List Planned) (new : Planned) (c : Cells) (records : List PathRecord) (ticks : List Tick) (marks : List StoreMark) → new.root < length new.code.value → member_of new.thread (members_of events) ≡ None → IsWhole events c records ticks marks → IsWhole (events ++ (new ∷ [])) c records ticks marks
 whole_put events new c records ticks marks low none w = record {
-    kept = record {
-      fit = w.kept.fit;
-      made = w.kept.made;
-      pairs = w.kept.pairs;
-      stands = λ i n x en ex. stands_put events new c n x (w.kept.stands i n x en ex);
-      events_are = events_put events new w.kept.events_are low none;
-      linked = w.kept.linked;
-    };
-    few = w.few;
-    marked = λ i m e. put m (w.marked i m e);
-    rising = w.rising;
-  }
+  kept = record {
+    fit = w.kept.fit;
+    made = w.kept.made;
+    pairs = w.kept.pairs;
+    stands = λ i n x en ex. stands_put events new c n x (w.kept.stands i n x en ex);
+    events_are = events_put events new w.kept.events_are low none;
+    linked = w.kept.linked;
+  };
+  few = w.few;
+  marked = λ i m e. put m (w.marked i m e);
+  rising = w.rising;
+}
   where
     put : (m : StoreMark) → IsMarked events c records ticks m → IsMarked (events ++ (new ∷ [])) c records ticks m
     put m k = record {
@@ -119,14 +119,14 @@ made_append moves (x ∷ xs) ys a b = (a.0, made_append (with_move moves x) xs y
 
 marked_pushed : (events : List Planned) (c : Cells) (records : List PathRecord) (ticks : List Tick) (ns : List PathRecord) (xs : List Path) (out : List Tick) (m : StoreMark) → paths_of (records ++ ns) ≡ paths_of records ++ xs → IsMarked events c records ticks m → IsMarked events c (records ++ ns) (ticks ++ out) m
 marked_pushed events c records ticks ns xs out m whole k = record {
-    events_low = k.events_low;
-    paths_low = omega (arith, k.paths_low, length-append records ns);
-    ticks_low = omega (arith, k.ticks_low, length-append ticks out);
-    of_cells = k.of_cells;
-    grown = k.grown;
-    kept = subst (λ z. IsKept (take m.events events) (cut_to m.cells c) z (take m.ticks (ticks ++ out))) (sym same) (subst (IsKept (take m.events events) (cut_to m.cells c) (take m.paths records)) (sym (take-append-le m.ticks ticks out k.ticks_low)) k.kept);
-    seen = ap paths_of same ∙ k.seen ∙ sym (ap (take m.paths) whole ∙ take-append-le m.paths (paths_of records) xs (omega (arith, k.paths_low, length_paths records)));
-  }
+  events_low = k.events_low;
+  paths_low = omega (arith, k.paths_low, length-append records ns);
+  ticks_low = omega (arith, k.ticks_low, length-append ticks out);
+  of_cells = k.of_cells;
+  grown = k.grown;
+  kept = subst (λ z. IsKept (take m.events events) (cut_to m.cells c) z (take m.ticks (ticks ++ out))) (sym same) (subst (IsKept (take m.events events) (cut_to m.cells c) (take m.paths records)) (sym (take-append-le m.ticks ticks out k.ticks_low)) k.kept);
+  seen = ap paths_of same ∙ k.seen ∙ sym (ap (take m.paths) whole ∙ take-append-le m.paths (paths_of records) xs (omega (arith, k.paths_low, length_paths records)));
+}
   where
     same : take m.paths (records ++ ns) ≡ take m.paths records
     same = take-append-le m.paths records ns k.paths_low
@@ -140,7 +140,9 @@ pub record AreAdded (events : List Planned) (c : Cells) (records : List PathReco
   pub few : length records + length ns < 4294967296
 
 pub whole_pushed : (events : List Planned) (c : Cells) (records : List PathRecord) (ticks : List Tick) (marks : List StoreMark) (ns : List PathRecord) (xs : List Path) (out : List Tick) → IsWhole events c records ticks marks → AreAdded events c records ticks ns xs out → (paths_of (records ++ ns) ≡ paths_of records ++ xs) × IsWhole events c (records ++ ns) (ticks ++ out) marks
-whole_pushed events c records ticks marks ns xs out w added = (f.0, record {
+whole_pushed events c records ticks marks ns xs out w added = (
+  f.0,
+  record {
     kept = record {
       fit = f.1;
       made = subst (AreMade []) (sym f.0) (made_append [] (paths_of records) xs w.kept.made added.made);
@@ -152,13 +154,16 @@ whole_pushed events c records ticks marks ns xs out w added = (f.0, record {
     few = omega (arith, added.few, length-append records ns);
     marked = λ i m e. marked_pushed events c records ticks ns xs out m f.0 (w.marked i m e);
     rising = w.rising;
-  })
+  },
+)
   where
     f : (paths_of (records ++ ns) ≡ paths_of records ++ xs) × FitsAll (records ++ ns) (ticks ++ out)
     f = kept_push records ticks ns xs out w.kept.fit added.new
+
     pair : (k : ℕ) (s r : Path) → (slice_get (paths_of records) k ≡ Some (sent s r)) ⊎ ((j : ℕ) × (k ≡ length (paths_of records) + j) × (slice_get xs j ≡ Some (sent s r))) → slice_get (paths_of records ++ xs) (suc k) ≡ Some (got s r)
     pair k s r (inl a) = get_old (paths_of records) xs (got s r) (suc k) (w.kept.pairs k s r a)
     pair k s r (inr a) = ap (slice_get (paths_of records ++ xs)) (let e : suc k ≡ length (paths_of records) + suc a.0 = omega (arith, a.1) in e) ∙ get_new (paths_of records) xs (suc a.0) ∙ added.pairs a.0 s r a.2
+
     stand : (k : ℕ) (n : PathRecord) (x : Path) → (slice_get records k ≡ Some n) ⊎ ((j : ℕ) × (k ≡ length records + j) × (slice_get ns j ≡ Some n)) → (slice_get (paths_of records) k ≡ Some x) ⊎ ((j : ℕ) × (k ≡ length (paths_of records) + j) × (slice_get xs j ≡ Some x)) → Stands events c n x
     stand k n x (inl a) (inl b) = w.kept.stands k n x a b
     stand k n x (inl a) (inr b) = absurd (omega (arith, get_low records n k a, length_paths records, b.1))
@@ -169,44 +174,48 @@ whole_pushed events c records ticks marks ns xs out w added = (f.0, record {
 
 pub whole_marked : (events : List Planned) (c : Cells) (records : List PathRecord) (ticks : List Tick) (marks : List StoreMark) (m : StoreMark) → IsWhole events c records ticks marks → m.events ≡ length events → IsMarkOf c m.cells → m.paths ≡ length records → m.ticks ≡ length ticks → IsWhole events c records ticks (marks ++ (m ∷ []))
 whole_marked events c records ticks marks m w ee ec ep et = record {
-    kept = w.kept;
-    few = w.few;
-    marked = λ i l e. elim (get_which marks (m ∷ []) l i e) [ inl old ↦ w.marked i l old | inr new ↦ subst (IsMarked events c records ticks) (last new.0 l new.2) here ];
-    rising = λ i j k l ei ej h. rise i j k l h (get_which marks (m ∷ []) k i ei) (get_which marks (m ∷ []) l j ej);
-  }
+  kept = w.kept;
+  few = w.few;
+  marked = λ i l e. elim (get_which marks (m ∷ []) l i e) [ inl old ↦ w.marked i l old | inr new ↦ subst (IsMarked events c records ticks) (last new.0 l new.2) here ];
+  rising = λ i j k l ei ej h. rise i j k l h (get_which marks (m ∷ []) k i ei) (get_which marks (m ∷ []) l j ej);
+}
   where
     last : (j : ℕ) (l : StoreMark) → slice_get (m ∷ []) j ≡ Some l → m ≡ l
     last zero l e = cc
     last (suc j) l e = cc
+
     cells : cut_to m.cells c ≡ c
     cells = cells_back c c m.cells ec (grows_none c w.kept.linked)
+
     all : take m.paths records ≡ records
     all = ap (λ n. take n records) ep ∙ take_all records
+
     here : IsMarked events c records ticks m
     here = record {
-        events_low = omega (arith, ee);
-        paths_low = omega (arith, ep);
-        ticks_low = omega (arith, et);
-        of_cells = subst (λ z. IsMarkOf z m.cells) (sym cells) ec;
-        grown = subst (λ z. Grows z c) (sym cells) (grows_none c w.kept.linked);
-        kept = subst (λ z. IsKept z (cut_to m.cells c) (take m.paths records) (take m.ticks ticks)) (sym (ap (λ n. take n events) ee ∙ take_all events)) (subst (λ z. IsKept events z (take m.paths records) (take m.ticks ticks)) (sym cells) (subst (λ z. IsKept events c z (take m.ticks ticks)) (sym all) (subst (IsKept events c records) (sym (ap (λ n. take n ticks) et ∙ take_all ticks)) w.kept)));
-        seen = ap paths_of all ∙ sym (ap (λ n. take n (paths_of records)) (ep ∙ sym (length_paths records)) ∙ take_all (paths_of records));
-      }
+      events_low = omega (arith, ee);
+      paths_low = omega (arith, ep);
+      ticks_low = omega (arith, et);
+      of_cells = subst (λ z. IsMarkOf z m.cells) (sym cells) ec;
+      grown = subst (λ z. Grows z c) (sym cells) (grows_none c w.kept.linked);
+      kept = subst (λ z. IsKept z (cut_to m.cells c) (take m.paths records) (take m.ticks ticks)) (sym (ap (λ n. take n events) ee ∙ take_all events)) (subst (λ z. IsKept events z (take m.paths records) (take m.ticks ticks)) (sym cells) (subst (λ z. IsKept events c z (take m.ticks ticks)) (sym all) (subst (IsKept events c records) (sym (ap (λ n. take n ticks) et ∙ take_all ticks)) w.kept)));
+      seen = ap paths_of all ∙ sym (ap (λ n. take n (paths_of records)) (ep ∙ sym (length_paths records)) ∙ take_all (paths_of records));
+    }
+
     rise : (i j : ℕ) (k l : StoreMark) → i ≤ j → (slice_get marks i ≡ Some k) ⊎ ((n : ℕ) × (i ≡ length marks + n) × (slice_get (m ∷ []) n ≡ Some k)) → (slice_get marks j ≡ Some l) ⊎ ((n : ℕ) × (j ≡ length marks + n) × (slice_get (m ∷ []) n ≡ Some l)) → IsEarlier c k l
     rise i j k l h (inl a) (inl b) = w.rising i j k l a b h
     rise i j k l h (inl a) (inr b) = let g : IsMarked events c records ticks k = w.marked i k a in subst (IsEarlier c k) (last b.0 l b.2) (record {
-        events = omega (arith, g.events_low, ee);
-        paths = omega (arith, g.paths_low, ep);
-        ticks = omega (arith, g.ticks_low, et);
-        of_cells = subst (Grows (cut_to k.cells c)) (sym cells) g.grown;
-      })
+      events = omega (arith, g.events_low, ee);
+      paths = omega (arith, g.paths_low, ep);
+      ticks = omega (arith, g.ticks_low, et);
+      of_cells = subst (Grows (cut_to k.cells c)) (sym cells) g.grown;
+    })
     rise i j k l h (inr a) (inl b) = absurd (omega (arith, a.1, get_low marks l j b, h))
     rise i j k l h (inr a) (inr b) = subst (λ z. IsEarlier c z l) (last a.0 k a.2) (subst (IsEarlier c m) (last b.0 l b.2) (record {
-        events = omega arith;
-        paths = omega arith;
-        ticks = omega arith;
-        of_cells = subst (λ z. Grows z z) (sym cells) (grows_none c w.kept.linked);
-      }))
+      events = omega arith;
+      paths = omega arith;
+      ticks = omega arith;
+      of_cells = subst (λ z. Grows z z) (sym cells) (grows_none c w.kept.linked);
+    }))
 
 shorter : {A : Type 0} (xs : List A) (a b : ℕ) → a ≤ b → a ≤ length xs → a ≤ length (take b xs)
 shorter xs zero b h k = omega arith
@@ -220,26 +229,33 @@ not_longer [] (suc n) = omega arith
 not_longer (x ∷ xs) (suc n) = omega (arith, not_longer xs n)
 
 pub whole_cut : (events : List Planned) (c : Cells) (records : List PathRecord) (ticks : List Tick) (marks : List StoreMark) (i : ℕ) (m : StoreMark) → IsWhole events c records ticks marks → slice_get marks i ≡ Some m → IsWhole (take m.events events) (cut_to m.cells c) (take m.paths records) (take m.ticks ticks) (take i marks) × (paths_of (take m.paths records) ≡ take m.paths (paths_of records))
-whole_cut events c records ticks marks i m w e = (record {
+whole_cut events c records ticks marks i m w e = (
+  record {
     kept = at.kept;
     few = omega (arith, w.few, not_longer records m.paths);
     marked = λ j l ej. old j l (take_get marks i j l ej);
     rising = λ j k a b ea eb h. earlier a b (take_get marks i j a ea) (take_get marks i k b eb) (w.rising j k a b (take_get marks i j a ea).1 (take_get marks i k b eb).1 h);
-  }, at.seen)
+  },
+  at.seen,
+)
   where
     at : IsMarked events c records ticks m
     at = w.marked i m e
+
     before : (j : ℕ) (l : StoreMark) → (j < i) × (slice_get marks j ≡ Some l) → IsEarlier c l m
     before j l (h, el) = w.rising j i l m el e (omega (arith, h))
+
     cells : (j : ℕ) (l : StoreMark) → (j < i) × (slice_get marks j ≡ Some l) → cut_to l.cells (cut_to m.cells c) ≡ cut_to l.cells c
     cells j l here = cells_back (cut_to l.cells c) (cut_to m.cells c) l.cells (w.marked j l here.1).of_cells (before j l here).of_cells
+
     earlier : (a b : StoreMark) {j k : ℕ} → (j < i) × (slice_get marks j ≡ Some a) → (k < i) × (slice_get marks k ≡ Some b) → IsEarlier c a b → IsEarlier (cut_to m.cells c) a b
     earlier a b {j = j} {k = k} ha hb r = record {
-        events = r.events;
-        paths = r.paths;
-        ticks = r.ticks;
-        of_cells = subst (λ z. Grows z (cut_to b.cells (cut_to m.cells c))) (sym (cells j a ha)) (subst (Grows (cut_to a.cells c)) (sym (cells k b hb)) r.of_cells);
-      }
+      events = r.events;
+      paths = r.paths;
+      ticks = r.ticks;
+      of_cells = subst (λ z. Grows z (cut_to b.cells (cut_to m.cells c))) (sym (cells j a ha)) (subst (Grows (cut_to a.cells c)) (sym (cells k b hb)) r.of_cells);
+    }
+
     old : (j : ℕ) (l : StoreMark) → (j < i) × (slice_get marks j ≡ Some l) → IsMarked (take m.events events) (cut_to m.cells c) (take m.paths records) (take m.ticks ticks) l
     old j l here =
         let g : IsMarked events c records ticks l = w.marked j l here.1 in

@@ -89,21 +89,23 @@ pub joining_start : (old now : List Tick) (a b : Stretch) (one two : Tick) (room
 joining_start old now a b one two room e h = record { built = []; is = e ∙ sym (append-nil old); all = refl; i_low = omega arith; j_low = omega arith; fits = omega arith; room_fits = h }
 
 pub joining_step : (old now : List Tick) (a b : Stretch) (one two : Tick) (i j room : ℕ) (t : Tick) (i2 j2 : ℕ) (new : List Tick) (room2 : ℕ) → IsWithin old a → IsWithin old b → IsJoining old now a b one two i j room
-  → NextIs now i (a.at + a.len) j (b.at + b.len) t i2 j2 → i2 ≤ a.at + a.len → j2 ≤ b.at + b.len → i + j < i2 + j2 → i ≤ i2 → j ≤ j2 → new ≡ now ++ (marked one two t ∷ []) → room2 ≡ room → IsJoining old new a b one two i2 j2 room2
+    → NextIs now i (a.at + a.len) j (b.at + b.len) t i2 j2 → i2 ≤ a.at + a.len → j2 ≤ b.at + b.len → i + j < i2 + j2 → i ≤ i2 → j ≤ j2 → new ≡ now ++ (marked one two t ∷ []) → room2 ≡ room → IsJoining old new a b one two i2 j2 room2
 joining_step old now a b one two i j room t i2 j2 new room2 wa wb g n h2 k2 on hi hj e er =
     let at : merged (between old i (a.at + a.len)) (between old j (b.at + b.len)) ≡ t ∷ merged (between old i2 (a.at + a.len)) (between old j2 (b.at + b.len)) =
-      ap₂ merged (sym (same i g.i_low)) (sym (other j g.j_low)) ∙ n ∙ ap (λ r. t ∷ r) (ap₂ merged (same i2 h2) (other j2 k2)) in
+    ap₂ merged (sym (same i g.i_low)) (sym (other j g.j_low)) ∙ n ∙ ap (λ r. t ∷ r) (ap₂ merged (same i2 h2) (other j2 k2)) in
     record {
       built = g.built ++ (marked one two t ∷ []);
       is = e ∙ ap (λ x. x ++ (marked one two t ∷ [])) g.is ∙ append_assoc old g.built (marked one two t ∷ []);
       all = g.all ∙ ap (λ r. g.built ++ map (marked one two) r) at ∙ sym (append_assoc g.built (marked one two t ∷ []) (map (marked one two) (merged (between old i2 (a.at + a.len)) (between old j2 (b.at + b.len)))));
-      i_low = h2; j_low = k2;
+      i_low = h2;
+      j_low = k2;
       fits = omega (arith, length-append g.built (marked one two t ∷ []), g.fits, on, hi, hj, h2, k2);
-      room_fits = subst (λ r. length old + a.len + b.len ≤ r) (sym er) g.room_fits
+      room_fits = subst (λ r. length old + a.len + b.len ≤ r) (sym er) g.room_fits;
     }
   where
     same : (n : ℕ) → n ≤ a.at + a.len → between now n (a.at + a.len) ≡ between old n (a.at + a.len)
     same n h = ap (λ x. between x n (a.at + a.len)) g.is ∙ between_more old g.built n (a.at + a.len) wa h
+
     other : (n : ℕ) → n ≤ b.at + b.len → between now n (b.at + b.len) ≡ between old n (b.at + b.len)
     other n h = ap (λ x. between x n (b.at + b.len)) g.is ∙ between_more old g.built n (b.at + b.len) wb h
 
@@ -115,7 +117,7 @@ joining_end old now a b one two i j room g h n m en em =
     record {
       appended = g.is ∙ ap (λ x. old ++ x) (sym whole);
       at = en;
-      len = (let l : length now ≡ length old + length g.built = ap length g.is ∙ length-append old g.built in omega (arith, em, en, l)) ∙ ap length (sym whole)
+      len = (let l : length now ≡ length old + length g.built = ap length g.is ∙ length-append old g.built in omega (arith, em, en, l)) ∙ ap length (sym whole);
     }
 
 -- ---- the loop of raise
@@ -151,7 +153,7 @@ raising_step old now a own i room d new room2 w h g e er =
     record {
       is = e ∙ ap₂ (λ x y. x ++ (marked own own y ∷ [])) g.is at ∙ append_assoc old (map (marked own own) (between old a.at i)) (marked own own (get_or old i d) ∷ []) ∙ ap (λ r. old ++ r) (sym (map-append (marked own own) (between old a.at i) (get_or old i d ∷ [])) ∙ ap (map (marked own own)) (sym (between_snoc old a.at i d g.low low)));
       low = omega (arith, g.low);
-      room_fits = subst (λ r. length old + a.len ≤ r) (sym er) g.room_fits
+      room_fits = subst (λ r. length old + a.len ≤ r) (sym er) g.room_fits;
     }
 
 pub raising_room : (old now : List Tick) (a : Stretch) (own : Tick) (i room : ℕ) → IsWithin old a → i < a.at + a.len → IsRaising old now a own i room → (i < length now) × (length now < room)
@@ -162,10 +164,10 @@ raising_room old now a own i room w h g =
 
 pub raising_end : (old now : List Tick) (a : Stretch) (own : Tick) (i room : ℕ) → IsWithin old a → IsRaising old now a own i room → i ≡ a.at + a.len → (n : ℕ) → n ≡ length old → Raises old now a own (record { at = n; len = a.len })
 raising_end old now a own i room w g e n en = record {
-    appended = g.is ∙ ap (λ k. old ++ map (marked own own) (between old a.at k)) e;
-    at = en;
-    len = sym (length-map (ticks_of old a) (marked own own) ∙ length_between old a.at (a.at + a.len) w (omega arith) ∙ omega arith)
-  }
+  appended = g.is ∙ ap (λ k. old ++ map (marked own own) (between old a.at k)) e;
+  at = en;
+  len = sym (length-map (ticks_of old a) (marked own own) ∙ length_between old a.at (a.at + a.len) w (omega arith) ∙ omega arith);
+}
 
 pub named_skip : (t : ℕ) (ts : List Tick) (i : ℕ) (d : Tick) → i < length ts → ((get_or ts i d).thread ≡ t → ⊥) → named t (drop i ts) ≡ named t (drop (i + 1) ts)
 named_skip t ts i d h ne = ap (named t) (drop-cons ts i d h) ∙ ap (λ o. cond o (Some (get_or ts i d).path) (named t (drop (suc i) ts))) (off (nat_eq t (get_or ts i d).thread) refl) ∙ ap (λ n. named t (drop n ts)) (let e : suc i ≡ i + 1 = omega arith in e)

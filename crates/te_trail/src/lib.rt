@@ -1,6 +1,7 @@
 //! Paths with clocks: partial runs of threads, and which of them are parts of one run.
 #![tactic(auto)]
 
+mod conditions;
 mod laws;
 mod making;
 mod moves;

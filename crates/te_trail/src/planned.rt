@@ -42,7 +42,12 @@ impl Planned {
     }
 
     /// The path after a choice.
-    pub(crate) fn choose(&self, cells: &mut Cells, spot: &mut Spot, left: bool) -> Result<(), NoMemory>
+    pub(crate) fn choose(
+        &self,
+        cells: &mut Cells,
+        spot: &mut Spot,
+        left: bool,
+    ) -> Result<(), NoMemory>
         requires spot { IsSpot (origin_at self.now) cells.old spot.old }
         requires choice { spot.old.stop ≡ Choice }
         ensures grows { Grows cells.old cells.new }
@@ -76,7 +81,12 @@ impl Planned {
     }
 
     /// The path after a receive.
-    pub(crate) fn received(&self, cells: &mut Cells, spot: &mut Spot, value: Value) -> Result<(), NoMemory>
+    pub(crate) fn received(
+        &self,
+        cells: &mut Cells,
+        spot: &mut Spot,
+        value: Value,
+    ) -> Result<(), NoMemory>
         requires spot { IsSpot (origin_at self.now) cells.old spot.old }
         requires receive { IsSome (receiving (spelled (origin_at self.now) cells.old spot.old).term) }
         ensures grows { Grows cells.old cells.new }

@@ -45,10 +45,10 @@ received-requires-clause-receive c =
 
 pub returns-clause-met : goal.returns-clause-met
 returns-clause-met c = λ a b sa sb. both_met c.args.events.now c.index-events-sender.result c.index-events-receiver.result c.args.cells.now c.sent.new.cells c.received.new.cells c.args.sender.now.event c.args.receiver.now.event c.args.sender.now.spot c.sent.new.spot c.args.receiver.now.spot c.received.new.spot c.in-Send.field-0 c.in-Send.value a b (got_there c.args.events.now c.args.sender.now.event c.index-events-sender.result (spells_low c.args.events.now c.args.cells.now c.args.sender.now.event c.args.sender.now.spot c.requires.sender.0 c.requires.sender.1) c.index-events-sender.is) (got_there c.args.events.now c.args.receiver.now.event c.index-events-receiver.result (spells_low c.args.events.now c.args.cells.now c.args.receiver.now.event c.args.receiver.now.spot c.requires.receiver.0 c.requires.receiver.1) c.index-events-receiver.is) sa sb (c.requires.face a b sa sb) (sym c.stop.ensures ∙ c.in-Send.is) (record {
-      first = c.sent.ensures.grows;
-      second = c.received.ensures.grows;
-      sender = c.in_ok-sent.ensures.spot;
-      sends = c.in_ok-sent.ensures.step;
-      receiver = c.in_ok-received.ensures.spot;
-      receives = c.in_ok-received.ensures.step;
-    })
+  first = c.sent.ensures.grows;
+  second = c.received.ensures.grows;
+  sender = c.in_ok-sent.ensures.spot;
+  sends = c.in_ok-sent.ensures.step;
+  receiver = c.in_ok-received.ensures.spot;
+  receives = c.in_ok-received.ensures.step;
+})

@@ -50,8 +50,8 @@ invariant_of-self-2 c =
     let number : c.len-number.result ≡ length c.self.inside.records.items = search rules in
     let step : StepsTo t.stands.member (after_choice c.args.left t.stands.member.term) (spelled (origin_at c.index-event.result.now) c.choose.new.cells c.choose.new.spot) = subst (λ (z : Member). StepsTo z (after_choice c.args.left z.term) (spelled (origin_at c.index-event.result.now) c.choose.new.cells c.choose.new.spot)) s.spells c.in_ok-choose.ensures.step in
     (branch_leaves c.self.inside.events.items c.choose.new.cells c.self.inside.records.items c.self.inside.ticks.items c.self.inside.marks.items c.args.self.now (whole_grown c.self.inside.events.items c.self.inside.cells c.choose.new.cells c.self.inside.records.items c.self.inside.ticks.items c.self.inside.marks.items c.choose.ensures.grows c.self.invariant) c.self.view_is c.args.p c.index-parent.result.now t.path t.record_at t.path_at t.stands.member t.stands.state c.index-event.result.now (got_there c.self.inside.events.items c.index-parent.result.now.event c.index-event.result.now (spells_low c.self.inside.events.items c.self.inside.cells c.index-parent.result.now.event c.index-parent.result.now.spot t.stands.member t.stands.spot) c.index-event.ensures)
-      c.choose.new.spot c.in_ok-choose.ensures.spot c.args.left c.side.result c.side.ensures step c.requires.unmade c.len-number.result number c.requires.room c.in_ok-clock.clock c.raise.new.ticks.items c.in_ok-clock.ensures.raised
-      c.push_reserved.new.self.items (on_one c.self.inside.records.items _ _ _ c.push_reserved.ensures.items c.reserve.ensures.items)).0
+    c.choose.new.spot c.in_ok-choose.ensures.spot c.args.left c.side.result c.side.ensures step c.requires.unmade c.len-number.result number c.requires.room c.in_ok-clock.clock c.raise.new.ticks.items c.in_ok-clock.ensures.raised
+    c.push_reserved.new.self.items (on_one c.self.inside.records.items _ _ _ c.push_reserved.ensures.items c.reserve.ensures.items)).0
 
 pub returns-clause-ok : goal.returns-clause-ok
 returns-clause-ok c =
@@ -60,5 +60,5 @@ returns-clause-ok c =
     let number : c.len-number.result ≡ length c.self.inside.records.items = search rules in
     let step : StepsTo t.stands.member (after_choice c.args.left t.stands.member.term) (spelled (origin_at c.index-event.result.now) c.choose.new.cells c.choose.new.spot) = subst (λ (z : Member). StepsTo z (after_choice c.args.left z.term) (spelled (origin_at c.index-event.result.now) c.choose.new.cells c.choose.new.spot)) s.spells c.in_ok-choose.ensures.step in
     (branch_leaves c.self.inside.events.items c.choose.new.cells c.self.inside.records.items c.self.inside.ticks.items c.self.inside.marks.items c.args.self.now (whole_grown c.self.inside.events.items c.self.inside.cells c.choose.new.cells c.self.inside.records.items c.self.inside.ticks.items c.self.inside.marks.items c.choose.ensures.grows c.self.invariant) c.self.view_is c.args.p c.index-parent.result.now t.path t.record_at t.path_at t.stands.member t.stands.state c.index-event.result.now (got_there c.self.inside.events.items c.index-parent.result.now.event c.index-event.result.now (spells_low c.self.inside.events.items c.self.inside.cells c.index-parent.result.now.event c.index-parent.result.now.spot t.stands.member t.stands.spot) c.index-event.ensures)
-      c.choose.new.spot c.in_ok-choose.ensures.spot c.args.left c.side.result c.side.ensures step c.requires.unmade c.len-number.result number c.requires.room c.in_ok-clock.clock c.raise.new.ticks.items c.in_ok-clock.ensures.raised
-      c.push_reserved.new.self.items (on_one c.self.inside.records.items _ _ _ c.push_reserved.ensures.items c.reserve.ensures.items)).1
+    c.choose.new.spot c.in_ok-choose.ensures.spot c.args.left c.side.result c.side.ensures step c.requires.unmade c.len-number.result number c.requires.room c.in_ok-clock.clock c.raise.new.ticks.items c.in_ok-clock.ensures.raised
+    c.push_reserved.new.self.items (on_one c.self.inside.records.items _ _ _ c.push_reserved.ensures.items c.reserve.ensures.items)).1

@@ -30,13 +30,13 @@ invariant_of-self-2 c =
     let number : c.len-number.result ≡ length c.self.inside.records.items = search rules in
     let at : c.len-at.result ≡ length c.self.inside.ticks.items = search rules in
     (plant_leaves c.self.inside.events.items c.start.new.cells c.self.inside.records.items c.self.inside.ticks.items c.self.inside.marks.items c.args.self.now (whole_grown c.self.inside.events.items c.self.inside.cells c.start.new.cells c.self.inside.records.items c.self.inside.ticks.items c.self.inside.marks.items c.start.ensures.grows c.self.invariant) c.self.view_is c.args.i c.index-event.result.now
-      (event_there c.self.inside.events.items c.self.inside.records.items c.self.inside.marks.items c.args.self.now c.self.view_is c.args.i c.index-event.result.now c.requires.event c.index-event.ensures) c.in_ok-spot.spot c.in_ok-spot.ensures.spot c.in_ok-spot.ensures.settles c.requires.unplanted c.len-number.result c.len-at.result number at c.requires.room
-      c.push_reserved-2.new.self.items c.push_reserved.new.self.items (on_one c.self.inside.records.items _ _ _ c.push_reserved-2.ensures.items c.reserve.ensures.items) (on_one c.self.inside.ticks.items _ _ _ c.push_reserved.ensures.items c.reserve-2.ensures.items)).0
+    (event_there c.self.inside.events.items c.self.inside.records.items c.self.inside.marks.items c.args.self.now c.self.view_is c.args.i c.index-event.result.now c.requires.event c.index-event.ensures) c.in_ok-spot.spot c.in_ok-spot.ensures.spot c.in_ok-spot.ensures.settles c.requires.unplanted c.len-number.result c.len-at.result number at c.requires.room
+    c.push_reserved-2.new.self.items c.push_reserved.new.self.items (on_one c.self.inside.records.items _ _ _ c.push_reserved-2.ensures.items c.reserve.ensures.items) (on_one c.self.inside.ticks.items _ _ _ c.push_reserved.ensures.items c.reserve-2.ensures.items)).0
 
 pub returns-clause-ok : goal.returns-clause-ok
 returns-clause-ok c =
     let number : c.len-number.result ≡ length c.self.inside.records.items = search rules in
     let at : c.len-at.result ≡ length c.self.inside.ticks.items = search rules in
     (plant_leaves c.self.inside.events.items c.start.new.cells c.self.inside.records.items c.self.inside.ticks.items c.self.inside.marks.items c.args.self.now (whole_grown c.self.inside.events.items c.self.inside.cells c.start.new.cells c.self.inside.records.items c.self.inside.ticks.items c.self.inside.marks.items c.start.ensures.grows c.self.invariant) c.self.view_is c.args.i c.index-event.result.now
-      (event_there c.self.inside.events.items c.self.inside.records.items c.self.inside.marks.items c.args.self.now c.self.view_is c.args.i c.index-event.result.now c.requires.event c.index-event.ensures) c.in_ok-spot.spot c.in_ok-spot.ensures.spot c.in_ok-spot.ensures.settles c.requires.unplanted c.len-number.result c.len-at.result number at c.requires.room
-      c.push_reserved-2.new.self.items c.push_reserved.new.self.items (on_one c.self.inside.records.items _ _ _ c.push_reserved-2.ensures.items c.reserve.ensures.items) (on_one c.self.inside.ticks.items _ _ _ c.push_reserved.ensures.items c.reserve-2.ensures.items)).1
+    (event_there c.self.inside.events.items c.self.inside.records.items c.self.inside.marks.items c.args.self.now c.self.view_is c.args.i c.index-event.result.now c.requires.event c.index-event.ensures) c.in_ok-spot.spot c.in_ok-spot.ensures.spot c.in_ok-spot.ensures.settles c.requires.unplanted c.len-number.result c.len-at.result number at c.requires.room
+    c.push_reserved-2.new.self.items c.push_reserved.new.self.items (on_one c.self.inside.records.items _ _ _ c.push_reserved-2.ensures.items c.reserve.ensures.items) (on_one c.self.inside.ticks.items _ _ _ c.push_reserved.ensures.items c.reserve-2.ensures.items)).1

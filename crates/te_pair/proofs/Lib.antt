@@ -1,0 +1,4 @@
+pub mod Among
+pub mod PlacesKeep
+pub mod PartnersFound
+pub mod EndsTold

@@ -1,0 +1,43 @@
+-- The places of kept paths, as paths come and go.
+use Rattle.std.proofs.Common.{◌≡◌, ℕ, Bool, true, false, cond, List, [], ◌∷◌, ◌++◌, nat_eq, refl, ap, sym, ◌∙◌, subst, append-nil}
+use Rattle.std.specs.List.{filter, IsDistinct}
+use Rattle.std.proofs.lemmas.List.{map-append}
+use Rattle.std.proofs.lemmas.List.Elements.{filter-append}
+use Rattle.te_pair.specs.declared.end.End.{End}
+use Rattle.te_pair.specs.declared.places.Places.{Places}
+use Rattle.te_pair.specs.Ends.{path_of, paths_of, IsKept, is_at, paths_at}
+use Rattle.te_pair.specs.Places.{numbers, without_last, Adds, Stays, Drops, IsPlaced}
+use Rattle.te_pair.proofs.Among.{nothing_twice, without_end, distinct_more, distinct_front}
+
+at_more : (channel : ℕ) (sends : Bool) (kept : List End) (e : End) → paths_at channel sends (kept ++ e ∷ []) ≡ cond (is_at channel sends e) (paths_at channel sends kept ++ e.path ∷ []) (paths_at channel sends kept)
+at_more channel sends kept e = ap paths_of (filter-append (is_at channel sends) kept (e ∷ [])) ∙ by (is_at channel sends e)
+  where
+    by : (b : Bool) → paths_of (filter (is_at channel sends) kept ++ cond b (e ∷ []) []) ≡ cond b (paths_at channel sends kept ++ e.path ∷ []) (paths_at channel sends kept)
+    by true = map-append path_of (filter (is_at channel sends) kept) (e ∷ [])
+    by false = ap paths_of (append-nil (filter (is_at channel sends) kept))
+
+pub placed_more : (kept : List End) (old new : Places) (e : End) → IsPlaced kept old → (¬ IsKept kept e.path) → Adds old new e → IsPlaced (kept ++ e ∷ []) new
+placed_more kept old new e h free adds = record {
+  each = λ channel sends. adds channel sends ∙ ap (λ ns. cond (is_at channel sends e) (ns ++ e.path ∷ []) ns) (h.each channel sends) ∙ sym (at_more channel sends kept e);
+  once = subst (IsDistinct nat_eq) (sym (map-append path_of kept (e ∷ []))) (distinct_more (paths_of kept) e.path h.once free);
+}
+
+pub placed_still : (kept : List End) (old new : Places) → IsPlaced kept old → Stays old new → IsPlaced kept new
+placed_still kept old new h stays = record {
+  each = λ channel sends. stays channel sends ∙ h.each channel sends;
+  once = h.once;
+}
+
+gone : (b : Bool) (ns : List ℕ) (n : ℕ) → cond b (without_last (cond b (ns ++ n ∷ []) ns)) (cond b (ns ++ n ∷ []) ns) ≡ ns
+gone true ns n = without_end ns n
+gone false ns n = refl
+
+pub placed_less : (kept : List End) (old new : Places) (e : End) → IsPlaced (kept ++ e ∷ []) old → Drops old new e → IsPlaced kept new
+placed_less kept old new e h drops = record {
+  each = λ channel sends. drops channel sends ∙ ap (λ ns. cond (is_at channel sends e) (without_last ns) ns) (h.each channel sends ∙ at_more channel sends kept e) ∙ gone (is_at channel sends e) (paths_at channel sends kept) e.path;
+  once = distinct_front (paths_of kept) (e.path ∷ []) (subst (IsDistinct nat_eq) (map-append path_of kept (e ∷ [])) h.once);
+}
+
+-- no path is kept where none is seen
+pub placed_none : (places : Places) → ((channel : ℕ) (sends : Bool) → numbers places channel sends ≡ []) → IsPlaced [] places
+placed_none places none = record { each = none; once = nothing_twice }

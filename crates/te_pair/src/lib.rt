@@ -1,0 +1,13 @@
+//! Paths that wait at a channel, and those of them that a path can meet.
+#![tactic(auto)]
+
+mod end;
+mod places;
+mod waiting;
+
+pub use waiting::Waiting;
+
+#[cfg(test)]
+mod checked;
+#[cfg(test)]
+mod tests;
