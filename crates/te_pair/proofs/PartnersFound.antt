@@ -11,7 +11,7 @@ use Rattle.te_trail.specs.Clocks.{Agree}
 use Rattle.te_trail.specs.Trails.{Trail, AreAgreeing, TellsWhether}
 use Rattle.te_pair.specs.declared.end.End.{End}
 use Rattle.te_pair.specs.Ends.{path_of, paths_of, IsEnd, AreEnds, is_at, paths_at, IsPartner}
-use Rattle.te_pair.proofs.Among.{nothing_twice}
+use Rattle.te_pair.proofs.Among.{nothing_twice, next_taken}
 use Rattle.te_pair.proofs.EndsTold.{path_low, path_there}
 
 -- ---- what is picked of a list
@@ -206,13 +206,8 @@ found_rise P ends found sorted once picks moved rise =
 
 -- ---- the walk
 
-next_taken : (xs : List ℕ) (i : ℕ) → i < length xs → take (i + 1) xs ≡ take i xs ++ get_or xs i 0 ∷ []
-next_taken [] i h = absurd (omega (arith, h))
-next_taken (x ∷ xs) zero h = refl
-next_taken (x ∷ xs) (suc i) h = ap (λ n. take n (x ∷ xs)) (let e : suc i + 1 ≡ suc (i + 1) = omega arith in e) ∙ ap (λ r. x ∷ r) (next_taken xs i (omega (arith, h)))
-
 pub walk_more : (P : ℕ → Type 0) (ends found more : List ℕ) (i : ℕ) → i < length ends → Picks P (take i ends) found → P (get_or ends i 0) → more ≡ found ++ get_or ends i 0 ∷ [] → Picks P (take (i + 1) ends) more
-walk_more P ends found more i low h p is = subst (λ xs. Picks P xs more) (sym (next_taken ends i low)) (subst (Picks P (take i ends ++ get_or ends i 0 ∷ [])) (sym is) (picks_more P (take i ends) found (get_or ends i 0) h p))
+walk_more P ends found more i low h p is = subst (λ xs. Picks P xs more) (sym (next_taken ends i 0 low)) (subst (Picks P (take i ends ++ get_or ends i 0 ∷ [])) (sym is) (picks_more P (take i ends) found (get_or ends i 0) h p))
 
 pub walk_pass : (P : ℕ → Type 0) (ends found : List ℕ) (i : ℕ) → i < length ends → Picks P (take i ends) found → (¬ P (get_or ends i 0)) → Picks P (take (i + 1) ends) found
-walk_pass P ends found i low h p = subst (λ xs. Picks P xs found) (sym (next_taken ends i low)) (picks_pass P (take i ends) found (get_or ends i 0) h p)
+walk_pass P ends found i low h p = subst (λ xs. Picks P xs found) (sym (next_taken ends i 0 low)) (picks_pass P (take i ends) found (get_or ends i 0) h p)

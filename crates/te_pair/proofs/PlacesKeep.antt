@@ -1,13 +1,13 @@
 -- The places of kept paths, as paths come and go.
-use Rattle.std.proofs.Common.{◌≡◌, ℕ, Bool, true, false, cond, List, [], ◌∷◌, ◌++◌, nat_eq, refl, ap, sym, ◌∙◌, subst, append-nil}
-use Rattle.std.specs.List.{filter, IsDistinct}
+use Rattle.std.proofs.Common.{◌≡◌, ℕ, Bool, true, false, cond, List, [], ◌∷◌, ◌++◌, nat_eq, refl, ap, sym, ◌∙◌, subst, append-nil, ◌<◌, ◌+◌, ◌⊎◌, inl, inr, length, take, get_or, eq-eqb}
+use Rattle.std.specs.List.{Contains, filter, IsDistinct}
 use Rattle.std.proofs.lemmas.List.{map-append}
-use Rattle.std.proofs.lemmas.List.Elements.{filter-append}
+use Rattle.std.proofs.lemmas.List.Elements.{filter-append, Contains-push_cases}
 use Rattle.te_pair.specs.declared.end.End.{End}
 use Rattle.te_pair.specs.declared.places.Places.{Places}
 use Rattle.te_pair.specs.Ends.{path_of, paths_of, IsKept, is_at, paths_at}
 use Rattle.te_pair.specs.Places.{numbers, without_last, Adds, Stays, Drops, IsPlaced}
-use Rattle.te_pair.proofs.Among.{nothing_twice, without_end, distinct_more, distinct_front}
+use Rattle.te_pair.proofs.Among.{nothing_twice, next_taken, without_end, distinct_more, distinct_front}
 
 at_more : (channel : ℕ) (sends : Bool) (kept : List End) (e : End) → paths_at channel sends (kept ++ e ∷ []) ≡ cond (is_at channel sends e) (paths_at channel sends kept ++ e.path ∷ []) (paths_at channel sends kept)
 at_more channel sends kept e = ap paths_of (filter-append (is_at channel sends) kept (e ∷ [])) ∙ by (is_at channel sends e)
@@ -41,3 +41,12 @@ placed_less kept old new e h drops = record {
 -- no path is kept where none is seen
 pub placed_none : (places : Places) → ((channel : ℕ) (sends : Bool) → numbers places channel sends ≡ []) → IsPlaced [] places
 placed_none places none = record { each = none; once = nothing_twice }
+
+-- ---- which are kept
+
+pub not_kept_more : (kept : List End) (i p : ℕ) (e : End) → i < length kept → e ≡ get_or kept i e → nat_eq e.path p ≡ false → (¬ Contains (paths_of (take i kept)) p) → ¬ Contains (paths_of (take (i + 1) kept)) p
+not_kept_more kept i p e low is apart free c = by (Contains-push_cases (paths_of (take i kept)) e.path p (subst (λ ns. Contains ns p) (ap paths_of (next_taken kept i e low ∙ ap (λ d. take i kept ++ d ∷ []) (sym is)) ∙ map-append path_of (take i kept) (e ∷ [])) c))
+  where
+    by : Contains (paths_of (take i kept)) p ⊎ (e.path ≡ p) → ⊥
+    by (inl more) = free more
+    by (inr one) = (let both : true ≡ false = sym (eq-eqb e.path p one) ∙ apart in cc)

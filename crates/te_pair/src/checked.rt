@@ -1,7 +1,7 @@
 // Calls that look first whether their conditions hold.
 
-ghost use Rattle.std.specs.Prelude.{◌≡◌, ◌<◌, length, false, IsTrue};
-ghost use Rattle.te_pair.specs.Ends.{IsAtEnd, AreEnds, IsKept};
+ghost use Rattle.std.specs.Prelude.{◌<◌, length, IsTrue};
+ghost use Rattle.te_pair.specs.Ends.{IsAtEnd, AreEnds};
 
 use crate::waiting::Waiting;
 use std::alloc::Global;
@@ -107,18 +107,4 @@ pub(crate) fn partners(
         Err("a path at an end")?;
     }
     Ok(waiting.partners(alloc, store, p)?)
-}
-
-impl Waiting {
-    // Whether path `p` is kept.
-    fn keeps(&self, p: u32) -> bool
-        ensures { result ≡ false → ¬ IsKept self.now p }
-    {
-        'kept: for i in 0..self.kept.len() {
-            if self.kept[i].path == p {
-                return true;
-            }
-        }
-        false
-    }
 }

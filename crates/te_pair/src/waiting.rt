@@ -1,4 +1,4 @@
-ghost use Rattle.std.specs.Prelude.{◌≡◌, ◌≤◌, ◌<◌, ◌↔◌, ℕ, List, [], ◌∷◌, ◌++◌, length, take, nat_eq, IfOk, OnOk, OnErr};
+ghost use Rattle.std.specs.Prelude.{◌≡◌, ◌≤◌, ◌<◌, ◌↔◌, ℕ, List, [], ◌∷◌, ◌++◌, length, take, nat_eq, IfOk, OnOk, OnErr, IsTrue};
 ghost use Rattle.std.specs.List.{Contains, IsDistinct};
 ghost use Rattle.std.specs.List.Sorted.{IsStrictlyIncreasing};
 ghost use Rattle.te_pair.specs.Ends.{IsAtEnd, AreEnds, paths_at, IsKept, IsAdded, IsPartner};
@@ -15,7 +15,7 @@ use te_trail::TrailStore;
 /// and Fluet, Transactional Events, JFP 18(5-6), 2008; kept paths are this project's own.
 #[derive(Drop)]
 pub struct Waiting {
-    pub(crate) kept: Vec<End>,
+    kept: Vec<End>,
     places: Places,
 }
 
@@ -87,6 +87,19 @@ impl Waiting {
         ensures once { IsDistinct nat_eq result.now }
     {
         self.places.at(channel, sends)
+    }
+
+    /// Whether path `p` is kept. It looks at every kept path, and is public for tests of the crates above alone.
+    #[doc(hidden)]
+    pub fn keeps(&self, p: u32) -> bool
+        ensures { IsTrue result ↔ IsKept self.now p }
+    {
+        'kept: for i in 0..self.kept.len() {
+            if self.kept[i].path == p {
+                return true;
+            }
+        }
+        false
     }
 
     /// A mark of what is kept: how many paths. It is public for the crates above alone.
