@@ -1,5 +1,5 @@
 -- Where a path stands, from what the store tells.
-use Rattle.std.proofs.Common.{◌≡◌, ◌<◌, ℕ, zero, suc, Bool, true, false, List, [], ◌∷◌, length, Some, slice_get, refl, ap, ◌∙◌, subst, arith}
+use Rattle.std.proofs.Common.{◌≡◌, ◌<◌, ℕ, zero, suc, Bool, true, false, List, [], ◌∷◌, length, Option, Some, slice_get, refl, ap, sym, ◌∙◌, subst, arith}
 use Rattle.te_terms.specs.declared.value.Atom.{Atom}
 use Rattle.te_terms.specs.Steps.{Member}
 use Rattle.te_path.specs.declared.spot.Stop.{Stop}
@@ -85,3 +85,13 @@ some_end store p told low stands is only = by (path_there store.paths p low)
     by : (x : Path) × (slice_get store.paths p ≡ Some x) → (e : End) × (e.path ≡ p) × Seen e told
     by (x, ex) = (let at : (sends : Bool) × (channel : ℕ) × StandsOn sends channel (is x ex).0 = stands x (is x ex).0 ex (is x ex).1.state in
         (record { path = p; channel = at.1; sends = at.0 }, refl, seen store p told only (record { path = p; channel = at.1; sends = at.0 }) refl (record { of = x; made = ex; member = (is x ex).0; state = (is x ex).1.state; stands = at.2 })))
+
+-- what is seen at a send or a receive is at an end
+one_state : (o : Option Member) (a b : Member) → o ≡ Some a → o ≡ Some b → a ≡ b
+one_state o a b e f = (let same : Some a ≡ Some b = sym e ∙ f in cc)
+
+pub at_send : (store : Trail) (p c : ℕ) (v : List Atom) (told : Stop) → told ≡ stops.Send c v → IsStop store p told → IsAtEnd store p
+at_send store p c v told e is x m ex em = (true, c, (record { channel = c; value = v }, subst (λ k. StandsAt k.term (stops.Send c v)) (one_state (state_of store.events x) (is x ex).0 m (is x ex).1.state em) (subst (StandsAt (is x ex).0.term) e (is x ex).2), refl))
+
+pub at_receive : (store : Trail) (p c : ℕ) (told : Stop) → told ≡ stops.Recv c → IsStop store p told → IsAtEnd store p
+at_receive store p c told e is x m ex em = (false, c, subst (λ k. StandsAt k.term (stops.Recv c)) (one_state (state_of store.events x) (is x ex).0 m (is x ex).1.state em) (subst (StandsAt (is x ex).0.term) e (is x ex).2))
