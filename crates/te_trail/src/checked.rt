@@ -82,39 +82,6 @@ pub(crate) fn agree(store: &TrailStore, p: u32, q: u32) -> Result<bool, Fail> {
     Ok(store.agree(p, q))
 }
 
-/// Whether two paths stand on one line.
-pub(crate) fn on_line(store: &TrailStore, p: u32, q: u32) -> Result<bool, Fail> {
-    let count = store.len();
-    if p >= count || q >= count {
-        Err("two paths")?;
-    }
-    Ok(store.on_line(p, q))
-}
-
-/// Where a path stands.
-pub(crate) fn stop(store: &TrailStore, p: u32) -> Result<Stop, Fail> {
-    if p >= store.len() {
-        Err("a path")?;
-    }
-    Ok(store.stop(p))
-}
-
-/// The thread of a path.
-pub(crate) fn thread(store: &TrailStore, p: u32) -> Result<u32, Fail> {
-    if p >= store.len() {
-        Err("a path")?;
-    }
-    Ok(store.thread(p))
-}
-
-/// What the clock of a path names.
-pub(crate) fn clock(store: &TrailStore, p: u32, thread: u32) -> Result<Option<u32>, Fail> {
-    if p >= store.len() {
-        Err("a path")?;
-    }
-    Ok(store.clock(p, thread))
-}
-
 /// The trail of a path.
 pub(crate) fn trail(store: &TrailStore, alloc: Global, p: u32) -> Result<Rows<Move>, Fail> {
     if p >= store.len() {
