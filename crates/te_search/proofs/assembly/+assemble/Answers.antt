@@ -1,0 +1,79 @@
+use Rattle.std.proofs.Common.{arith, ◌≡◌, ◌<◌, ◌+◌, ◌-◌, suc, subst, Some, None, length, get_or}
+use Rattle.te_trail.specs.Trails.{IsThread}
+use Rattle.te_search.specs.Assemblies.{TellsLined, Assembles, TriesOnly}
+use Rattle.te_search.proofs.Trying.{got_or, TriedTo, open_low, tried_thread, tried_off, tried_fails, tried_all, tried_beyond, tried_found}
+use Rattle.te_search.proofs.assembly.+assemble.Goals as goal
+
+pub tries-preserved-then-thread : goal.tries-preserved-then-thread
+tries-preserved-then-thread t c = (
+  c.tries.invariant.0,
+  tried_thread c.args.store.now.events c.args.store.now.paths c.args.threads.now c.args.finals.now c.args.joined.now _ c.tries.f-index _ c.thread.result (c.args.left.now - c.tries.left)
+      (got_or c.args.finals.now c.tries.f-index 0 c.tries-test.true) c.thread.ensures c.if-thread.true c.tries.invariant.1,
+)
+
+pub is_lined-requires-clause-path : goal.is_lined-requires-clause-path
+is_lined-requires-clause-path t c = c.requires.stand.finals_low c.tries.f-index _ (got_or c.args.finals.now c.tries.f-index 0 c.tries-test.true)
+
+pub tries-preserved-then-not-is_lined : goal.tries-preserved-then-not-is_lined
+tries-preserved-then-not-is_lined t c = (
+  c.tries.invariant.0,
+  tried_off c.args.store.now.events c.args.store.now.paths c.args.threads.now c.args.finals.now c.args.joined.now _ c.tries.f-index _ (c.args.left.now - c.tries.left) c.requires.stand
+      (got_or c.args.finals.now c.tries.f-index 0 c.tries-test.true)
+      (subst (TellsLined c.args.store.now.paths c.args.threads.now _ c.args.joined.now) c.if-not-is_lined.true c.is_lined.ensures) c.tries.invariant.1,
+)
+
+pub take_in-requires-clause-path : goal.take_in-requires-clause-path
+take_in-requires-clause-path t c = c.requires.stand.finals_low c.tries.f-index _ (got_or c.args.finals.now c.tries.f-index 0 c.tries-test.true)
+
+pub returns-in-Err-assemble-clause-tried : goal.returns-in-Err-assemble-clause-tried
+returns-in-Err-assemble-clause-tried t c h =
+    let low : 0 < c.tries.left = omega (arith, c.if-left-eq0.false) in
+    let is : c.args.left.now - c.assemble.new.left ≡ (c.args.left.now - c.tries.left) + suc ((c.tries.left - 1) - c.assemble.new.left) = omega
+    (arith, low, c.tries.invariant.0, c.in-Err-assemble.ensures.falls) in
+    tried_beyond c.args.store.now.events c.args.store.now.paths c.args.threads.now c.args.finals.now c.args.joined.now c.in-Ok-take_in.more.items c.in-Some.place _
+    c.tries.f-index _ (c.args.left.now - c.tries.left) ((c.tries.left - 1) - c.assemble.new.left) (c.args.left.now - c.assemble.new.left) c.requires.stand
+    (got_or c.args.threads.now c.in-Some.place 0 (open_low c.args.store.now.events c.args.store.now.paths c.args.threads.now c.args.joined.now c.in-Some.place c.requires.wide
+    c.in-Some.ensures)) c.in-Some.ensures
+    (got_or c.args.finals.now c.tries.f-index 0 c.tries-test.true) (subst (IsThread c.args.store.now.paths _) c.if-thread.false c.thread.ensures)
+    (subst (TellsLined c.args.store.now.paths c.args.threads.now _ c.args.joined.now) c.if-not-is_lined.false c.is_lined.ensures)
+    c.in-Ok-take_in.ensures.taken (subst (λ l. TriesOnly c.args.store.now.events c.args.store.now.paths c.args.threads.now l
+    ((c.tries.left - 1) - c.assemble.new.left)) c.deref.ensures.value (c.in-Err-assemble.ensures.tried h)) is c.tries.invariant.1
+
+pub returns-in-Ok-Some-clause-ok : goal.returns-in-Ok-Some-clause-ok
+returns-in-Ok-Some-clause-ok t c =
+    let low : 0 < c.tries.left = omega (arith, c.if-left-eq0.false) in
+    let is : c.args.left.now - c.assemble.new.left ≡ (c.args.left.now - c.tries.left) + suc ((c.tries.left - 1) - c.assemble.new.left) = omega
+    (arith, low, c.tries.invariant.0, c.in-Ok-Some.ensures.falls) in
+    tried_found c.args.store.now.events c.args.store.now.paths c.args.threads.now c.args.finals.now c.args.joined.now c.in-Ok-take_in.more.items c.in-Some.place _
+    c.tries.f-index _ (c.args.left.now - c.tries.left) ((c.tries.left - 1) - c.assemble.new.left) (c.args.left.now - c.assemble.new.left) c.in-Ok-Some.group c.requires.stand
+    (got_or c.args.threads.now c.in-Some.place 0 (open_low c.args.store.now.events c.args.store.now.paths c.args.threads.now c.args.joined.now c.in-Some.place c.requires.wide
+    c.in-Some.ensures)) c.in-Some.ensures
+    (got_or c.args.finals.now c.tries.f-index 0 c.tries-test.true) (subst (IsThread c.args.store.now.paths _) c.if-thread.false c.thread.ensures)
+    (subst (TellsLined c.args.store.now.paths c.args.threads.now _ c.args.joined.now) c.if-not-is_lined.false c.is_lined.ensures)
+    c.in-Ok-take_in.ensures.taken (subst (λ l. Assembles c.args.store.now.events c.args.store.now.paths c.args.threads.now c.args.finals.now l
+    ((c.tries.left - 1) - c.assemble.new.left) (Some c.in-Ok-Some.group)) c.deref.ensures.value (rw c.in-Ok-Some.field-0-is at c.in-Ok-Some.ensures.ok)) is c.tries.invariant.1
+
+pub tries-preserved : goal.tries-preserved
+tries-preserved t c =
+    let low : 0 < c.tries.left = omega (arith, c.if-left-eq0.false) in
+    let is : c.args.left.now - c.assemble.new.left ≡ (c.args.left.now - c.tries.left) + suc ((c.tries.left - 1) - c.assemble.new.left) = omega
+    (arith, low, c.tries.invariant.0, c.in-Ok-None.ensures.falls) in (
+      omega (arith, c.tries.invariant.0, c.in-Ok-None.ensures.falls),
+      tried_fails c.args.store.now.events c.args.store.now.paths c.args.threads.now c.args.finals.now c.args.joined.now c.in-Ok-take_in.more.items c.in-Some.place _
+          c.tries.f-index _ (c.args.left.now - c.tries.left) ((c.tries.left - 1) - c.assemble.new.left) (c.args.left.now - c.assemble.new.left) c.requires.stand
+          (got_or c.args.threads.now c.in-Some.place 0 (open_low c.args.store.now.events c.args.store.now.paths c.args.threads.now c.args.joined.now c.in-Some.place
+          c.requires.wide c.in-Some.ensures)) c.in-Some.ensures
+          (got_or c.args.finals.now c.tries.f-index 0 c.tries-test.true) (subst (IsThread c.args.store.now.paths _) c.if-thread.false c.thread.ensures)
+          (subst (TellsLined c.args.store.now.paths c.args.threads.now _ c.args.joined.now) c.if-not-is_lined.false c.is_lined.ensures)
+          c.in-Ok-take_in.ensures.taken (subst (λ l. Assembles c.args.store.now.events c.args.store.now.paths c.args.threads.now c.args.finals.now l
+          ((c.tries.left - 1) - c.assemble.new.left) None) c.deref.ensures.value (rw c.in-Ok-None.field-0-is at c.in-Ok-None.ensures.ok)) is c.tries.invariant.1,
+    )
+
+pub returns-clause-ok : goal.returns-clause-ok
+returns-clause-ok t c = tried_all c.args.store.now.events c.args.store.now.paths c.args.threads.now c.args.finals.now c.args.joined.now c.in-Some.place
+    (get_or c.args.threads.now c.in-Some.place 0) (c.args.left.now - c.tries.left) c.requires.stand
+    (got_or c.args.threads.now c.in-Some.place 0 (open_low c.args.store.now.events c.args.store.now.paths c.args.threads.now c.args.joined.now c.in-Some.place c.requires.wide
+    c.in-Some.ensures)) c.in-Some.ensures
+    (subst (λ n. TriedTo c.args.store.now.events c.args.store.now.paths c.args.threads.now c.args.finals.now c.args.joined.now (get_or c.args.threads.now c.in-Some.place 0) n
+    (c.args.left.now - c.tries.left)) (let e : c.tries.f-index ≡ length c.args.finals.now = omega
+    (arith, c.tries.auto.f-index-end, c.tries-test.false) in e) c.tries.invariant.1)

@@ -1,0 +1,67 @@
+-- What a search of parked events finds. Groups and choices are those of Donnelly and Fluet, Transactional Events, JFP 18(5-6), 2008; budgets and their counts are this project's own.
+use Rattle.std.specs.Prelude.{◌≡◌, ◌≢◌, ◌⊎◌, ◌+◌, ◌≤◌, ℕ, List, [], ◌∷◌, length, cond, ltb, nat_eq}
+use Rattle.te_terms.specs.declared.event.Outcome.{Outcome}
+use Rattle.te_terms.specs.declared.event.Parked.{Parked}
+use Rattle.te_terms.specs.Terms.{Term}
+use Rattle.te_terms.specs.Joint.{as_group}
+use Rattle.te_cert.specs.declared.cert.Member.{Member}
+use Rattle.te_cert.specs.Certificates.{Certificate}
+use Rattle.te_cert.specs.Certs.{IsTight}
+use Rattle.te_cert.specs.Checks.{ThreadsRise, Gives}
+use Rattle.te_trail.specs.Paths.{Path}
+use Rattle.te_trail.specs.Stores.{IsStore}
+use Rattle.te_search.specs.Groups.{Partial, AreTried}
+
+-- ---- a group
+
+-- the event is parked in the list under this thread and ticket
+abbrev pub IsParkedIn : List Parked → Member → Term → Type 0
+IsParkedIn [] m e = ⊥
+IsParkedIn (p ∷ ps) m e = ((p.thread ≡ m.thread) × (p.ticket ≡ m.ticket) × (p.event ≡ e)) ⊎ IsParkedIn ps m e
+
+-- the events parked under the threads and tickets of the members, in their order
+abbrev pub ArePlacedIn : List Parked → List Member → List Term → Type 0
+ArePlacedIn parked [] [] = Unit {0}
+ArePlacedIn parked (m ∷ ms) (e ∷ es) = IsParkedIn parked m e × ArePlacedIn parked ms es
+ArePlacedIn parked _ _ = ⊥
+
+-- members of the list, their threads rising, whose events give these outcomes by the certificate's play, and which can't be split into two parts with no meeting between them
+pub record IsGroupOf (parked : List Parked) (cert : Certificate) (outcomes : List Outcome) : Type 0 where
+  pub events : List Term
+  pub some_member : cert.members ≢ []
+  pub rise : ThreadsRise cert.members
+  pub placed : ArePlacedIn parked cert.members events
+  pub plays : Gives cert events outcomes
+  pub tight : IsTight (record { members = cert.members; meets = cert.meets })
+
+-- ---- a budget that is used up
+
+-- there are so many paths of the list's events and so many partial groups of them, none twice, together the budget or one less
+pub record IsUsedUp (parked : List Parked) (budget paths groups : ℕ) : Type 0 where
+  pub made : List Path
+  pub store : IsStore (as_group parked) made
+  pub tried : List Partial
+  pub are : AreTried (as_group parked) made tried
+  pub paths_are : length made ≡ paths
+  pub groups_are : length tried ≡ groups
+  pub sum : (paths + groups ≡ budget) ⊎ (paths + groups + 1 ≡ budget)
+
+-- a budget that a search takes
+abbrev pub IsBudget : ℕ → Type 0
+IsBudget budget = (1 ≤ budget) × (budget ≤ 1000000)
+
+-- ---- a list that is kept
+
+abbrev pub HasThread : List Parked → ℕ → Type 0
+HasThread [] t = ⊥
+HasThread (p ∷ ps) t = (p.thread ≡ t) ⊎ HasThread ps t
+
+-- the list with one more event, in its thread's place
+abbrev pub put_in : Parked → List Parked → List Parked
+put_in new [] = new ∷ []
+put_in new (p ∷ ps) = cond (ltb new.thread p.thread) (new ∷ p ∷ ps) (p ∷ put_in new ps)
+
+-- the list without a thread's event
+abbrev pub without : ℕ → List Parked → List Parked
+without t [] = []
+without t (p ∷ ps) = cond (nat_eq p.thread t) ps (p ∷ without t ps)

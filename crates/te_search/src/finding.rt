@@ -1,0 +1,179 @@
+// A search for a group among parked events, event by event.
+
+ghost use Rattle.std.specs.Prelude.{◌≡◌, ◌≤◌, ◌<◌, ◌↔◌, ◌+◌, ℕ, length, Ok, Err, Some, None, IfOk, IfSome, IsTrue};
+ghost use Rattle.te_cert.specs.Certificates.{Certificate};
+ghost use Rattle.te_terms.specs.Joint.{IsGroup, as_group, CanCommit};
+ghost use Rattle.te_search.specs.Findings.{IsGroupOf, IsUsedUp, IsBudget};
+ghost use Rattle.te_search.specs.Stacks.{HasLevels, IsStack, IsLeft, IsOpened, IsExploring, count_left};
+ghost use Rattle.te_search.specs.Works.{IsWithin, IsHit};
+ghost use Rattle.te_search.specs.declared.finding.SearchFault.TheVariants as faults;
+ghost use Rattle.te_search.specs.declared.finding.Found.TheVariants as answers;
+
+use crate::assembly::Refused;
+use crate::certifying::{Group, certify};
+use crate::stack::Stack;
+use crate::work::Work;
+use std::alloc::Global;
+use te_cert::Cert;
+use te_terms::{NoMemory, Parked};
+use te_trail::TrailStore;
+
+/// What a search finds: a certificate of a group, or nothing.
+#[derive(Drop)]
+pub enum Found {
+    /// These members reduce together, and can't be split into two parts with no meeting between them.
+    Group(Cert),
+    /// No part of the list reduces.
+    Blocked,
+}
+
+/// Why a search was refused.
+#[derive(Clone, Copy, Debug, PartialEq, Eq)]
+pub enum SearchFault {
+    /// The next step would pass the budget: so many paths were made and so many partial groups tried, together the
+    /// budget or one less.
+    Spent { paths: u64, groups: u64 },
+    /// There was no memory.
+    Memory,
+}
+
+impl Work {
+    // Whether paths and partial groups are at most the budget.
+    fn is_within(&self, budget: u64) -> bool
+        ensures { IsTrue result ↔ IsWithin self.now budget }
+    {
+        self.groups <= budget && self.store.len() as u64 <= budget - self.groups
+    }
+}
+
+impl Stack {
+    // How much is used.
+    fn spent(&self) -> SearchFault
+        ensures { result ≡ faults.Spent (length self.now.work.store.paths) self.now.work.groups }
+    {
+        SearchFault::Spent {
+            paths: self.work.store.len() as u64,
+            groups: self.work.groups,
+        }
+    }
+
+    // Goes back until paths and partial groups are at most the budget.
+    fn cut_within(&mut self, budget: u64)
+        requires { IsStack self.old }
+        ensures stack { IsStack self.new }
+        ensures within { IsWithin self.new.work budget }
+        ensures parked { self.new.parked ≡ self.old.parked }
+    {
+        'levels: while !self.work.is_within(budget) {
+            let count = self.levels.len();
+            if count == 0 {
+                return;
+            }
+            self.cut(count - 1);
+        }
+    }
+
+    // The group of a joined past that was found. Then its level is gone, as the search that found it isn't whole.
+    fn take(
+        &mut self,
+        alloc: Global,
+        level: usize,
+        joined: &[Option<u32>],
+    ) -> Result<Option<Group>, SearchFault>
+        requires levels { HasLevels self.old }
+        requires low { level < length self.old.levels.items }
+        requires hit { IsHit self.old.work self.old.threads.items joined.now }
+        ensures stack { IsStack self.new }
+        ensures parked { self.new.parked ≡ self.old.parked }
+        ensures some { result ≡ Ok None → ⊥ }
+        ensures group { IfOk result (λ found. IfSome found (λ group. IsGroupOf self.old.parked.items group.cert group.outcomes)) }
+        ensures spent { (paths groups : ℕ) → result ≡ Err (faults.Spent paths groups) → ⊥ }
+    {
+        let group = certify(alloc, &self.parked, &self.work, &self.threads, joined);
+        self.cut(level);
+        match group {
+            Ok(group) => Ok(Some(group)),
+            Err(_) => Err(SearchFault::Memory),
+        }
+    }
+
+    // Does all work on the event that was just planted: a group that it is in, where there is one. Then, and after a
+    // refusal, its level is gone.
+    fn explore(&mut self, alloc: Global, budget: u64) -> Result<Option<Group>, SearchFault>
+        requires exploring { IsExploring self.old }
+        requires within { IsWithin self.old.work budget }
+        requires budget { IsBudget budget }
+        ensures stack { IsStack self.new }
+        ensures parked { self.new.parked ≡ self.old.parked }
+        ensures none { result ≡ Ok None → (self.new.threads ≡ self.old.threads) × IsWithin self.new.work budget }
+        ensures group { IfOk result (λ found. IfSome found (λ group. IsGroupOf self.old.parked.items group.cert group.outcomes)) }
+        ensures spent { (paths groups : ℕ) → result ≡ Err (faults.Spent paths groups) → IsUsedUp self.old.parked.items budget paths groups }
+    {
+        let top = self.levels.len() - 1;
+        match self.work.settle(alloc, &self.threads, budget) {
+            Ok(None) => Ok(None),
+            Ok(Some(joined)) => self.take(alloc, top, &joined),
+            Err(Refused::Spent) => {
+                let spent = self.spent();
+                self.cut(top);
+                Err(spent)
+            }
+            Err(Refused::Memory) => {
+                self.cut(top);
+                Err(SearchFault::Memory)
+            }
+        }
+    }
+
+    // Plants the event at a place, and does all work on it.
+    fn advance(
+        &mut self,
+        alloc: Global,
+        place: usize,
+        budget: u64,
+    ) -> Result<Option<Group>, SearchFault>
+        requires stack { IsStack self.old }
+        requires left { IsLeft self.old.threads.items self.old.parked.items (Some place) }
+        requires within { IsWithin self.old.work budget }
+        requires budget { IsBudget budget }
+        ensures stack { IsStack self.new }
+        ensures parked { self.new.parked ≡ self.old.parked }
+        ensures none { result ≡ Ok None → (count_left self.new.threads.items self.new.parked.items < count_left self.old.threads.items self.old.parked.items) × IsWithin self.new.work budget }
+        ensures group { IfOk result (λ found. IfSome found (λ group. IsGroupOf self.old.parked.items group.cert group.outcomes)) }
+        ensures spent { (paths groups : ℕ) → result ≡ Err (faults.Spent paths groups) → IsUsedUp self.old.parked.items budget paths groups }
+    {
+        if self.work.left(budget) == 0 {
+            return Err(self.spent());
+        }
+        let Ok(()) = self.open(place) else {
+            return Err(SearchFault::Memory);
+        };
+        self.explore(alloc, budget)
+    }
+
+    /// A group among the parked events, planting those that aren't planted yet. After each answer nothing is left to do
+    /// on what is planted.
+    pub(crate) fn search(
+        &mut self,
+        alloc: Global,
+        budget: u64,
+    ) -> Result<Option<Group>, SearchFault>
+        requires stack { IsStack self.old }
+        requires budget { IsBudget budget }
+        ensures stack { IsStack self.new }
+        ensures parked { self.new.parked ≡ self.old.parked }
+        ensures group { IfOk result (λ found. IfSome found (λ group. IsGroupOf self.old.parked.items group.cert group.outcomes)) }
+        ensures blocked { result ≡ Ok None → ¬ CanCommit self.old.parked.items }
+        ensures spent { (paths groups : ℕ) → result ≡ Err (faults.Spent paths groups) → IsUsedUp self.old.parked.items budget paths groups }
+    {
+        self.cut_within(budget);
+        'events: while let Some(place) = self.next() {
+            match self.advance(alloc, place, budget) {
+                Ok(None) => {}
+                Ok(Some(group)) => return Ok(Some(group)),
+                Err(fault) => return Err(fault),
+            }
+        }
+        Ok(None)
+    }
+}

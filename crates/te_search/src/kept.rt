@@ -1,0 +1,245 @@
+// A search that is kept while its list changes.
+
+ghost use Rattle.std.specs.Prelude.{◌≡◌, ◌<◌, ◌≤◌, ℕ, List, length, [], Ok, Err, OnOk, OnErr, IfOk, Some, take, false};
+ghost use Rattle.te_terms.specs.declared.event.Outcome.{Outcome};
+ghost use Rattle.te_terms.specs.Joint.{IsGroup, as_group, CanCommit};
+ghost use Rattle.te_terms.specs.Limits.{most_threads};
+ghost use Rattle.te_cert.specs.Certificates.{Certificate};
+ghost use Rattle.te_search.specs.Findings.{IsGroupOf, IsUsedUp, IsBudget, HasThread, put_in, without};
+ghost use Rattle.te_search.specs.Stacks.{IsStack, IsPlaceFor, IsPlaceWith, has_number};
+ghost use Rattle.te_search.specs.declared.finding.SearchFault.TheVariants as faults;
+ghost use Rattle.te_search.specs.declared.kept.KeptFound.TheVariants as answers;
+ghost use Rattle.te_search.specs.declared.finding.Found.TheVariants as finds;
+
+use crate::finding::{Found, SearchFault};
+use crate::stack::{Stack, place_of};
+use crate::work::Work;
+use std::alloc::Global;
+use std::marker::Model;
+use te_cert::Cert;
+use te_terms::{Event, NoMemory, Outcome, Parked, Rows};
+use te_trail::TrailStore;
+
+// A stack of these events, of which none is planted.
+fn stack_of(alloc: Global, parked: Vec<Parked>) -> Result<Stack, NoMemory>
+    requires rise { IsGroup (as_group parked.items) }
+    ensures stack { IfOk result (λ s. IsStack s) }
+    ensures parked { IfOk result (λ s. s.parked ≡ parked) }
+{
+    let store = TrailStore::new(alloc, &[])?;
+    Ok(Stack {
+        parked,
+        threads: Vec::new(alloc),
+        levels: Vec::new(alloc),
+        work: Work {
+            store,
+            moves: Vec::new(alloc),
+            pending: Vec::new(alloc),
+            waiting: Vec::new(alloc),
+            finals: Vec::new(alloc),
+            groups: 0,
+        },
+    })
+}
+
+// The same events once more.
+fn copies_of(alloc: Global, parked: &[Parked]) -> Result<Vec<Parked>, NoMemory>
+    ensures { IfOk result (λ copies. copies.items ≡ parked.now) }
+{
+    let mut copies = Vec::new(alloc);
+    'parked: for i in 0..parked.len() {
+        let one = &parked[i];
+        let event = one.event.copy()?;
+        copies.push(Parked {
+            thread: one.thread,
+            ticket: one.ticket,
+            event,
+        })?;
+    }
+    Ok(copies)
+}
+
+/// A group among parked events, or nothing. It takes a search that tries every combination of choices and meetings,
+/// path by path; planting and branching make one path, a meeting two, and a partial group is a final path with a joined
+/// past of agreeing final paths, none tried twice. Conditions: threads rise strictly, and the budget is 1 to 1,000,000.
+/// The events are shared with the list and stay as they are.
+pub fn find(alloc: Global, parked: &[Parked], budget: u64) -> Result<Found, SearchFault>
+    requires rising { IsGroup (as_group parked.now) }
+    requires budget { IsBudget budget }
+    ensures group { (cert : Certificate) → result ≡ Ok (finds.Group cert) → (outcomes : List Outcome) × IsGroupOf parked.now cert outcomes }
+    ensures blocked { result ≡ Ok finds.Blocked → ¬ CanCommit parked.now }
+    ensures spent { (paths groups : ℕ) → result ≡ Err (faults.Spent paths groups) → IsUsedUp parked.now budget paths groups }
+{
+    let Ok(copies) = copies_of(alloc, parked) else {
+        return Err(SearchFault::Memory);
+    };
+    let Ok(mut stack) = stack_of(alloc, copies) else {
+        return Err(SearchFault::Memory);
+    };
+    match stack.search(alloc, budget) {
+        Ok(Some(group)) => Ok(Found::Group(group.cert)),
+        Ok(None) => Ok(Found::Blocked),
+        Err(fault) => Err(fault),
+    }
+}
+
+impl Stack {
+    // The place of a new thread.
+    fn place_for(&self, thread: u32) -> usize
+        ensures { IsPlaceFor self.now.parked.items thread result }
+    {
+        'places: for i in 0..self.parked.len() {
+            if thread < self.parked[i].thread {
+                return i;
+            }
+        }
+        self.parked.len()
+    }
+
+    // The place of a thread that has an event.
+    fn place_with(&self, thread: u32) -> usize
+        requires { HasThread self.now.parked.items thread }
+        ensures { IsPlaceWith self.now.parked.items thread result }
+    {
+        'places: for i in 0..self.parked.len() {
+            if self.parked[i].thread == thread {
+                return i;
+            }
+        }
+        unreachable!()
+    }
+
+    // Puts one more event into the list. It isn't planted yet.
+    fn post(&mut self, parked: Parked) -> Result<(), NoMemory>
+        requires stack { IsStack self.old }
+        requires none { ¬ HasThread self.old.parked.items parked.thread }
+        ensures stack { IsStack self.new }
+        ensures ok { OnOk result (self.new.parked.items ≡ put_in parked self.old.parked.items) }
+        ensures err { OnErr result (self.new.parked.items ≡ self.old.parked.items) }
+    {
+        let place = self.place_for(parked.thread);
+        self.parked.insert(place, parked)?;
+        Ok(())
+    }
+
+    // Goes back to before a thread's event was planted.
+    fn uproot(&mut self, thread: u32)
+        requires stack { IsStack self.old }
+        ensures stack { IsStack self.new }
+        ensures parked { self.new.parked ≡ self.old.parked }
+        ensures gone { has_number self.new.threads.items thread ≡ false }
+    {
+        let Some(i) = place_of(&self.threads, thread) else {
+            return;
+        };
+        self.cut(i);
+    }
+
+    // Takes an event out of the list, and goes back to before it was planted.
+    fn remove(&mut self, thread: u32)
+        requires stack { IsStack self.old }
+        requires there { HasThread self.old.parked.items thread }
+        ensures stack { IsStack self.new }
+        ensures parked { self.new.parked.items ≡ without thread self.old.parked.items }
+    {
+        self.uproot(thread);
+        let place = self.place_with(thread);
+        let _gone = self.parked.remove(place);
+    }
+}
+
+/// What a kept search finds: the certificate of a group with the outcomes of its members, in their order, or nothing.
+#[derive(Drop)]
+pub enum KeptFound {
+    /// These members reduce together to these outcomes, and can't be split into two parts with no meeting between them.
+    Group(Cert, Rows<Outcome>),
+    /// No part of the list reduces.
+    Blocked,
+}
+
+/// A search that is kept while its list changes, for rounds of commits and posts. It is seen as a list of parked events
+/// with threads rising. Inside it plants one event after the other, each only where nothing is left to do on those
+/// before: so it can go back to how all stood before any event that is removed. This is the project's own.
+#[derive(Drop)]
+pub struct KeptSearch {
+    stack: Option<Stack>,
+}
+
+impl Model for KeptSearch {
+    ghost use Rattle.std.specs.Prelude.{List};
+    ghost use Rattle.std.specs.Coded.{coded_list};
+    ghost use Rattle.te_terms.specs.declared.event.Parked.{Parked};
+    ghost use Rattle.te_terms.specs.contracts.event.Parked as row;
+
+    ghost Value = { List Parked };
+
+    ghost coded = { coded_list row.the_row.coded };
+
+    ghost use Rattle.te_search.specs.Stacks.{parked_of, IsKept};
+
+    ghost view = { λ k. parked_of k.stack };
+
+    ghost invariant = { λ k. IsKept k.stack };
+}
+
+impl KeptSearch {
+    /// A search of no event. Where there is no memory for it, no event can be posted to it.
+    pub fn new(alloc: Global) -> KeptSearch
+        ensures { result ≡ [] }
+    {
+        match stack_of(alloc, Vec::new(alloc)) {
+            Ok(stack) => KeptSearch { stack: Some(stack) },
+            Err(_) => KeptSearch { stack: None },
+        }
+    }
+
+    /// Parks an event, which is shared, for a thread under a ticket. Conditions: the thread is below 64 and has none. The
+    /// one refusal is want of memory, and leaves the list as it was.
+    pub fn post(&mut self, thread: u32, ticket: u32, event: &Event) -> Result<(), NoMemory>
+        requires few { thread < most_threads }
+        requires none { ¬ HasThread self.old thread }
+        ensures ok { OnOk result (self.new ≡ put_in (record { thread = thread; ticket = ticket; event = event.now }) self.old) }
+        ensures err { OnErr result (self.new ≡ self.old) }
+    {
+        let event = event.copy()?;
+        match &mut self.stack {
+            Some(stack) => stack.post(Parked {
+                thread,
+                ticket,
+                event,
+            }),
+            None => Err(NoMemory),
+        }
+    }
+
+    /// Takes a thread's event out of the list. Condition: it has one. It takes no memory.
+    pub fn remove(&mut self, thread: u32)
+        requires { HasThread self.old thread }
+        ensures { self.new ≡ without thread self.old }
+    {
+        match &mut self.stack {
+            Some(stack) => stack.remove(thread),
+            None => unreachable!(),
+        }
+    }
+
+    /// A group among the parked events with its outcomes, or nothing; see `find`. Whatever the answer, the list is as
+    /// before. Condition: the budget is 1 to 1,000,000. What was found before on events that are still parked counts for
+    /// the budget, and isn't done again; where that is more than the budget, the search goes back until it isn't.
+    pub fn find(&mut self, alloc: Global, budget: u64) -> Result<KeptFound, SearchFault>
+        requires { IsBudget budget }
+        ensures same { self.new ≡ self.old }
+        ensures group { (cert : Certificate) (outcomes : List Outcome) → result ≡ Ok (answers.Group cert outcomes) → IsGroupOf self.old cert outcomes }
+        ensures blocked { result ≡ Ok answers.Blocked → ¬ CanCommit self.old }
+        ensures spent { (paths groups : ℕ) → result ≡ Err (faults.Spent paths groups) → IsUsedUp self.old budget paths groups }
+    {
+        match &mut self.stack {
+            Some(stack) => match stack.search(alloc, budget) {
+                Ok(Some(group)) => Ok(KeptFound::Group(group.cert, group.outcomes)),
+                Ok(None) => Ok(KeptFound::Blocked),
+                Err(fault) => Err(fault),
+            },
+            None => Ok(KeptFound::Blocked),
+        }
+    }
+}
