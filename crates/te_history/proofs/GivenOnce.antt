@@ -228,3 +228,8 @@ given_once callers history t ticket outcome loose stands = ((once callers histor
 pub none_yet : (callers : ℕ) (history : List Entry) (t ticket : ℕ) (event : Term) → IsLoose callers history
     → Stands (state callers history) t (parked ticket event) → givings t ticket history ≡ []
 none_yet callers history t ticket event loose stands = ((once callers history t loose).parked_so ticket event stands).1
+
+-- the ticket of a parked caller is one of its posts
+pub ticket_below : (callers : ℕ) (history : List Entry) (t ticket : ℕ) (event : Term) → IsLoose callers history
+    → Stands (state callers history) t (parked ticket event) → ticket < posts_by t history
+ticket_below callers history t ticket event loose stands = ((once callers history t loose).parked_so ticket event stands).0

@@ -10,6 +10,7 @@ use Rattle.te_terms.specs.Measures.{fresh_count}
 use Rattle.te_terms.specs.Steps as steps
 use Rattle.te_terms.specs.Joint.{RiseFrom, IsGroup}
 use Rattle.te_cert.specs.declared.cert.Member.{Member}
+use Rattle.te_cert.specs.declared.cert.Cert.{Cert}
 use Rattle.te_cert.specs.Checks.{RiseAfter, ThreadsRise}
 use Rattle.te_cert.proofs.PlaysReduce.{plays_reduce}
 use Rattle.te_script.specs.Scripts.{Thread, Program, IsThread, IsProgram}
@@ -54,18 +55,17 @@ all_idle zero t x is = absurd cc
 all_idle (suc n) zero x is = cc
 all_idle (suc n) (suc t) x is = all_idle n t x is
 
-module _ (P : ℕ → Type 0) (channels : ℕ) (threads : List Thread) (low : (c : ℕ) → c < channels → P c)
-    (makes : (t : ℕ) → t < length threads → Makes P t) (each : AllByRecursion (IsThread channels) threads) where
-  abbrev StandingHas : Standing → Type 0
+module _ (P : ℕ → Type 0) (channels : ℕ) (threads : List Thread) (low : (c : ℕ) → c < channels → P c) (each : AllByRecursion (IsThread channels) threads) where
+  abbrev pub StandingHas : Standing → Type 0
   StandingHas idle = Unit {0}
   StandingHas (parked ticket event) = EventHas P event
   StandingHas (given ticket outcome) = OutcomeHas P outcome
   StandingHas ended = Unit {0}
 
-  abbrev StateHas : State → Type 0
+  abbrev pub StateHas : State → Type 0
   StateHas s = (t : ℕ) (x : Standing) → Stands s t x → StandingHas x
 
-  record SoFar (h : List Entry) : Type 0 where
+  pub record SoFar (h : List Entry) : Type 0 where
     pub taken_so : (t : ℕ) → AllByRecursion (OutcomeHas P) (taken t h)
     pub state_so : StateHas (state (length threads) h)
     pub entries_so : AllByRecursion (EntryHas P) h
@@ -101,23 +101,28 @@ module _ (P : ℕ → Type 0) (channels : ℕ) (threads : List Thread) (low : (c
 
   -- ---- commits
 
-  group_fits : (h : List Entry) (ms : List Member) (gs : List steps.Member) → StateHas (state (length threads) h) → AreEvents (state (length threads) h) ms gs → AllFit P gs
-  group_fits h [] [] all events = tt
-  group_fits h [] (g ∷ gs) all events = absurd events
-  group_fits h (m ∷ ms) [] all events = absurd events
-  group_fits h (m ∷ ms) (g ∷ gs) all events =
-      let has = all m.thread (parked m.ticket g.term) events.1 in
-      let within : m.thread < length threads =
-      omega (arith, slice_get_within (state (length threads) h).callers m.thread (parked m.ticket g.term) events.1, length-state (length threads) h) in
-      let count : 0 + fresh_count g.term ≤ most_fresh = omega (arith, has.few) in
-      let fits : Fits P (steps.come_to m.thread m.ticket 0 g.term) = record { term = has.term; few = count; makes = makes m.thread within } in
-      (subst (Fits P) (sym events.0) fits, group_fits h ms gs all events.2)
+  -- the members of a commit make such channels
+  abbrev pub MembersMake : Entry → Type 0
+  MembersMake (entries.Commit by cert outcomes) = AllByRecursion (λ m. Makes P m.thread m.ticket) cert.members
+  MembersMake _ = Unit {0}
 
-  commit_has : (h : List Entry) (cert : _) (outcomes : List Outcome) → StateHas (state (length threads) h) → Commits (state (length threads) h) cert outcomes → AllByRecursion (OutcomeHas P) outcomes
-  commit_has h cert outcomes all commits =
+  group_fits : (h : List Entry) (ms : List Member) (gs : List steps.Member) → StateHas (state (length threads) h) → AreEvents (state (length threads) h) ms gs
+      → AllByRecursion (λ m. Makes P m.thread m.ticket) ms → AllFit P gs
+  group_fits h [] [] all events makes = tt
+  group_fits h [] (g ∷ gs) all events makes = absurd events
+  group_fits h (m ∷ ms) [] all events makes = absurd events
+  group_fits h (m ∷ ms) (g ∷ gs) all events makes =
+      let has = all m.thread (parked m.ticket g.term) events.1 in
+      let count : 0 + fresh_count g.term ≤ most_fresh = omega (arith, has.few) in
+      let fits : Fits P (steps.come_to m.thread m.ticket 0 g.term) = record { term = has.term; few = count; makes = makes.0 } in
+      (subst (Fits P) (sym events.0) fits, group_fits h ms gs all events.2 makes.1)
+
+  commit_has : (h : List Entry) (cert : Cert) (outcomes : List Outcome) → StateHas (state (length threads) h) → Commits (state (length threads) h) cert outcomes
+      → AllByRecursion (λ m. Makes P m.thread m.ticket) cert.members → AllByRecursion (OutcomeHas P) outcomes
+  commit_has h cert outcomes all commits makes =
       let s = state (length threads) h in
       let reduces = plays_reduce commits.group (map (λ m. m.choices) cert.members) cert.meets _ (is_group s cert.members commits.group commits.rise commits.events) commits.plays in
-      reductions_have P commits.group commits.word outcomes (group_fits h cert.members commits.group all commits.events) reduces
+      reductions_have P commits.group commits.word outcomes (group_fits h cert.members commits.group all commits.events makes) reduces
 
   -- ---- entries
 
@@ -137,25 +142,25 @@ module _ (P : ℕ → Type 0) (channels : ℕ) (threads : List Thread) (low : (c
   end_has (Some x) t ways.Stuck outs is ho w = tt
   end_has None t how outs is ho w = absurd w
 
-  entry_has : (h : List Entry) (e : Entry) → LooselyFollows (length threads) h e → WishedBy (slice_get threads (caller_of e)) (taken (caller_of e) h) e → SoFar h → EntryHas P e
-  entry_has h (entries.Post by ticket event) follows w so = (post_has (slice_get threads by) by ticket event (taken by h) refl (so.taken_so by) w).term
-  entry_has h (entries.Commit by cert outcomes) follows w so = commit_has h cert outcomes so.state_so follows.2
-  entry_has h (entries.Withdraw by ticket) follows w so = tt
-  entry_has h (entries.Take by ticket outcome) follows w so = so.state_so by (given ticket outcome) follows.1
-  entry_has h (entries.Rest by) follows w so = tt
-  entry_has h (entries.Stuck by) follows w so = tt
-  entry_has h (entries.End by how) follows w so = end_has (slice_get threads by) by how (taken by h) refl (so.taken_so by) w
+  entry_has : (h : List Entry) (e : Entry) → LooselyFollows (length threads) h e → WishedBy (slice_get threads (caller_of e)) (taken (caller_of e) h) e → SoFar h → MembersMake e → EntryHas P e
+  entry_has h (entries.Post by ticket event) follows w so makes = (post_has (slice_get threads by) by ticket event (taken by h) refl (so.taken_so by) w).term
+  entry_has h (entries.Commit by cert outcomes) follows w so makes = commit_has h cert outcomes so.state_so follows.2 makes
+  entry_has h (entries.Withdraw by ticket) follows w so makes = tt
+  entry_has h (entries.Take by ticket outcome) follows w so makes = so.state_so by (given ticket outcome) follows.1
+  entry_has h (entries.Rest by) follows w so makes = tt
+  entry_has h (entries.Stuck by) follows w so makes = tt
+  entry_has h (entries.End by how) follows w so makes = end_has (slice_get threads by) by how (taken by h) refl (so.taken_so by) w
 
   state_has : (h : List Entry) (e : Entry) → LooselyFollows (length threads) h e → WishedBy (slice_get threads (caller_of e)) (taken (caller_of e) h)
-      e → SoFar h → StateHas (changed (state (length threads) h) e)
-  state_has h (entries.Post by ticket event) follows w so =
+      e → SoFar h → MembersMake e → StateHas (changed (state (length threads) h) e)
+  state_has h (entries.Post by ticket event) follows w so makes =
       put_has (state (length threads) h) by idle (parked ticket event) follows.1 (post_has (slice_get threads by) by ticket event (taken by h) refl (so.taken_so by) w) so.state_so
-  state_has h (entries.Commit by cert outcomes) follows w so = given_has cert.members outcomes (state (length threads) h) (commit_has h cert outcomes so.state_so follows.2) so.state_so
-  state_has h (entries.Withdraw by ticket) follows w so = put_has (state (length threads) h) by (parked ticket follows.1.0) idle follows.1.1 tt so.state_so
-  state_has h (entries.Take by ticket outcome) follows w so = put_has (state (length threads) h) by (given ticket outcome) idle follows.1 tt so.state_so
-  state_has h (entries.Rest by) follows w so = so.state_so
-  state_has h (entries.Stuck by) follows w so = so.state_so
-  state_has h (entries.End by how) follows w so = let was = stood how follows in put_has (state (length threads) h) by was.0 ended was.1 tt so.state_so
+  state_has h (entries.Commit by cert outcomes) follows w so makes = given_has cert.members outcomes (state (length threads) h) (commit_has h cert outcomes so.state_so follows.2 makes) so.state_so
+  state_has h (entries.Withdraw by ticket) follows w so makes = put_has (state (length threads) h) by (parked ticket follows.1.0) idle follows.1.1 tt so.state_so
+  state_has h (entries.Take by ticket outcome) follows w so makes = put_has (state (length threads) h) by (given ticket outcome) idle follows.1 tt so.state_so
+  state_has h (entries.Rest by) follows w so makes = so.state_so
+  state_has h (entries.Stuck by) follows w so makes = so.state_so
+  state_has h (entries.End by how) follows w so makes = let was = stood how follows in put_has (state (length threads) h) by was.0 ended was.1 tt so.state_so
     where
       stood : (how : How) → Ends (state (length threads) h) by how → (s : Standing) × Stands (state (length threads) h) by s
       stood (ways.Done values) ends = (idle, ends.1)
@@ -179,28 +184,44 @@ module _ (P : ℕ → Type 0) (channels : ℕ) (threads : List Thread) (low : (c
   appended Q [] ys hx hy = hy
   appended Q (x ∷ xs) ys hx hy = (hx.0, appended Q xs ys hx.1 hy)
 
-  goes_on : (h : List Entry) (e : Entry) → LooselyFollows (length threads) h e → WishedBy (slice_get threads (caller_of e)) (taken (caller_of e) h) e → SoFar h → SoFar (h ++ e ∷ [])
-  goes_on h e follows w so =
-      let has = entry_has h e follows w so in
+  pub goes_on : (h : List Entry) (e : Entry) → LooselyFollows (length threads) h e → WishedBy (slice_get threads (caller_of e)) (taken (caller_of e) h) e → SoFar h → MembersMake e → SoFar (h ++ e ∷ [])
+  goes_on h e follows w so makes =
+      let has = entry_has h e follows w so makes in
       record {
         taken_so = λ t. subst (AllByRecursion (OutcomeHas P)) (sym (taken_more t h e)) (appended (OutcomeHas P) (taken t h) (taken_from t e []) (so.taken_so t) (taken_has t e has));
-        state_so = subst StateHas (sym (state-after (length threads) h e)) (state_has h e follows w so);
+        state_so = subst StateHas (sym (state-after (length threads) h e)) (state_has h e follows w so makes);
         entries_so = appended (EntryHas P) h (e ∷ []) so.entries_so (has, tt);
       }
 
-  first : SoFar []
+  pub first : SoFar []
   first = record {
     taken_so = λ t. tt;
     state_so = λ t x stands. subst StandingHas (sym (all_idle (length threads) t x stands)) tt;
     entries_so = tt;
   }
 
+-- the members of a commit are threads
+members_make : (P : ℕ → Type 0) (n : ℕ) (s : State) (ms : List Member) (gs : List steps.Member) → length s.callers ≡ n → ((t k : ℕ) → t < n → Makes P t k) → AreEvents s ms gs → AllByRecursion (λ m. Makes P m.thread m.ticket) ms
+members_make P n s [] [] many makes events = tt
+members_make P n s [] (g ∷ gs) many makes events = absurd events
+members_make P n s (m ∷ ms) [] many makes events = absurd events
+members_make P n s (m ∷ ms) (g ∷ gs) many makes events =
+    let within : m.thread < n = omega (arith, slice_get_within s.callers m.thread (parked m.ticket g.term) events.1, many) in
+    (makes m.thread m.ticket within, members_make P n s ms gs many makes events.2)
+
+entry_makes : (P : ℕ → Type 0) (channels : ℕ) (threads : List Thread) (low : (c : ℕ) → c < channels → P c) (each : AllByRecursion (IsThread channels) threads) (h : List Entry) (e : Entry)
+    → ((t k : ℕ) → t < length threads → Makes P t k) → LooselyFollows (length threads) h e → MembersMake P channels threads low each e
+entry_makes P channels threads low each h (entries.Commit by cert outcomes) makes follows =
+    members_make P (length threads) (state (length threads) h) cert.members follows.2.group (length-state (length threads) h) makes follows.2.events
+entry_makes P channels threads low each h _ makes follows = tt
+
 pub of_script : (script : Program) (history : List Entry) → IsProgram script → IsLoose (length script.threads) history → IsOfScript script history → AllByRecursion (HasChannelsOf script) history
 of_script script history is loose wished =
     (grows_wished (length script.threads) script.threads
-    (SoFar (IsChannelOf script) (length script.channels) script.threads (λ c few. inl few) makes is.each)
-    (goes_on (IsChannelOf script) (length script.channels) script.threads (λ c few. inl few) makes is.each)
-    [] history loose wished (first (IsChannelOf script) (length script.channels) script.threads (λ c few. inl few) makes is.each)).entries_so
+    (SoFar (IsChannelOf script) (length script.channels) script.threads (λ c few. inl few) is.each)
+    (λ h e follows w so. goes_on (IsChannelOf script) (length script.channels) script.threads (λ c few. inl few) is.each h e follows w so
+    (entry_makes (IsChannelOf script) (length script.channels) script.threads (λ c few. inl few) is.each h e makes follows))
+    [] history loose wished (first (IsChannelOf script) (length script.channels) script.threads (λ c few. inl few) is.each)).entries_so
   where
-    makes : (t : ℕ) → t < length script.threads → Makes (IsChannelOf script) t
-    makes t there = λ ticket count few. inr (record { thread = t; ticket = ticket; count = count; is_thread = there; few = few; number = refl })
+    makes : (t k : ℕ) → t < length script.threads → Makes (IsChannelOf script) t k
+    makes t k there = λ count few. inr (record { thread = t; ticket = k; count = count; is_thread = there; few = few; number = refl })

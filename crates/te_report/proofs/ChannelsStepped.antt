@@ -1,4 +1,4 @@
--- Steps bring in no other channels than fresh ones of the member's thread.
+-- Steps bring in no other channels than fresh ones of the member.
 use Rattle.std.proofs.Common.{◌≡◌, ℕ, suc, ◌+◌, ◌<◌, ◌≤◌, Bool, true, false, cond, eqb, List, [], ◌∷◌, Option, Some, None, Result, Ok, Err, refl, sym, ap, subst, ◌∙◌, arith}
 use Rattle.std.specs.List.{AllByRecursion}
 use Rattle.std.specs.Option.{option_map, option_and_then}
@@ -20,23 +20,23 @@ use Rattle.te_report.specs.Channels.{ValueHas, TermHas, OutcomeHas}
 use Rattle.te_report.proofs.ChannelsEvaluated.{trap_has, value_has, outcome_has, bound_has}
 
 module _ (P : ℕ → Type 0) where
-  -- the member's thread makes such channels
-  abbrev pub Makes : ℕ → Type 0
-  Makes thread = (ticket count : ℕ) → count < most_fresh → P (fresh_channel thread ticket count)
+  -- the thread makes such channels under the ticket
+  abbrev pub Makes : ℕ → ℕ → Type 0
+  Makes thread ticket = (count : ℕ) → count < most_fresh → P (fresh_channel thread ticket count)
 
   pub record Fits (m : Member) : Type 0 where
     pub term : TermHas P m.term
     pub few : m.count + fresh_count m.term ≤ most_fresh
-    pub makes : Makes m.thread
+    pub makes : Makes m.thread m.ticket
 
   -- ---- quiet steps
 
-  module _ (t k c : ℕ) (makes : Makes t) where
+  module _ (t k c : ℕ) (makes : Makes t k) where
     abbrev Has : Member → Type 0
-    Has m = TermHas P m.term × (m.thread ≡ t)
+    Has m = TermHas P m.term × (m.thread ≡ t) × (m.ticket ≡ k)
 
     of_trap : (x : Trap) (m : Member) → Some (come_to t k c (raising (trap_value x))) ≡ Some m → Has m
-    of_trap x m is = let same : come_to t k c (raising (trap_value x)) ≡ m = cc in subst Has same (trap_has P x, refl)
+    of_trap x m is = let same : come_to t k c (raising (trap_value x)) ≡ m = cc in subst Has same (trap_has P x, refl, refl)
 
     of_value : (r : Result (List Atom) Trap) (m : Member) → option_map (come_to t k c) (thrown r) ≡ Some m → Has m
     of_value (Ok v) m is = absurd cc
@@ -52,19 +52,19 @@ module _ (P : ℕ → Type 0) where
 
     of_then : (o : Option Outcome) (step : Option Member) (n : ℕ) (f : Term) (m : Member) → ((x : Outcome) → o ≡ Some x → OutcomeHas P x) → TermHas P f
         → ((p : Member) → step ≡ Some p → Has p) → goes_on (come_to t k c) o step n f ≡ Some m → Has m
-    of_then (Some (Gives v)) step n f m ends hf first is = let same : come_to t k c (bound n v f) ≡ m = cc in subst Has same (bound_has P n v f (ends (Gives v) refl) hf, refl)
-    of_then (Some (Raises v)) step n f m ends hf first is = let same : come_to t k c (raising v) ≡ m = cc in subst Has same (ends (Raises v) refl, refl)
+    of_then (Some (Gives v)) step n f m ends hf first is = let same : come_to t k c (bound n v f) ≡ m = cc in subst Has same (bound_has P n v f (ends (Gives v) refl) hf, refl, refl)
+    of_then (Some (Raises v)) step n f m ends hf first is = let same : come_to t k c (raising v) ≡ m = cc in subst Has same (ends (Raises v) refl, refl, refl)
     of_then None None n f m ends hf first is = absurd cc
     of_then None (Some p) n f m ends hf first is =
-        let same : under_then n f p ≡ m = cc in let h = first p refl in subst Has same ((h.0, hf), h.1)
+        let same : under_then n f p ≡ m = cc in let h = first p refl in subst Has same ((h.0, hf), h.1, h.2)
 
     of_catch : (o : Option Outcome) (step : Option Member) (n : ℕ) (f : Term) (m : Member) → ((x : Outcome) → o ≡ Some x → OutcomeHas P x) → TermHas P f
         → ((p : Member) → step ≡ Some p → Has p) → is_caught (come_to t k c) o step n f ≡ Some m → Has m
-    of_catch (Some (Gives v)) step n f m ends hf first is = let same : come_to t k c (giving v) ≡ m = cc in subst Has same (ends (Gives v) refl, refl)
-    of_catch (Some (Raises v)) step n f m ends hf first is = let same : come_to t k c (bound n v f) ≡ m = cc in subst Has same (bound_has P n v f (ends (Raises v) refl) hf, refl)
+    of_catch (Some (Gives v)) step n f m ends hf first is = let same : come_to t k c (giving v) ≡ m = cc in subst Has same (ends (Gives v) refl, refl, refl)
+    of_catch (Some (Raises v)) step n f m ends hf first is = let same : come_to t k c (bound n v f) ≡ m = cc in subst Has same (bound_has P n v f (ends (Raises v) refl) hf, refl, refl)
     of_catch None None n f m ends hf first is = absurd cc
     of_catch None (Some p) n f m ends hf first is =
-        let same : under_catch n f p ≡ m = cc in let h = first p refl in subst Has same ((h.0, hf), h.1)
+        let same : under_catch n f p ≡ m = cc in let h = first p refl in subst Has same ((h.0, hf), h.1, h.2)
 
     decided_has : (r : Result Bool Trap) (e f : Term) → TermHas P e → TermHas P f → TermHas P (decided r e f)
     decided_has (Ok true) e f he hf = he
@@ -75,7 +75,7 @@ module _ (P : ℕ → Type 0) where
     step_has (always e) m few h is = of_value (value_of e) m is
     step_has never m few h is = absurd cc
     step_has fresh m few h is =
-        let same : come_to t k (suc c) (giving (Chan (fresh_channel t k c) ∷ [])) ≡ m = cc in subst Has same ((makes k c (omega (arith, few)), tt), refl)
+        let same : come_to t k (suc c) (giving (Chan (fresh_channel t k c) ∷ [])) ≡ m = cc in subst Has same ((makes c (omega (arith, few)), tt), refl, refl)
     step_has (throw e) m few h is = of_value (value_of e) m is
     step_has (send p e) m few h is = of_send (channel_value p) (value_of e) m is
     step_has (recv p) m few h is = of_receive (channel_value p) m is
@@ -85,13 +85,13 @@ module _ (P : ℕ → Type 0) where
     step_has (catch e n f) m few h is =
         of_catch (outcome_of e) (quiet_step_of t k c e) n f m (λ x at. outcome_has P e x h.0 at) h.1 (λ p at. step_has e p (omega (arith, few)) h.0 at) is
     step_has (when test p q e f) m few h is =
-        let same : come_to t k c (decided (test_value test p q) e f) ≡ m = cc in subst Has same (decided_has (test_value test p q) e f h.2 h.3, refl)
+        let same : come_to t k c (decided (test_value test p q) e f) ≡ m = cc in subst Has same (decided_has (test_value test p q) e f h.2 h.3, refl, refl)
 
   quiet_fits : (m p : Member) → Fits m → quiet_step m ≡ Some p → Fits p
   quiet_fits m p fits is =
       let has = step_has m.thread m.ticket m.count fits.makes m.term p fits.few fits.term is in
       let made = quiet_makes m p is in
-      record { term = has.0; few = omega (arith, made.1, fits.few); makes = subst Makes (sym has.1) fits.makes }
+      record { term = has.0; few = omega (arith, made.1, fits.few); makes = subst (λ (t : ℕ). Makes t p.ticket) (sym has.1) (subst (Makes m.thread) (sym has.2) fits.makes) }
 
   -- ---- heads
 

@@ -1,0 +1,17 @@
+pub mod HousesKept
+pub mod Continuing
+pub mod BoardStates
+pub mod ParkedChanges
+pub mod Openings
+pub mod RoundsSoFar
+pub mod ClosingsSoFar
+pub mod TurnsOfRounds
+pub mod GroupsGiven
+pub mod TakesSoFar
+pub mod ListsKept
+pub mod RoundsDone
+pub mod ChannelsMore
+pub mod FreshMade
+pub mod FreshDifferent
+pub mod FreshApart
+pub mod FirstHouse

@@ -1,0 +1,5 @@
+pub mod Rounds
+pub mod Houses
+pub mod Runs
+pub mod Finishing
+pub mod FreshChannels
