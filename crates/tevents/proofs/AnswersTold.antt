@@ -2,8 +2,17 @@
 use Rattle.std.proofs.Common.{◌≡◌, ◌↔◌, ℕ, ◌-◌, ◌<◌, ◌≤◌, List, [], ◌∷◌, length, length-take, take, refl, ap, ◌⊎◌, Result, Ok, Err, subst, sym, ◌∙◌, inl, inr, arith}
 use Rattle.std.specs.Prelude.{IfOk}
 use Rattle.std.proofs.lemmas.List.{take_all}
+use Rattle.te_script.specs.Scripts.{Program}
+use Rattle.te_reader.specs.Text.{Text}
+use Rattle.te_report.specs.declared.ending.Ending.{Ending}
+use Rattle.te_report.specs.declared.ending.Ending.TheVariants as endings
+use Rattle.te_history.specs.declared.entry.Entry.{Entry}
+use Rattle.tevents.specs.declared.task.Task.{Task}
+use Rattle.tevents.specs.declared.task.Task.TheVariants as tasks
+use Rattle.te_report.specs.Report.{second, IsReport}
+use Rattle.tevents.specs.SerialRuns.{EndsSo, IsRunReport, IsStatusAt}
 use Rattle.tevents.specs.Headline.{IsHeadline}
-use Rattle.tevents.specs.Causes.{IsAnswer, IsDone, IsScriptText, IsFirstText, IsStatus, IsLineOfFive, unbuilt_line}
+use Rattle.tevents.specs.Causes.{IsOf, IsFault, Tells, IsAnswer, IsDone, HasStopped, IsTold, IsReadWhole, IsSilent, IsScriptText, IsStatus, IsPrinted}
 use Rattle.tevents.specs.FaultLines.{fault_line}
 use Rattle.te_reader.specs.declared.fault.ScriptFault.{ScriptFault}
 use Rattle.te_reader.specs.Places.{HasFault, StandsIn, place_in, place_behind, fault_from}
@@ -35,75 +44,109 @@ module _ (read given : List ℕ) (first : given ≡ take 1048577 read) (whole : 
       let same : given ≡ read = first ∙ take_all 1048577 read size in
       subst IsScriptText (sym same) told
 
-  script_taken : IsScriptText given → IsScriptText read
-  script_taken told = subst IsScriptText (whole told.1.size) told
+  pub answer_to_all : (task : Task) (written : List ℕ) (status : ℕ) → IsAnswer task given written status → IsAnswer task read written status
+  answer_to_all task written status (inl told) =
+      inl (subst (λ (bytes : List ℕ). IsOf (Tells task) bytes written status) (whole told.text.size) told)
+  answer_to_all task written status (inr fault) = inr (record { no_script = λ told. fault.no_script (script_given told); fault = fault.fault; stands = fault_taken fault.fault fault.stands; line = fault.line; status_is = fault.status_is })
 
-  first_given : IsFirstText read → IsFirstText given
-  first_given told =
-      let size : length read ≤ 1048577 = omega (arith, told.1.size) in
-      let same : given ≡ read = first ∙ take_all 1048577 read size in
-      subst IsFirstText (sym same) told
+-- ---- which statuses there are
 
-  pub answer_to_all : {written : List ℕ} {status : ℕ} → IsAnswer given written status → IsAnswer read written status
-  answer_to_all {written} {status} (inl told) =
-      let P : List ℕ → Type 0 = λ bytes. IsHeadline bytes written status in
-      inl (subst P (whole told.text.size) told)
-  answer_to_all (inr (inl fault)) = inr (inl (record { no_script = λ told. fault.no_script (script_given told); fault = fault.fault; stands = fault_taken fault.fault fault.stands; line = fault.line; status_is = fault.status_is }))
-  answer_to_all (inr (inr unbuilt)) =
-      inr (inr (record { is_script = script_taken unbuilt.is_script; not_first = λ told. unbuilt.not_first (first_given told); line = unbuilt.line; status_is = unbuilt.status_is }))
+status_of_run : (history : List Entry) (ending : Ending) (status : ℕ) → IsStatusAt history ending status → IsReadWhole status
+status_of_run history endings.Closed status told = elim told [ inl stuck ↦ inl (inr stuck.1) | inr none ↦ inl (inl none.1) ]
+status_of_run history endings.Full status told = inr (inl told)
+status_of_run history (endings.Spent front paths groups) status told = inr (inr told)
+
+pub told_of_script : (task : Task) (script : Program) (written : List ℕ) (status : ℕ) → Tells task script written status → IsReadWhole status
+told_of_script (tasks.Run budget) script written status told = status_of_run told.history told.ending status told.status_is
+told_of_script tasks.Print script written status told = inl (inl told.1)
+
+as_told : (status : ℕ) → IsReadWhole status → IsTold status
+as_told status (inl done) = inl done
+as_told status (inr stopped) = inr (inr stopped)
+
+pub told_of_answer : (task : Task) (read written : List ℕ) (status : ℕ) → IsAnswer task read written status → IsTold status
+told_of_answer task read written status (inl told) = as_told status (told_of_script task told.script written status told.told)
+told_of_answer task read written status (inr fault) = inr (inl fault.status_is)
+
+-- a told status is no other
+pub told_apart : (status : ℕ) → IsTold status → (status ≡ 4 → ⊥) × (IsSilent status → ⊥)
+told_apart status told = (λ e. apart told e, λ h. elim h [ inl e ↦ two told e | inr (inl e) ↦ three told e | inr (inr e) ↦ nine told e ])
+  where
+    apart : IsTold status → status ≡ 4 → ⊥
+    apart (inl (inl z)) e = omega (arith, z, e)
+    apart (inl (inr o)) e = omega (arith, o, e)
+    apart (inr (inl f)) e = omega (arith, f, e)
+    apart (inr (inr (inl x))) e = omega (arith, x, e)
+    apart (inr (inr (inr x))) e = omega (arith, x, e)
+
+    two : IsTold status → status ≡ 2 → ⊥
+    two (inl (inl z)) e = omega (arith, z, e)
+    two (inl (inr o)) e = omega (arith, o, e)
+    two (inr (inl f)) e = omega (arith, f, e)
+    two (inr (inr (inl x))) e = omega (arith, x, e)
+    two (inr (inr (inr x))) e = omega (arith, x, e)
+
+    three : IsTold status → status ≡ 3 → ⊥
+    three (inl (inl z)) e = omega (arith, z, e)
+    three (inl (inr o)) e = omega (arith, o, e)
+    three (inr (inl f)) e = omega (arith, f, e)
+    three (inr (inr (inl x))) e = omega (arith, x, e)
+    three (inr (inr (inr x))) e = omega (arith, x, e)
+
+    nine : IsTold status → status ≡ 9 → ⊥
+    nine (inl (inl z)) e = omega (arith, z, e)
+    nine (inl (inr o)) e = omega (arith, o, e)
+    nine (inr (inl f)) e = omega (arith, f, e)
+    nine (inr (inr (inl x))) e = omega (arith, x, e)
+    nine (inr (inr (inr x))) e = omega (arith, x, e)
+
+-- five goes with a fault alone
+pub whole_is_not_five : (status : ℕ) → IsReadWhole status → status ≡ 5 → ⊥
+whole_is_not_five status (inl (inl z)) e = omega (arith, z, e)
+whole_is_not_five status (inl (inr o)) e = omega (arith, o, e)
+whole_is_not_five status (inr (inl x)) e = omega (arith, x, e)
+whole_is_not_five status (inr (inr x)) e = omega (arith, x, e)
+
+pub line_of_five : (task : Task) (read written : List ℕ) (status : ℕ) → IsAnswer task read written status → status ≡ 5 → (fault : ScriptFault) × (written ≡ fault_line fault)
+line_of_five task read written status (inl told) five = absurd (whole_is_not_five status (told_of_script task told.script written status told.told) five)
+line_of_five task read written status (inr fault) five = (fault.fault, fault.line)
+
+-- what is read whole is a text of a script
+pub script_of_whole : (task : Task) (read written : List ℕ) (status : ℕ) → IsAnswer task read written status → IsReadWhole status → IsScriptText read
+script_of_whole task read written status (inl told) whole = (told.script, told.text)
+script_of_whole task read written status (inr fault) whole = absurd (whole_is_not_five status whole fault.status_is)
+
+pub whole_at_script : (task : Task) (read written : List ℕ) (status : ℕ) → IsAnswer task read written status → IsScriptText read → IsReadWhole status
+whole_at_script task read written status (inl told) some = told_of_script task told.script written status told.told
+whole_at_script task read written status (inr fault) some = absurd (fault.no_script some)
+
+-- ---- the headline
+
+done_closes : (status : ℕ) → IsDone status → (status ≡ 6 → ⊥) × (status ≡ 7 → ⊥)
+done_closes status (inl z) = (λ e. omega (arith, z, e), λ e. omega (arith, z, e))
+done_closes status (inr o) = (λ e. omega (arith, o, e), λ e. omega (arith, o, e))
+
+headline_of_run : (budget : ℕ) (read written : List ℕ) (status : ℕ) (script : Program) → Text read script → IsRunReport budget script written status → IsDone status → IsHeadline read written status
+headline_of_run budget read written status script text told done = by told.ending refl
+  where
+    by : (e : Ending) → told.ending ≡ e → IsHeadline read written status
+    by endings.Closed is = record {
+      script = script;
+      history = told.history;
+      text = text;
+      run = subst (λ (e : Ending). EndsSo budget script told.history e) is told.run;
+      report = subst (λ (e : Ending). IsReport second script told.history e written) is told.report;
+      status_of = subst (λ (e : Ending). IsStatusAt told.history e status) is told.status_is;
+    }
+    by endings.Full is = absurd ((done_closes status done).0 (subst (λ (e : Ending). IsStatusAt told.history e status) is told.status_is))
+    by (endings.Spent front paths groups) is = absurd ((done_closes status done).1 (subst (λ (e : Ending). IsStatusAt told.history e status) is told.status_is))
+
+pub headline_of : (budget : ℕ) (read written : List ℕ) (status : ℕ) → IsAnswer (tasks.Run budget) read written status → IsDone status → IsHeadline read written status
+headline_of budget read written status (inl told) done = headline_of_run budget read written status told.script told.text told.told done
+headline_of budget read written status (inr fault) done = absurd (whole_is_not_five status (inl done) fault.status_is)
 
 -- the line of a fault is an answer where the bytes have it
-pub fault_is_answer : {W E : Type 0} (text : W → List ℕ) (status : W → ℕ) (read : List ℕ) (told : ScriptFault) (answered : Result W E) → (¬ IsScriptText read) → HasFault read told → IfOk answered (λ told_so. (text told_so ≡ fault_line told) × (status told_so ≡ 5))
-    → IfOk answered (λ told_so. IsAnswer read (text told_so) (status told_so))
-fault_is_answer text status read told (Ok written) none stands line = inr (inl (record { no_script = none; fault = told; stands = stands; line = line.0; status_is = line.1 }))
-fault_is_answer text status read told (Err e) none stands line = line
-
--- the other line is one where there is a script, and none of the first form
-pub unbuilt_is_answer : {W E : Type 0} (text : W → List ℕ) (status : W → ℕ) (read : List ℕ) (answered : Result W E) → IsScriptText read → (¬ IsFirstText read) → IfOk answered (λ told. (text told ≡ unbuilt_line) × (status told ≡ 5))
-    → IfOk answered (λ told. IsAnswer read (text told) (status told))
-unbuilt_is_answer text status read (Ok told) some none line = inr (inr (record { is_script = some; not_first = none; line = line.0; status_is = line.1 }))
-unbuilt_is_answer text status read (Err e) some none line = line
-
-pub is_status : (read written : List ℕ) (status : ℕ) → IsAnswer read written status → IsStatus status
-is_status read written status (inl told) = elim told.status_of [ inl stuck ↦ inl (inr stuck.1) | inr none ↦ inl (inl none.1) ]
-is_status read written status (inr (inl fault)) = inr (inr (inr fault.status_is))
-is_status read written status (inr (inr unbuilt)) = inr (inr (inr unbuilt.status_is))
-
--- a report goes with 0 or 1
-done_by_report : (read written : List ℕ) (status : ℕ) → IsHeadline read written status → IsDone status
-done_by_report read written status told = elim told.status_of [ inl stuck ↦ inr stuck.1 | inr none ↦ inl none.1 ]
-
-not_five : (status : ℕ) → IsDone status → status ≡ 5 → ⊥
-not_five status (inl zero_is) five = omega arith
-not_five status (inr one_is) five = omega arith
-
--- a text of a script of the first form is one of a script
-as_script : (read : List ℕ) → IsFirstText read → IsScriptText read
-as_script read told = (told.0, told.1)
-
-pub five_exactly : (read written : List ℕ) (status : ℕ) → IsAnswer read written status → (status ≡ 5) ↔ (¬ IsFirstText read)
-five_exactly read written status (inl told) =
-    (λ five. absurd (not_five status (done_by_report read written status told) five), λ none. absurd (none (told.script, told.text, told.first)))
-five_exactly read written status (inr (inl fault)) = (λ _ told. fault.no_script (as_script read told), λ _. fault.status_is)
-five_exactly read written status (inr (inr unbuilt)) = (λ _. unbuilt.not_first, λ _. unbuilt.status_is)
-
-pub done_at_a_script : (read written : List ℕ) (status : ℕ) → IsAnswer read written status → IsFirstText read → IsDone status
-done_at_a_script read written status (inl told) is_first = done_by_report read written status told
-done_at_a_script read written status (inr (inl fault)) is_first = absurd (fault.no_script (as_script read is_first))
-done_at_a_script read written status (inr (inr unbuilt)) is_first = absurd (unbuilt.not_first is_first)
-
--- which line goes with 5
-pub line_of_five : (read written : List ℕ) (status : ℕ) → IsAnswer read written status → status ≡ 5 → IsLineOfFive written
-line_of_five read written status (inl told) five = absurd (not_five status (done_by_report read written status told) five)
-line_of_five read written status (inr (inl fault)) five = inl (fault.fault, fault.line)
-line_of_five read written status (inr (inr unbuilt)) five = inr unbuilt.line
-
-pub line_at_none : (read written : List ℕ) (status : ℕ) → IsAnswer read written status → status ≡ 5 → (¬ IsScriptText read) → (fault : ScriptFault) × HasFault read fault × (written ≡ fault_line fault)
-line_at_none read written status (inl told) five none = absurd (not_five status (done_by_report read written status told) five)
-line_at_none read written status (inr (inl fault)) five none = (fault.fault, fault.stands, fault.line)
-line_at_none read written status (inr (inr unbuilt)) five none = absurd (none unbuilt.is_script)
-
-pub line_at_script : (read written : List ℕ) (status : ℕ) → IsAnswer read written status → status ≡ 5 → IsScriptText read → written ≡ unbuilt_line
-line_at_script read written status (inl told) five some = absurd (not_five status (done_by_report read written status told) five)
-line_at_script read written status (inr (inl fault)) five some = absurd (fault.no_script some)
-line_at_script read written status (inr (inr unbuilt)) five some = unbuilt.line
+pub fault_is_answer : {W E : Type 0} (task : Task) (text : W → List ℕ) (status : W → ℕ) (read : List ℕ) (told : ScriptFault) (answered : Result W E) → (¬ IsScriptText read) → HasFault read told → IfOk answered (λ told_so. (text told_so ≡ fault_line told) × (status told_so ≡ 5))
+    → IfOk answered (λ told_so. IsAnswer task read (text told_so) (status told_so))
+fault_is_answer task text status read told (Ok written) none stands line = inr (record { no_script = none; fault = told; stands = stands; line = line.0; status_is = line.1 })
+fault_is_answer task text status read told (Err e) none stands line = line

@@ -9,7 +9,7 @@ use Rattle.te_cert.specs.declared.cert.Cert.{Cert}
 use Rattle.te_history.specs.declared.entry.Entry.{Entry}
 use Rattle.te_history.specs.declared.entry.Entry.TheVariants as entries
 use Rattle.te_history.specs.State.{idle, state, parked_list}
-use Rattle.tevents.specs.Rounds.{OpensFrom, TakesBy, TakesOf, IsLowestOf, IsBlock, ClosesSo, Round, entries_of, AreRounds, IsInRounds}
+use Rattle.te_serial.specs.Rounds.{OpensFrom, TakesBy, TakesOf, IsLowestOf, IsBlock, ClosesSo, Round, entries_of, AreRounds, IsInRounds}
 
 abbrev pub joined : List (List Entry) → List Entry
 joined blocks = flat_map (λ block. block) blocks

@@ -14,7 +14,7 @@ use Rattle.te_history.specs.declared.status.How.TheVariants as ways
 use Rattle.te_history.specs.declared.entry.Entry.{Entry}
 use Rattle.te_history.specs.declared.entry.Entry.TheVariants as entries
 use Rattle.te_history.specs.State.{State, state, parked_list}
-use Rattle.tevents.specs.Rounds.{TakesOf, IsBlock, ClosesSo, IsStuckAndEnds, IsInRounds}
+use Rattle.te_serial.specs.Rounds.{TakesOf, IsBlock, ClosesSo, IsStuckAndEnds, IsInRounds}
 use Rattle.tevents.proofs.FirstRound.{first_round, joined, block_parts, block_apart, first_same, rest_same, cert_same}
 
 end_is_no_commit : {t by : ℕ} {cert : Cert} {outcomes : List Outcome} {how : _} → entries.Commit by cert outcomes ≡ entries.End t how → ⊥

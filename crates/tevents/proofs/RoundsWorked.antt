@@ -1,7 +1,7 @@
 -- The exchange is in rounds: one with a block, and one in which both threads end.
 use Rattle.std.proofs.Common.{refl, inr}
 use Rattle.std.specs.Prelude.{[], ◌∷◌}
-use Rattle.tevents.specs.Rounds.{IsInRounds}
+use Rattle.te_serial.specs.Rounds.{IsInRounds}
 use Rattle.tevents.proofs.NoCommit.{nobody_commits}
 use Rattle.tevents.proofs.HistoriesWorked.{exchange_whole}
 use Rattle.tevents.proofs.RowsExchange as exchange

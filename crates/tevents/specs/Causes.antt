@@ -1,40 +1,51 @@
--- When a call of `tevents` answers which status, and what it may have written. This project's own.
-use Rattle.std.specs.Prelude.{◌≡◌, ◌⊎◌, ℕ, List, [], ◌∷◌, codes}
+-- When a call of this program answers which status, and what it may have written. This project's own.
+use Rattle.std.specs.Prelude.{◌≡◌, ◌⊎◌, ℕ, List}
 use Rattle.te_script.specs.Scripts.{Program}
 use Rattle.te_reader.specs.Text.{Text}
-use Rattle.te_reader.specs.FirstForm.{First}
+use Rattle.te_reader.specs.Canonical.{canonical_text}
 use Rattle.te_reader.specs.declared.fault.ScriptFault.{ScriptFault}
 use Rattle.te_reader.specs.Places.{HasFault}
+use Rattle.te_search.specs.Findings.{IsBudget}
+use Rattle.tevents.specs.declared.task.Task.{Task}
+use Rattle.tevents.specs.declared.task.Task.TheVariants as tasks
+use Rattle.tevents.specs.declared.words.Words.{Words}
+use Rattle.tevents.specs.declared.words.Mode.{Mode}
+use Rattle.tevents.specs.declared.words.Mode.TheVariants as modes
+use Rattle.tevents.specs.Summaries.{IsSummary}
 use Rattle.tevents.specs.FaultLines.{fault_line}
-use Rattle.tevents.specs.Headline.{IsHeadline}
+use Rattle.tevents.specs.SerialRuns.{IsRunReport}
 
--- the words are exactly the one word `serial`
-abbrev pub AreSerial : List (List ℕ) → Type 0
-AreSerial words = words ≡ codes "serial" ∷ []
+-- ---- statuses
 
 -- the run was done, and its report written
 abbrev pub IsDone : ℕ → Type 0
 IsDone status = (status ≡ 0) ⊎ (status ≡ 1)
 
+-- the run stopped, and the report of what it did was written
+abbrev pub HasStopped : ℕ → Type 0
+HasStopped status = (status ≡ 6) ⊎ (status ≡ 7)
+
+-- what was to be written is written
+abbrev pub IsTold : ℕ → Type 0
+IsTold status = IsDone status ⊎ ((status ≡ 5) ⊎ HasStopped status)
+
+-- the source holds nothing any more
+abbrev pub IsReadWhole : ℕ → Type 0
+IsReadWhole status = IsDone status ⊎ HasStopped status
+
 -- nothing was written
 abbrev pub IsSilent : ℕ → Type 0
 IsSilent status = (status ≡ 2) ⊎ ((status ≡ 3) ⊎ (status ≡ 9))
 
--- a status of this program: the run was done, nothing was written, the sink failed, or there was no script that runs
+-- a status of this program: a text is written, nothing is, or the sink failed
 abbrev pub IsStatus : ℕ → Type 0
-IsStatus status = IsDone status ⊎ (IsSilent status ⊎ ((status ≡ 4) ⊎ (status ≡ 5)))
+IsStatus status = IsTold status ⊎ (IsSilent status ⊎ (status ≡ 4))
+
+-- ---- answers
 
 -- the bytes are a text of a script
 abbrev pub IsScriptText : List ℕ → Type 0
 IsScriptText read = (script : Program) × Text read script
-
--- the bytes are a text of a script of the first form, which is what runs so far
-abbrev pub IsFirstText : List ℕ → Type 0
-IsFirstText read = (script : Program) × Text read script × First script
-
--- what stands in place of a report where there is a script that doesn't run yet
-abbrev pub unbuilt_line : List ℕ
-unbuilt_line = codes "script unbuilt\n"
 
 -- the bytes are no text of a script, and the line tells their fault
 pub record IsFault (read written : List ℕ) (status : ℕ) : Type 0 where
@@ -44,17 +55,41 @@ pub record IsFault (read written : List ℕ) (status : ℕ) : Type 0 where
   pub line : written ≡ fault_line fault
   pub status_is : status ≡ 5
 
--- the bytes are a text of a script, and of none of the first form, and the line says so
-pub record IsUnbuilt (read written : List ℕ) (status : ℕ) : Type 0 where
-  pub is_script : IsScriptText read
-  pub not_first : ¬ IsFirstText read
-  pub line : written ≡ unbuilt_line
-  pub status_is : status ≡ 5
+-- the bytes are a text of a script, and this is what is told of it
+pub record IsOf (Tells : Program → List ℕ → ℕ → Type 0) (read written : List ℕ) (status : ℕ) : Type 0 where
+  pub script : Program
+  pub text : Text read script
+  pub told : Tells script written status
 
--- a line that goes with status 5
-abbrev pub IsLineOfFive : List ℕ → Type 0
-IsLineOfFive line = ((fault : ScriptFault) × (line ≡ fault_line fault)) ⊎ (line ≡ unbuilt_line)
+-- the canonical text of a script
+abbrev pub IsPrinted : Program → List ℕ → ℕ → Type 0
+IsPrinted script written status = (written ≡ canonical_text script) × (status ≡ 0)
 
--- a text that a call may write at these bytes, and the status that it then has
-abbrev pub IsAnswer : List ℕ → List ℕ → ℕ → Type 0
-IsAnswer read written status = IsHeadline read written status ⊎ (IsFault read written status ⊎ IsUnbuilt read written status)
+-- the budget of a task is in range
+abbrev pub IsTask : Task → Type 0
+IsTask (tasks.Run budget) = IsBudget budget
+IsTask tasks.Print = Unit {0}
+
+-- what a task tells of a script
+abbrev pub Tells : Task → Program → List ℕ → ℕ → Type 0
+Tells (tasks.Run budget) = IsRunReport budget
+Tells tasks.Print = IsPrinted
+
+-- a text that a task may write at these bytes, and the status that it then has
+abbrev pub IsAnswer : Task → List ℕ → List ℕ → ℕ → Type 0
+IsAnswer task read written status = IsOf (Tells task) read written status ⊎ IsFault read written status
+
+abbrev pub IsSerialAnswer : ℕ → List ℕ → List ℕ → ℕ → Type 0
+IsSerialAnswer budget = IsAnswer (tasks.Run budget)
+
+abbrev pub IsPrintAnswer : List ℕ → List ℕ → ℕ → Type 0
+IsPrintAnswer = IsAnswer tasks.Print
+
+-- what a call writes by what its words say
+abbrev pub AnswersIn : Mode → ℕ → ℕ → List ℕ → List ℕ → ℕ → Type 0
+AnswersIn modes.Serial budget number read written status = IsSerialAnswer budget read written status
+AnswersIn modes.Print budget number read written status = IsPrintAnswer read written status
+AnswersIn modes.Gen budget number read written status = IsSummary number budget written status
+
+abbrev pub Answers : Words → List ℕ → List ℕ → ℕ → Type 0
+Answers w = AnswersIn w.mode w.budget w.number

@@ -1,14 +1,23 @@
--- A whole run of a script's threads in serial rounds.
-use Rattle.std.specs.Prelude.{◌≤◌, List, length}
+-- What serial runs of a script leave. This project's own.
+use Rattle.std.specs.Prelude.{◌≡◌, ◌≢◌, ◌⊎◌, ◌≤◌, ℕ, List, length, Any}
 use Rattle.std.specs.List.{AllByRecursion}
 use Rattle.te_script.specs.Scripts.{Program}
 use Rattle.te_history.specs.declared.entry.Entry.{Entry}
+use Rattle.te_history.specs.State.{state, parked_list}
 use Rattle.te_history.specs.Follows.{IsLegal}
 use Rattle.te_report.specs.Whole.{IsWhole}
 use Rattle.te_report.specs.OfScript.{IsOfScript}
-use Rattle.tevents.specs.Rounds.{IsInRounds}
-use Rattle.tevents.specs.Houses.{CommitsTightly}
+use Rattle.te_report.specs.Report.{second, IsReport}
+use Rattle.te_report.specs.declared.ending.Ending.{Ending}
+use Rattle.te_report.specs.declared.ending.Ending.TheVariants as endings
+use Rattle.te_search.specs.Findings.{IsUsedUp}
+use Rattle.te_serial.specs.Rounds.{IsInRounds}
+use Rattle.te_serial.specs.Houses.{CommitsTightly, MayAppend}
+use Rattle.te_serial.specs.Finishing.{LacksRoom}
+use Rattle.tevents.specs.Repeats.{HasNoRepeats}
+use Rattle.tevents.specs.StuckEnds.{IsStuckEnd}
 
+-- a whole run of a script's threads in serial rounds
 pub record IsSerialRun (script : Program) (history : List Entry) : Type 0 where
   pub legal : IsLegal (length script.threads) history
   pub of_script : IsOfScript script history
@@ -16,3 +25,36 @@ pub record IsSerialRun (script : Program) (history : List Entry) : Type 0 where
   pub tight : AllByRecursion CommitsTightly history
   pub rounds : IsInRounds (length script.threads) history
   pub few : length history ≤ 200000
+
+-- a run that stopped before all threads had ended; it has no withdrawal and no rest
+pub record IsStopped (script : Program) (history : List Entry) : Type 0 where
+  pub legal : IsLegal (length script.threads) history
+  pub of_script : IsOfScript script history
+  pub each : AllByRecursion MayAppend history
+  pub few : length history ≤ 200000
+
+-- how a serial run ends by this budget: whole; for want of room for a post; or with a budget that is used up by the search of the list parked at its end
+abbrev pub EndsSo : ℕ → Program → List Entry → Ending → Type 0
+EndsSo budget script history endings.Closed = IsSerialRun script history
+EndsSo budget script history endings.Full = IsStopped script history × LacksRoom (record { callers = length script.threads; entries = history }) script.threads
+EndsSo budget script history (endings.Spent front paths groups) =
+    IsStopped script history × (front ≡ length history) × IsUsedUp (parked_list (state (length script.threads) history)) budget paths groups
+
+-- 1 exactly where some thread ends stuck, else 0
+abbrev pub IsStatusOf : List Entry → ℕ → Type 0
+IsStatusOf history status = Any IsStuckEnd history × (status ≡ 1) ⊎ (¬ Any IsStuckEnd history) × (status ≡ 0)
+
+-- the status that tells how a run ended
+abbrev pub IsStatusAt : List Entry → Ending → ℕ → Type 0
+IsStatusAt history endings.Closed status = IsStatusOf history status
+IsStatusAt history endings.Full status = status ≡ 6
+IsStatusAt history (endings.Spent front paths groups) status = status ≡ 7
+
+-- the report of a serial run of the script by this budget, with its status; without a repeat there is room for every post
+pub record IsRunReport (budget : ℕ) (script : Program) (written : List ℕ) (status : ℕ) : Type 0 where
+  pub history : List Entry
+  pub ending : Ending
+  pub run : EndsSo budget script history ending
+  pub room : HasNoRepeats script → ending ≢ endings.Full
+  pub report : IsReport second script history ending written
+  pub status_is : IsStatusAt history ending status

@@ -1,14 +1,22 @@
-ghost use Rattle.std.specs.Prelude.{◌≡◌, IfOk};
-ghost use Rattle.tevents.specs.Headline.{IsStatusOf};
+ghost use Rattle.std.specs.Prelude.{◌≡◌, ◌≢◌, ◌⊎◌, IfOk};
+ghost use Rattle.te_io.specs.Stream.{GrewBy, GrewByPrefix};
+ghost use Rattle.te_io.specs.Causes.{Rose};
+ghost use Rattle.te_script.specs.Scripts.{IsProgram};
+ghost use Rattle.te_search.specs.Findings.{IsBudget};
+ghost use Rattle.tevents.specs.SerialRuns.{IsRunReport, IsStatusAt};
 ghost use Rattle.tevents.specs.FaultLines.{fault_line};
-ghost use Rattle.tevents.specs.Causes.{IsAnswer, unbuilt_line};
+ghost use Rattle.tevents.specs.Causes.{Tells, IsAnswer, IsTask, IsPrinted};
 
 use crate::faults::put_fault;
 use crate::reporting::{has_stuck_end, report_of};
-use crate::rounds::serial;
+use crate::running::run_rounds;
+use crate::task::Task;
 use std::alloc::Global;
 use te_history::Hist;
-use te_reader::{ScriptFault, is_first_form, read_script};
+use te_io::{Sink, write_whole};
+use te_reader::{ScriptFault, print_script, read_script};
+use te_report::Ending;
+use te_script::Script;
 use te_terms::{NoMemory, Rows};
 
 /// A text to be written, and the status to end with once it is.
@@ -18,33 +26,59 @@ pub(crate) struct Written {
     pub(crate) text: Rows<u8>,
 }
 
-/// What `serial` answers to these bytes: the report of one run of the script, or the line that tells
-/// the fault of bytes that are none, or that it isn't of the first form, which is what runs so far. The
-/// one refusal is want of memory.
-pub(crate) fn answer(alloc: Global, bytes: &[u8]) -> Result<Written, NoMemory>
-    ensures { IfOk result (λ told. IsAnswer bytes.now told.text told.status) }
+/// What a task answers to these bytes: what it tells of the script, or the line that tells the fault of bytes that are
+/// no script. The one refusal is want of memory.
+pub(crate) fn answer(alloc: Global, task: Task, bytes: &[u8]) -> Result<Written, NoMemory>
+    requires { IsTask task }
+    ensures { IfOk result (λ told. IsAnswer task bytes.now told.text told.status) }
 {
-    let script = match read_script(alloc, bytes) {
-        Ok(script) => script,
-        Err(told) => {
-            return match told {
-                ScriptFault::Memory => Err(NoMemory),
-                _ => fault(alloc, told),
-            };
-        }
-    };
-    if !is_first_form(&script) {
-        return unbuilt(alloc);
+    match read_script(alloc, bytes) {
+        Ok(script) => tell(alloc, task, &script),
+        Err(told) => match told {
+            ScriptFault::Memory => Err(NoMemory),
+            _ => fault(alloc, told),
+        },
     }
-    let house = serial(alloc, &script)?;
-    let text = report_of(alloc, &script, house.history())?;
+}
+
+// What a task tells of a script.
+fn tell(alloc: Global, task: Task, script: &Script) -> Result<Written, NoMemory>
+    requires task { IsTask task }
+    requires program { IsProgram script.now }
+    ensures { IfOk result (λ told. Tells task script.now told.text told.status) }
+{
+    match task {
+        Task::Run { budget } => run_and_report(alloc, script, budget),
+        Task::Print => print(alloc, script),
+    }
+}
+
+// The report of a serial run.
+fn run_and_report(alloc: Global, script: &Script, budget: u64) -> Result<Written, NoMemory>
+    requires budget { IsBudget budget }
+    requires program { IsProgram script.now }
+    ensures { IfOk result (λ told. IsRunReport budget script.now told.text told.status) }
+{
+    let run = run_rounds(alloc, script, budget)?;
+    let hist = run.board.history();
+    let text = report_of(alloc, script, hist, run.ending)?;
     Ok(Written {
-        status: status_of(house.history()),
+        status: status_of(hist, run.ending),
         text,
     })
 }
 
-/// The line that tells the fault of bytes that are no script.
+// The canonical text.
+fn print(alloc: Global, script: &Script) -> Result<Written, NoMemory>
+    ensures { IfOk result (λ told. IsPrinted script.now told.text told.status) }
+{
+    Ok(Written {
+        status: 0,
+        text: print_script(alloc, script)?,
+    })
+}
+
+// The line that tells the fault of bytes that are no script.
 fn fault(alloc: Global, fault: ScriptFault) -> Result<Written, NoMemory>
     ensures { IfOk result (λ told. (told.text ≡ fault_line fault) × (told.status ≡ 5)) }
 {
@@ -56,19 +90,24 @@ fn fault(alloc: Global, fault: ScriptFault) -> Result<Written, NoMemory>
     })
 }
 
-/// The line that tells that the script doesn't run yet.
-fn unbuilt(alloc: Global) -> Result<Written, NoMemory>
-    ensures { IfOk result (λ told. (told.text ≡ unbuilt_line) × (told.status ≡ 5)) }
+// The status that goes with the report of a run.
+fn status_of(hist: &Hist, ending: Ending) -> u8
+    ensures { IsStatusAt hist.now.entries ending result }
 {
-    Ok(Written {
-        status: 5,
-        text: Rows::from(Vec::from_slice(alloc, b"script unbuilt\n")?),
-    })
+    match ending {
+        Ending::Closed => { if has_stuck_end(hist) { 1 } else { 0 } }
+        Ending::Full => 6,
+        Ending::Spent { .. } => 7,
+    }
 }
 
-/// The status that goes with the report of a history: 1 exactly where some thread ends stuck.
-fn status_of(history: &Hist) -> u8
-    ensures { IsStatusOf history.now.entries result }
+/// Writes a text, and answers its status, or that the sink failed.
+pub(crate) fn write<K: Sink>(sink: &mut K, told: &Written) -> u8
+    ensures whole { result ≢ 4 → (result ≡ told.now.status) × GrewBy (K.bytes_held sink.old) (K.bytes_held sink.new) told.now.text }
+    ensures failed { result ≡ 4 → (told.now.status ≡ 4) ⊎ (Rose (K.faults sink.old) (K.faults sink.new) × GrewByPrefix (K.bytes_held sink.old) (K.bytes_held sink.new) told.now.text) }
 {
-    if has_stuck_end(history) { 1 } else { 0 }
+    match write_whole(sink, told.text.as_slice()) {
+        Ok(()) => told.status,
+        Err(_) => 4,
+    }
 }

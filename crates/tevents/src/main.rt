@@ -2,18 +2,16 @@
 #![tactic(auto)]
 
 mod answering;
-mod board;
 mod faults;
-mod group;
-mod house;
-mod kind;
+mod generating;
+mod modes;
 mod program;
 mod reporting;
-mod rounds;
-mod search;
-mod stance;
+mod running;
+mod task;
 #[cfg(test)]
 mod tests;
+mod words;
 
 use program::tevents;
 use std::env;

@@ -1,31 +1,42 @@
-ghost use Rattle.std.specs.Prelude.{◌≡◌, ◌≢◌, ◌↔◌, ◌≤◌, ℕ, List, [], Some, IsTrue, map};
+ghost use Rattle.std.specs.Prelude.{◌≡◌, ◌≢◌, ◌⊎◌, ℕ, List, [], Some, map};
 ghost use Rattle.std.specs.String.{string_bytes};
 ghost use Rattle.te_io.specs.Stream.{GrewBy, GrewByPrefix};
 ghost use Rattle.te_io.specs.Causes.{Rose};
-ghost use Rattle.tevents.specs.Headline.{IsHeadline};
-ghost use Rattle.tevents.specs.Causes.{AreSerial, IsStatus, IsDone, IsSilent, IsScriptText, IsFirstText, IsAnswer, IsLineOfFive, unbuilt_line};
-ghost use Rattle.tevents.specs.FaultLines.{fault_line};
 ghost use Rattle.te_reader.specs.declared.fault.ScriptFault.{ScriptFault};
-ghost use Rattle.te_reader.specs.Places.{HasFault};
+ghost use Rattle.tevents.specs.declared.words.Words.{Words};
+ghost use Rattle.tevents.specs.declared.words.Mode.TheVariants as modes;
+ghost use Rattle.tevents.specs.Words.{Says, AreRefused};
+ghost use Rattle.tevents.specs.Headline.{IsHeadline};
+ghost use Rattle.tevents.specs.FaultLines.{fault_line};
+ghost use Rattle.tevents.specs.Summaries.{IsSummary};
+ghost use Rattle.tevents.specs.Causes.{IsStatus, IsDone, HasStopped, IsTold, IsReadWhole, IsSilent, IsScriptText, Answers};
 
-use crate::answering::answer;
+use crate::generating::gen_run;
+use crate::modes::{print_run, serial_run};
+use crate::words::{Mode, WordFault, read_words};
 use std::alloc::Global;
-use te_io::{ReadFault, Sink, Source, read_up_to, write_whole};
-use te_reader::MOST_BYTES;
+use te_io::{Sink, Source};
 
-/// Runs the script that the source gives, as the words tell, writes the report of the run to the sink,
-/// and answers the status of the program. The words are those after the program's name, and the one
-/// mode is `serial`: it runs the threads in rounds. The call returns, and waits for nobody.
+/// Does what the words tell, and answers the status of the program. The words are those after the program's name: a
+/// mode, and the options `--budget N`, from 1 to 1,000,000, by default 100,000, and `--number N`, from 0 to 999, by
+/// default 0. An option that a mode doesn't use is ignored. The call waits for nobody, and returns.
+///
+/// | mode | does |
+/// |---|---|
+/// | `serial` | reads a script from the source, runs its threads in rounds, and writes the report of the run |
+/// | `print` | reads a script from the source, and writes its canonical text |
+/// | `gen` | runs the generated script of the number in rounds, and writes a summary |
 ///
 /// | status | when | written |
 /// |---|---|---|
-/// | 0 | the threads have run, and none ended stuck | the report |
-/// | 1 | the threads have run, and one ended stuck | the report |
-/// | 2 | the words aren't `serial` | nothing, and nothing is read |
+/// | 0 | done; of `serial`: the threads have run, and none ended stuck | the report, the text, or the summary |
+/// | 1 | `serial`: the threads have run, and one ended stuck | the report |
+/// | 2 | the words are none of the command's, or their mode is none | nothing, and nothing is read |
 /// | 3 | the source failed | nothing |
 /// | 4 | the sink failed | a prefix of a text that the call could have written |
 /// | 5 | the bytes are no text of a script | the line of its fault, as `script fault 3 at 1:14` |
-/// | 5 | the script isn't of the first form, which alone runs so far | the line `script unbuilt` |
+/// | 6 | `serial`: a post would have passed the limit on entries | the report of what was done by then |
+/// | 7 | `serial`, `gen`: a search has used up its budget | the report of what was done by then, or the summary |
 /// | 9 | want of memory | nothing |
 pub fn tevents<S: Source, K: Sink>(
     alloc: Global,
@@ -35,16 +46,31 @@ pub fn tevents<S: Source, K: Sink>(
 ) -> u8
     ensures statuses { IsStatus result }
 
-    // 0 and 1: what was read is a script, and what was written is the report of one serial run of it.
-    ensures headline { IsDone result → (read : List ℕ) → S.bytes_left source.old ≡ Some read
+    // 0 and 1 of `serial`: what was read is a script, and what was written is the report of one serial run of it.
+    ensures headline { IsDone result → (w : Words) → Says (map string_bytes words.now) w → w.mode ≡ modes.Serial
+        → (read : List ℕ) → S.bytes_left source.old ≡ Some read
         → (written : List ℕ) × IsHeadline read written result
         × GrewBy (K.bytes_held sink.old) (K.bytes_held sink.new) written }
-    ensures read_to_the_end { IsDone result → (read : List ℕ) → S.bytes_left source.old ≡ Some read
+
+    // 0, 1, 5, 6 and 7: what is written is what the mode tells of the bytes that were read.
+    ensures told { IsTold result → (w : Words) → Says (map string_bytes words.now) w
+        → (read : List ℕ) → S.bytes_left source.old ≡ Some read
+        → (written : List ℕ) × Answers w read written result
+        × GrewBy (K.bytes_held sink.old) (K.bytes_held sink.new) written }
+    ensures generated { IsTold result → (w : Words) → Says (map string_bytes words.now) w → w.mode ≡ modes.Gen
+        → (written : List ℕ) × IsSummary w.number w.budget written result
+        × GrewBy (K.bytes_held sink.old) (K.bytes_held sink.new) written }
+    ensures generated_alone { (w : Words) → Says (map string_bytes words.now) w → w.mode ≡ modes.Gen
+        → source.new ≡ source.old }
+    ensures read_to_the_end { IsReadWhole result → (w : Words) → Says (map string_bytes words.now) w
+        → w.mode ≢ modes.Gen → (read : List ℕ) → S.bytes_left source.old ≡ Some read
         → S.bytes_left source.new ≡ Some [] }
+    ensures line { result ≡ 5 → (fault : ScriptFault)
+        × GrewBy (K.bytes_held sink.old) (K.bytes_held sink.new) (fault_line fault) }
 
     // 2
-    ensures words { (result ≡ 2) ↔ ¬ AreSerial (map string_bytes words.now) }
-    ensures serial { result ≢ 2 → AreSerial (map string_bytes words.now) }
+    ensures refused { result ≡ 2 → AreRefused (map string_bytes words.now) }
+    ensures refuses { AreRefused (map string_bytes words.now) → (result ≡ 2) ⊎ (result ≡ 9) }
     ensures unread { result ≡ 2 → source.new ≡ source.old }
 
     // 2, 3 and 9
@@ -55,52 +81,31 @@ pub fn tevents<S: Source, K: Sink>(
 
     // 4
     ensures sink_failed { result ≡ 4 → Rose (K.faults sink.old) (K.faults sink.new) }
-    ensures cut_short { result ≡ 4 → (read : List ℕ) → S.bytes_left source.old ≡ Some read
-        → (written : List ℕ) × (status : ℕ) × IsAnswer read written status
+    ensures cut_short { result ≡ 4 → (w : Words) → Says (map string_bytes words.now) w
+        → (read : List ℕ) → S.bytes_left source.old ≡ Some read
+        → (written : List ℕ) × (status : ℕ) × Answers w read written status
         × GrewByPrefix (K.bytes_held sink.old) (K.bytes_held sink.new) written }
 
-    // 5
-    ensures line_told { result ≡ 5 → (line : List ℕ) × IsLineOfFive line
-        × GrewBy (K.bytes_held sink.old) (K.bytes_held sink.new) line }
-    ensures fault_told { result ≡ 5 → (read : List ℕ) → S.bytes_left source.old ≡ Some read
-        → ¬ IsScriptText read → (fault : ScriptFault) × HasFault read fault
-        × GrewBy (K.bytes_held sink.old) (K.bytes_held sink.new) (fault_line fault) }
-    ensures unbuilt_told { result ≡ 5 → (read : List ℕ) → S.bytes_left source.old ≡ Some read
-        → IsScriptText read → GrewBy (K.bytes_held sink.old) (K.bytes_held sink.new) unbuilt_line }
-    ensures not_first { result ≡ 5 → (read : List ℕ) → S.bytes_left source.old ≡ Some read
-        → ¬ IsFirstText read }
-
-    // Where the words are right, no end failed and there was memory: 5 exactly where the bytes are no
-    // text of a script of the first form, else 0 or 1.
-    ensures exactly { (read : List ℕ) → S.bytes_left source.old ≡ Some read
-        → AreSerial (map string_bytes words.now) → ¬ Rose (S.faults source.old) (S.faults source.new)
-        → ¬ Rose (K.faults sink.old) (K.faults sink.new) → result ≢ 9
-        → ((result ≡ 5) ↔ ¬ IsFirstText read) }
-    ensures succeeds { (read : List ℕ) → S.bytes_left source.old ≡ Some read
-        → AreSerial (map string_bytes words.now) → ¬ Rose (S.faults source.old) (S.faults source.new)
-        → ¬ Rose (K.faults sink.old) (K.faults sink.new) → result ≢ 9
-        → IsFirstText read → IsDone result }
+    // Where no end failed and there was memory, a script is run or printed.
+    ensures runs { (w : Words) → Says (map string_bytes words.now) w → w.mode ≡ modes.Serial
+        → (read : List ℕ) → S.bytes_left source.old ≡ Some read → IsScriptText read
+        → ¬ Rose (S.faults source.old) (S.faults source.new) → ¬ Rose (K.faults sink.old) (K.faults sink.new)
+        → result ≢ 9 → IsDone result ⊎ HasStopped result }
+    ensures prints { (w : Words) → Says (map string_bytes words.now) w → w.mode ≡ modes.Print
+        → (read : List ℕ) → S.bytes_left source.old ≡ Some read → IsScriptText read
+        → ¬ Rose (S.faults source.old) (S.faults source.new) → ¬ Rose (K.faults sink.old) (K.faults sink.new)
+        → result ≢ 9 → result ≡ 0 }
+    ensures generates { (w : Words) → Says (map string_bytes words.now) w → w.mode ≡ modes.Gen
+        → ¬ Rose (K.faults sink.old) (K.faults sink.new)
+        → result ≢ 9 → (result ≡ 0) ⊎ (result ≡ 7) }
 {
-    if !is_serial(words) {
-        return 2;
+    match read_words(alloc, words) {
+        Ok(said) => match said.mode {
+            Mode::Serial => serial_run(alloc, said.budget, source, sink),
+            Mode::Print => print_run(alloc, source, sink),
+            Mode::Gen => gen_run(alloc, said.number as u32, said.budget, sink),
+        },
+        Err(WordFault::Refused) => 2,
+        Err(WordFault::Memory) => 9,
     }
-    let bytes = match read_up_to(alloc, source, MOST_BYTES) {
-        Ok(bytes) => bytes,
-        Err(ReadFault::Failed) => return 3,
-        Err(ReadFault::Memory) => return 9,
-    };
-    let Ok(told) = answer(alloc, bytes.as_slice()) else {
-        return 9;
-    };
-    match write_whole(sink, told.text.as_slice()) {
-        Ok(()) => told.status,
-        Err(_) => 4,
-    }
-}
-
-/// Whether the words are exactly the one word `serial`.
-fn is_serial(words: &[String]) -> bool
-    ensures { IsTrue result ↔ AreSerial (map string_bytes words.now) }
-{
-    words.len() == 1 && words[0].as_str() == "serial"
 }

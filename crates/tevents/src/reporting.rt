@@ -1,9 +1,9 @@
-ghost use Rattle.std.specs.Prelude.{◌≡◌, ◌<◌, length, take, IfOk, IsTrue, ◌↔◌, Any};
+ghost use Rattle.std.specs.Prelude.{◌≡◌, ◌<◌, ◌≤◌, length, IfOk, IsTrue, ◌↔◌, Any};
 ghost use Rattle.te_script.specs.Scripts.{IsProgram};
 ghost use Rattle.te_report.specs.Report.{second, IsReport};
-ghost use Rattle.te_report.specs.declared.ending.Ending.TheVariants as endings;
+ghost use Rattle.te_report.specs.OfScript.{IsOfScript};
+ghost use Rattle.te_history.specs.Follows.{IsLegal};
 ghost use Rattle.tevents.specs.StuckEnds.{IsStuckEnd, IsStuckAt};
-ghost use Rattle.tevents.specs.SerialRuns.{IsSerialRun};
 
 use std::alloc::Global;
 use te_history::{Entry, Hist, How};
@@ -12,14 +12,21 @@ use te_script::Script;
 use te_terms::{NoMemory, Rows};
 
 /// The report of a run of the script. The one refusal is want of memory.
-pub(crate) fn report_of(alloc: Global, script: &Script, hist: &Hist) -> Result<Rows<u8>, NoMemory>
+pub(crate) fn report_of(
+    alloc: Global,
+    script: &Script,
+    hist: &Hist,
+    ending: Ending,
+) -> Result<Rows<u8>, NoMemory>
     requires callers { hist.now.callers ≡ length script.now.threads }
     requires program { IsProgram script.now }
-    requires run { IsSerialRun script.now hist.now.entries }
-    ensures { IfOk result (λ text. IsReport second script.now hist.now.entries endings.Closed text) }
+    requires legal { IsLegal (length script.now.threads) hist.now.entries }
+    requires of_script { IsOfScript script.now hist.now.entries }
+    requires few { length hist.now.entries ≤ 200000 }
+    ensures { IfOk result (λ text. IsReport second script.now hist.now.entries ending text) }
 {
     channels_are_of_the_script();
-    write_report(alloc, script, hist, Ending::Closed)
+    write_report(alloc, script, hist, ending)
 }
 
 /// Whether some thread ends stuck.

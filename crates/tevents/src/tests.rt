@@ -1,5 +1,7 @@
+mod modes;
 mod printing;
 mod reading;
+mod wishing;
 
 use crate::program::tevents;
 use std::alloc::{AllocError, Global};
@@ -63,13 +65,21 @@ fn scripts_have_these_reports(rt: HostRuntime) -> Result<(), Fail> {
         ),
         (
             &b"thread a { x <- sync never; }"[..],
-            5,
-            &b"script unbuilt\n"[..],
+            1,
+            &b"tevents report 2\n1 post a 0 at 1.0\n2 stuck a\n3 end a stuck\nclosed 3\n"[..],
         ),
         (
-            &b"thread a { x <- sync always (1); emit (x.0 + 1); }"[..],
-            5,
-            &b"script unbuilt\n"[..],
+            &b"thread a { repeat 2 { x <- sync always (1); } emit x; }"[..],
+            0,
+            &b"tevents report 2\n\
+                1 post a 0 at 2.0\n\
+                2 commit a: a.0[]=(1);\n\
+                3 take a 0 =(1)\n\
+                4 post a 1 at 2.1\n\
+                5 commit a: a.1[]=(1);\n\
+                6 take a 1 =(1)\n\
+                7 end a done (1)\n\
+                closed 7\n"[..],
         ),
         (
             &b"thread a { x <- sync nothing; }"[..],
@@ -156,6 +166,11 @@ fn other_words_are_refused_and_nothing_is_touched(rt: HostRuntime) -> Result<(),
         &["serial "][..],
         &["serial", "serial"][..],
         &["serial", ""][..],
+        &["--help"][..],
+        &["serial", "--budget", "0"][..],
+        &["serial", "--budget", "1000001"][..],
+        &["gen", "--number", "1000"][..],
+        &["gen", "--number"][..],
     ] {
         let words = words(rt.alloc(), spelled)?;
         let mut source = SteadySource::new(rt.alloc(), EXCHANGE)?;

@@ -1,6 +1,8 @@
 // Scripts that are printed, and read again.
 
+use crate::modes::print_run;
 use std::test::Fail;
+use te_io::{MemSink, MemSource, SteadySink, SteadySource};
 use te_reader::{print_script, read_script};
 use te_script::generate;
 
@@ -78,6 +80,37 @@ fn a_generated_script_is_printed_and_read_again(rt: HostRuntime) -> Result<(), F
             print_script(rt.alloc(), &again)?.as_slice() == printed.as_slice(),
             "{number} prints otherwise"
         );
+    }
+    Ok(())
+}
+
+#[test]
+fn a_script_is_printed_from_its_source_to_the_sink(rt: HostRuntime) -> Result<(), Fail> {
+    for (text, canonical) in TEXTS {
+        let mut source = SteadySource::new(rt.alloc(), text)?;
+        let mut sink = SteadySink::new(rt.alloc(), 10_000)?;
+        assert_eq!(rt; print_run(rt.alloc(), &mut source, &mut sink), 0);
+        assert_eq!(rt; sink.bytes(), *canonical);
+    }
+    let mut source = SteadySource::new(rt.alloc(), b"thread a { x <")?;
+    let mut sink = SteadySink::new(rt.alloc(), 10_000)?;
+    assert_eq!(rt; print_run(rt.alloc(), &mut source, &mut sink), 5);
+    assert_eq!(rt; sink.bytes(), &b"script fault 3 at 1:14\n"[..]);
+    Ok(())
+}
+
+#[test]
+fn a_failing_end_of_a_printing_is_told(rt: HostRuntime) -> Result<(), Fail> {
+    let whole = &b"thread a {\n}\n"[..];
+    for (source_fails, sink_fails, status, held) in [
+        (&[][..], &[][..], 0, whole),
+        (&[2][..], &[][..], 3, &b""[..]),
+        (&[][..], &[2][..], 4, &b"thread a {"[..]),
+    ] {
+        let mut source = MemSource::new(rt.alloc(), b"thread a { }", 5, source_fails)?;
+        let mut sink = MemSink::new(rt.alloc(), 100, 10, sink_fails)?;
+        assert_eq!(rt; print_run(rt.alloc(), &mut source, &mut sink), status);
+        assert_eq!(rt; sink.bytes(), held);
     }
     Ok(())
 }

@@ -284,14 +284,6 @@ fn an_event_has_height_32_and_no_more(rt: HostRuntime) -> Result<(), Fail> {
 #[test]
 fn an_event_has_no_more_than_4096_nodes(rt: HostRuntime) -> Result<(), Fail> {
     // 4,095 nodes
-    let mut many = Vec::from_slice(rt.alloc(), b"thread a { x <- sync choose { ")?;
-    for _ in 0..17 {
-        many.extend_from_slice(b"fresh | ")?;
-    }
-    assert_eq!(rt;
-        fault(&rt, rt.alloc(), many.as_slice()),
-        ScriptFault::Limit(Which::Fresh, at(1, 159))
-    );
     let mut tree = String::from_str(rt.alloc(), "never")?;
     for _ in 0..11 {
         tree = format!(in rt.alloc(); "choose {{ {tree} | {tree} }}")?;
@@ -300,6 +292,23 @@ fn an_event_has_no_more_than_4096_nodes(rt: HostRuntime) -> Result<(), Fail> {
     assert!(rt; is_read(&rt, rt.alloc(), text.as_bytes()), "at the limit");
     let text = format!(in rt.alloc(); "thread a {{ x <- sync choose {{ {tree} | never }}; }}")?;
     assert!(rt; !is_read(&rt, rt.alloc(), text.as_bytes()), "past it");
+    Ok(())
+}
+
+#[test]
+fn an_event_has_16_fresh_channels_and_no_more(rt: HostRuntime) -> Result<(), Fail> {
+    let mut text = Vec::from_slice(rt.alloc(), b"thread a { x <- sync choose { ")?;
+    for _ in 0..16 {
+        text.extend_from_slice(b"fresh | ")?;
+    }
+    let mut more = text.clone()?;
+    text.extend_from_slice(b"never }; }")?;
+    assert!(rt; is_read(&rt, rt.alloc(), text.as_slice()), "at the limit");
+    more.extend_from_slice(b"fresh")?;
+    assert_eq!(rt;
+        fault(&rt, rt.alloc(), more.as_slice()),
+        ScriptFault::Limit(Which::Fresh, at(1, 159))
+    );
     Ok(())
 }
 

@@ -1,51 +1,37 @@
--- The answer to the bytes that were read is one to all bytes, and its status tells what they are.
-use Rattle.std.proofs.Common.{◌≡◌, ℕ, List, subst, inl, inr}
-use Rattle.std.specs.Prelude.{Option}
-use Rattle.te_io.specs.Stream.{GrewBy}
-use Rattle.tevents.proofs.AnswersTold.{answer_to_all, is_status, five_exactly, done_at_a_script, line_of_five, line_at_none, line_at_script}
+use Rattle.std.proofs.Common.{◌≡◌, map, sym, subst, ap, Err}
+use Rattle.std.specs.String.{string_bytes}
+use Rattle.tevents.proofs.WordsOnce.{says_once, not_refused, serial_answers, print_answers, gen_answers}
 use Rattle.tevents.proofs.program.tevents.Goals as goal
 
-pub returns-clause-cut_short : goal.returns-clause-cut_short
-returns-clause-cut_short g c = λ _ read told.
-    let answered = rw c.as_slice.ensures at c.in-Ok-answer.ensures in
-    let answer = answer_to_all read c.in-Ok.bytes (c.in-Ok.ensures.first read told).0 (λ few. (c.in-Ok.ensures.whole few read told).0) answered in
-    (c.in-Ok-answer.told.text, c.in-Ok-answer.told.status, answer, rw c.as_slice-2.ensures at c.in-Err.ensures.err)
+pub returns-in-Serial-clause-told : goal.returns-in-Serial-clause-told
+returns-in-Serial-clause-told g c = λ told w says read left.
+    let answer = c.serial_run.ensures.told told read left in
+    (answer.0, serial_answers w c.in-Ok.said read answer.0 c.serial_run.result (says_once (map string_bytes c.args.words.now) w c.in-Ok.said says c.in-Ok.ensures.ok) c.in-Serial.is answer.1, answer.2)
 
-pub returns-in-Ok-write_whole-clause-statuses : goal.returns-in-Ok-write_whole-clause-statuses
-returns-in-Ok-write_whole-clause-statuses g c = is_status _ _ _ c.in-Ok-answer.ensures
+pub returns-in-Serial-clause-cut_short : goal.returns-in-Serial-clause-cut_short
+returns-in-Serial-clause-cut_short g c = λ four w says read left.
+    let answer = c.serial_run.ensures.cut_short four read left in
+    (answer.0, answer.1, serial_answers w c.in-Ok.said read answer.0 answer.1 (says_once (map string_bytes c.args.words.now) w c.in-Ok.said says c.in-Ok.ensures.ok) c.in-Serial.is answer.2, answer.3)
 
-pub returns-in-Ok-write_whole-clause-not_first : goal.returns-in-Ok-write_whole-clause-not_first
-returns-in-Ok-write_whole-clause-not_first g c = λ five read told.
-    let answered = rw c.as_slice.ensures at c.in-Ok-answer.ensures in
-    (five_exactly _ _ _ (answer_to_all read c.in-Ok.bytes (c.in-Ok.ensures.first read told).0 (λ few. (c.in-Ok.ensures.whole few read told).0) answered)).0 five
+pub returns-in-Print-clause-told : goal.returns-in-Print-clause-told
+returns-in-Print-clause-told g c = λ told w says read left.
+    let answer = c.print_run.ensures.told told read left in
+    (answer.0, print_answers w c.in-Ok.said read answer.0 c.print_run.result (says_once (map string_bytes c.args.words.now) w c.in-Ok.said says c.in-Ok.ensures.ok) c.in-Print.is answer.1, answer.2)
 
-pub returns-in-Ok-write_whole-clause-exactly : goal.returns-in-Ok-write_whole-clause-exactly
-returns-in-Ok-write_whole-clause-exactly g c = λ read told _ _ _ _.
-    let answered = rw c.as_slice.ensures at c.in-Ok-answer.ensures in
-    five_exactly _ _ _ (answer_to_all read c.in-Ok.bytes (c.in-Ok.ensures.first read told).0 (λ few. (c.in-Ok.ensures.whole few read told).0) answered)
+pub returns-in-Print-clause-cut_short : goal.returns-in-Print-clause-cut_short
+returns-in-Print-clause-cut_short g c = λ four w says read left.
+    let answer = c.print_run.ensures.cut_short four read left in
+    (answer.0, answer.1, print_answers w c.in-Ok.said read answer.0 answer.1 (says_once (map string_bytes c.args.words.now) w c.in-Ok.said says c.in-Ok.ensures.ok) c.in-Print.is answer.2, answer.3)
 
-pub returns-in-Ok-write_whole-clause-succeeds : goal.returns-in-Ok-write_whole-clause-succeeds
-returns-in-Ok-write_whole-clause-succeeds g c = λ read told _ _ _ _ is_script.
-    let answered = rw c.as_slice.ensures at c.in-Ok-answer.ensures in
-    done_at_a_script _ _ _ (answer_to_all read c.in-Ok.bytes (c.in-Ok.ensures.first read told).0 (λ few. (c.in-Ok.ensures.whole few read told).0) answered) is_script
+pub returns-in-Gen-clause-told : goal.returns-in-Gen-clause-told
+returns-in-Gen-clause-told g c = λ told w says read left.
+    let answer = c.gen_run.ensures.told told in
+    (answer.0, gen_answers w c.in-Ok.said read answer.0 c.gen_run.result (says_once (map string_bytes c.args.words.now) w c.in-Ok.said says c.in-Ok.ensures.ok) c.in-Gen.is answer.1, answer.2)
 
--- what the sink grew by, where it is known to be this text
-grew_by : (before after : Option (List ℕ)) (written line : List ℕ) → written ≡ line → GrewBy before after written → GrewBy before after line
-grew_by before after written line e h = subst (λ (text : List ℕ). GrewBy before after text) e h
+pub returns-in-Gen-clause-cut_short : goal.returns-in-Gen-clause-cut_short
+returns-in-Gen-clause-cut_short g c = λ four w says read left.
+    let answer = c.gen_run.ensures.cut_short four in
+    (answer.0, answer.1, gen_answers w c.in-Ok.said read answer.0 answer.1 (says_once (map string_bytes c.args.words.now) w c.in-Ok.said says c.in-Ok.ensures.ok) c.in-Gen.is answer.2, answer.3)
 
-pub returns-in-Ok-write_whole-clause-line_told : goal.returns-in-Ok-write_whole-clause-line_told
-returns-in-Ok-write_whole-clause-line_told g c = λ five.
-    (c.in-Ok-answer.told.text, line_of_five _ _ _ c.in-Ok-answer.ensures five, rw c.as_slice-2.ensures at c.in-Ok-write_whole.ensures.ok)
-
-pub returns-in-Ok-write_whole-clause-fault_told : goal.returns-in-Ok-write_whole-clause-fault_told
-returns-in-Ok-write_whole-clause-fault_told g c = λ five read told none.
-    let answered = rw c.as_slice.ensures at c.in-Ok-answer.ensures in
-    let answer = answer_to_all read c.in-Ok.bytes (c.in-Ok.ensures.first read told).0 (λ few. (c.in-Ok.ensures.whole few read told).0) answered in
-    let line = line_at_none _ _ _ answer five none in
-    (line.0, line.1, grew_by _ _ _ _ line.2 (rw c.as_slice-2.ensures at c.in-Ok-write_whole.ensures.ok))
-
-pub returns-in-Ok-write_whole-clause-unbuilt_told : goal.returns-in-Ok-write_whole-clause-unbuilt_told
-returns-in-Ok-write_whole-clause-unbuilt_told g c = λ five read told some.
-    let answered = rw c.as_slice.ensures at c.in-Ok-answer.ensures in
-    let answer = answer_to_all read c.in-Ok.bytes (c.in-Ok.ensures.first read told).0 (λ few. (c.in-Ok.ensures.whole few read told).0) answered in
-    grew_by _ _ _ _ (line_at_script _ _ _ answer five some) (rw c.as_slice-2.ensures at c.in-Ok-write_whole.ensures.ok)
+pub returns-in-Err-Refused-clause-refused : goal.returns-in-Err-Refused-clause-refused
+returns-in-Err-Refused-clause-refused g c = λ _. c.in-Err-Refused.ensures.refused (ap Err c.in-Err-Refused.field-0-is)

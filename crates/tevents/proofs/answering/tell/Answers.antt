@@ -1,0 +1,14 @@
+use Rattle.std.proofs.Common.{◌≡◌, List, ℕ, sym, subst, Result, Ok, Err}
+use Rattle.std.specs.Prelude.{IfOk}
+use Rattle.te_script.specs.Scripts.{Program}
+use Rattle.tevents.specs.declared.task.Task.{Task}
+use Rattle.tevents.specs.declared.task.Task.TheVariants as tasks
+use Rattle.tevents.specs.Causes.{Tells}
+use Rattle.tevents.proofs.answering.tell.Goals as goal
+
+-- what the task at hand tells
+told_so : {W E : Type 0} (text : W → List ℕ) (status : W → ℕ) (r : Result W E) (task other : Task) (script : Program) → task ≡ other → IfOk r (λ told. Tells other script (text told) (status told)) → IfOk r (λ told. Tells task script (text told) (status told))
+told_so text status r task other script is h = subst (λ (t : Task). IfOk r (λ told. Tells t script (text told) (status told))) (sym is) h
+
+pub returns-in-Run : goal.returns-in-Run
+returns-in-Run c = told_so (λ told. told.text) (λ told. told.status) c.run_and_report.result c.args.task (tasks.Run c.in-Run.budget) c.args.script.now c.in-Run.is c.run_and_report.ensures

@@ -1,0 +1,92 @@
+// The modes of the program, each with its own call.
+
+ghost use Rattle.std.specs.Prelude.{◌≡◌, ℕ, List, [], Some};
+ghost use Rattle.te_io.specs.Stream.{GrewBy, GrewByPrefix};
+ghost use Rattle.te_io.specs.Causes.{Rose};
+ghost use Rattle.te_reader.specs.declared.fault.ScriptFault.{ScriptFault};
+ghost use Rattle.te_search.specs.Findings.{IsBudget};
+ghost use Rattle.tevents.specs.FaultLines.{fault_line};
+ghost use Rattle.tevents.specs.Causes.{IsAnswer, IsSerialAnswer, IsPrintAnswer, IsTask, IsStatus, IsTold, IsSilent, IsReadWhole};
+
+use crate::answering::{answer, write};
+use crate::task::Task;
+use std::alloc::Global;
+use te_io::{ReadFault, Sink, Source, read_up_to};
+use te_reader::MOST_BYTES;
+
+/// Runs the script that the source gives in serial rounds, by a budget of 1 to 1,000,000 for each search, writes the
+/// report of the run to the sink, and answers the status of the program. It waits for nobody, and returns.
+pub(crate) fn serial_run<S: Source, K: Sink>(
+    alloc: Global,
+    budget: u64,
+    source: &mut S,
+    sink: &mut K,
+) -> u8
+    requires { IsBudget budget }
+    ensures statuses { IsStatus result }
+    ensures told { IsTold result → (read : List ℕ) → S.bytes_left source.old ≡ Some read
+        → (written : List ℕ) × IsSerialAnswer budget read written result
+        × GrewBy (K.bytes_held sink.old) (K.bytes_held sink.new) written }
+    ensures read_to_the_end { IsReadWhole result → (read : List ℕ) → S.bytes_left source.old ≡ Some read
+        → S.bytes_left source.new ≡ Some [] }
+    ensures line { result ≡ 5 → (fault : ScriptFault) × GrewBy (K.bytes_held sink.old) (K.bytes_held sink.new) (fault_line fault) }
+    ensures unwritten { IsSilent result → sink.new ≡ sink.old }
+    ensures known { result ≡ 2 → ⊥ }
+    ensures source_failed { result ≡ 3 → Rose (S.faults source.old) (S.faults source.new) }
+    ensures sink_failed { result ≡ 4 → Rose (K.faults sink.old) (K.faults sink.new) }
+    ensures cut_short { result ≡ 4 → (read : List ℕ) → S.bytes_left source.old ≡ Some read
+        → (written : List ℕ) × (status : ℕ) × IsSerialAnswer budget read written status
+        × GrewByPrefix (K.bytes_held sink.old) (K.bytes_held sink.new) written }
+{
+    task_run(alloc, Task::Run { budget }, source, sink)
+}
+
+/// Writes the canonical text of the script that the source gives to the sink, and answers the status of the program. It
+/// waits for nobody, and returns.
+pub(crate) fn print_run<S: Source, K: Sink>(alloc: Global, source: &mut S, sink: &mut K) -> u8
+    ensures statuses { IsStatus result }
+    ensures told { IsTold result → (read : List ℕ) → S.bytes_left source.old ≡ Some read
+        → (written : List ℕ) × IsPrintAnswer read written result
+        × GrewBy (K.bytes_held sink.old) (K.bytes_held sink.new) written }
+    ensures read_to_the_end { IsReadWhole result → (read : List ℕ) → S.bytes_left source.old ≡ Some read
+        → S.bytes_left source.new ≡ Some [] }
+    ensures line { result ≡ 5 → (fault : ScriptFault) × GrewBy (K.bytes_held sink.old) (K.bytes_held sink.new) (fault_line fault) }
+    ensures unwritten { IsSilent result → sink.new ≡ sink.old }
+    ensures known { result ≡ 2 → ⊥ }
+    ensures source_failed { result ≡ 3 → Rose (S.faults source.old) (S.faults source.new) }
+    ensures sink_failed { result ≡ 4 → Rose (K.faults sink.old) (K.faults sink.new) }
+    ensures cut_short { result ≡ 4 → (read : List ℕ) → S.bytes_left source.old ≡ Some read
+        → (written : List ℕ) × (status : ℕ) × IsPrintAnswer read written status
+        × GrewByPrefix (K.bytes_held sink.old) (K.bytes_held sink.new) written }
+{
+    task_run(alloc, Task::Print, source, sink)
+}
+
+// Reads a script, and writes what the task tells of it.
+fn task_run<S: Source, K: Sink>(alloc: Global, task: Task, source: &mut S, sink: &mut K) -> u8
+    requires { IsTask task }
+    ensures statuses { IsStatus result }
+    ensures told { IsTold result → (read : List ℕ) → S.bytes_left source.old ≡ Some read
+        → (written : List ℕ) × IsAnswer task read written result
+        × GrewBy (K.bytes_held sink.old) (K.bytes_held sink.new) written }
+    ensures read_to_the_end { IsReadWhole result → (read : List ℕ) → S.bytes_left source.old ≡ Some read
+        → S.bytes_left source.new ≡ Some [] }
+    ensures line { result ≡ 5 → (fault : ScriptFault) × GrewBy (K.bytes_held sink.old) (K.bytes_held sink.new) (fault_line fault) }
+    ensures unwritten { IsSilent result → sink.new ≡ sink.old }
+    ensures known { result ≡ 2 → ⊥ }
+    ensures source_failed { result ≡ 3 → Rose (S.faults source.old) (S.faults source.new) }
+    ensures sink_failed { result ≡ 4 → Rose (K.faults sink.old) (K.faults sink.new) }
+    ensures cut_short { result ≡ 4 → (read : List ℕ) → S.bytes_left source.old ≡ Some read
+        → (written : List ℕ) × (status : ℕ) × IsAnswer task read written status
+        × GrewByPrefix (K.bytes_held sink.old) (K.bytes_held sink.new) written }
+{
+    let bytes = match read_up_to(alloc, source, MOST_BYTES) {
+        Ok(bytes) => bytes,
+        Err(ReadFault::Failed) => return 3,
+        Err(ReadFault::Memory) => return 9,
+    };
+    match answer(alloc, task, bytes.as_slice()) {
+        Ok(told) => write(sink, &told),
+        Err(_) => 9,
+    }
+}

@@ -1,0 +1,60 @@
+ghost use Rattle.std.specs.Prelude.{◌≡◌, [], length, IfOk, map};
+ghost use Rattle.te_script.specs.Scripts.{IsProgram};
+ghost use Rattle.te_script.specs.Cores.{core_after};
+ghost use Rattle.te_search.specs.Findings.{IsBudget};
+ghost use Rattle.tevents.specs.SerialRuns.{EndsSo};
+
+use std::alloc::Global;
+use std::sync::Arc;
+use te_board::Board;
+use te_report::Ending;
+use te_script::{Core, Script};
+use te_serial::{FinishFault, finish};
+use te_terms::NoMemory;
+
+/// What a serial run leaves: the board with its history, and how it ended.
+#[derive(Drop)]
+pub(crate) struct Run {
+    pub(crate) board: Board,
+    pub(crate) ending: Ending,
+}
+
+// A core for each thread, before any of them has done anything.
+fn cores_of(alloc: Global, script: &Script) -> Result<Vec<Core>, NoMemory>
+    ensures { IfOk result (λ cores. cores.items ≡ map (λ t. core_after t []) script.now.threads) }
+{
+    let mut cores = Vec::new(alloc);
+    for text in script.threads.as_slice() {
+        cores.push(Core::new(alloc, Arc::try_clone(text)?)?)?;
+    }
+    Ok(cores)
+}
+
+/// Runs the threads of a script in serial rounds, by a budget for each search. The one refusal is want of memory.
+pub(crate) fn run_rounds(alloc: Global, script: &Script, budget: u64) -> Result<Run, NoMemory>
+    requires budget { IsBudget budget }
+    requires program { IsProgram script.now }
+    ensures callers { IfOk result (λ run. run.board.callers ≡ length script.now.threads) }
+    ensures ends { IfOk result (λ run. EndsSo budget script.now run.board.entries run.ending) }
+{
+    let mut cores = cores_of(alloc, script)?;
+    let mut board = Board::new(alloc, cores.len() as u32)?;
+    let ending = match finish(alloc, &mut board, &mut cores, budget) {
+        Ok(()) => Ending::Closed,
+        Err(FinishFault::Full) => Ending::Full,
+        Err(
+            FinishFault::Spent {
+                front,
+                paths,
+                groups,
+            },
+        ) => Ending::Spent {
+            front,
+            paths,
+            groups,
+        },
+        Err(FinishFault::Memory) => return Err(NoMemory),
+    };
+    let _whole = board.len();
+    Ok(Run { board, ending })
+}
