@@ -1,12 +1,11 @@
 #!/usr/bin/env python3
-"""Measures the memory and the time of reading a script.
+"""Measures the memory and the time of reading a script and printing it.
 
     bench/reading.py [--program PATH] [--runs N]
 
-The scripts are read by `serial` of the proved program and answered with `script unbuilt`, so what is measured is reading
-alone. For each it gives the bytes of memory held at most, all kept input among them, for a byte of the script, as
-bench/peak_bytes.c counts them (cc builds it; what the machine's allocator rounds up is counted), and the time, the least of N
-runs (5), of the processor. The program is crates/tevents/out/tevents, which the launcher ./tevents builds.
+The scripts are read and printed by `print` of the proved program. For each it gives the bytes of memory held at most, the
+input and the canonical text among them, for a byte of the script, as bench/peak_bytes.c counts them (cc builds it; what the
+machine's allocator rounds up is counted), and the time, the least of N runs (5), of the processor. The program is crates/tevents/out/tevents, which the launcher ./tevents builds.
 
 rings         the generator's 21 rings of 250 rounds, which have nearly 1 MiB
 the others    one small statement, or one kind of event, as often as the limits allow
@@ -19,8 +18,8 @@ import sys
 import tempfile
 
 TOP = os.path.dirname(os.path.dirname(os.path.abspath(__file__)))
-# Makes a script one that doesn't run yet.
-UNBUILT = "x<-sync never;"
+# A first statement, which writes the register.
+FIRST = "x<-sync never;"
 
 
 def rings(count, rounds):
@@ -53,25 +52,25 @@ def chosen(leaf, count):
 def scripts():
     """Each script with its name."""
     yield "rings", rings(21, 250)
-    yield "emits, 64 threads of 1,024", threads(64, UNBUILT + "emit();" * 1023)
-    yield "emits, 64 threads of 513", threads(64, UNBUILT + "emit();" * 512)
-    yield "emits, one thread of 1,024", threads(1, UNBUILT + "emit();" * 1023)
-    yield "emits, one thread of 513", threads(1, UNBUILT + "emit();" * 512)
-    yield "syncs, 64 threads of 1,024", threads(64, UNBUILT * 1023)
-    yield "syncs, 64 threads of 513", threads(64, UNBUILT * 513)
-    yield "syncs, one thread of 513", threads(1, UNBUILT * 513)
-    yield "empty tuples, 64 threads of 513", threads(64, UNBUILT + "x<-sync always();" * 512)
+    yield "emits, 64 threads of 1,024", threads(64, FIRST + "emit();" * 1023)
+    yield "emits, 64 threads of 513", threads(64, FIRST + "emit();" * 512)
+    yield "emits, one thread of 1,024", threads(1, FIRST + "emit();" * 1023)
+    yield "emits, one thread of 513", threads(1, FIRST + "emit();" * 512)
+    yield "syncs, 64 threads of 1,024", threads(64, FIRST * 1023)
+    yield "syncs, 64 threads of 513", threads(64, FIRST * 513)
+    yield "syncs, one thread of 513", threads(1, FIRST * 513)
+    yield "empty tuples, 64 threads of 513", threads(64, FIRST + "x<-sync always();" * 512)
     yield "one event of 4,095 nodes a thread", threads(32, f"x<-sync {chosen('never', 2048)};")
-    yield "threads of one statement", threads(64, UNBUILT)
+    yield "threads of one statement", threads(64, FIRST)
 
 
 def run(program, path, environment=None):
     """The processor time of one run in seconds."""
     before = resource.getrusage(resource.RUSAGE_CHILDREN)
     with open(path, "rb") as script:
-        done = subprocess.run([program, "serial"], stdin=script, capture_output=True, check=False, env=environment)
+        done = subprocess.run([program, "print"], stdin=script, capture_output=True, check=False, env=environment)
     after = resource.getrusage(resource.RUSAGE_CHILDREN)
-    if done.returncode != 5 or done.stdout != b"script unbuilt\n":
+    if done.returncode != 0 or not done.stdout.startswith((b"channels", b"thread")):
         sys.exit(f"{path}: status {done.returncode}, {done.stdout[:200]!r} {done.stderr[:200]!r}")
     return after.ru_utime + after.ru_stime - before.ru_utime - before.ru_stime
 
