@@ -35,7 +35,7 @@ use te_io::{Sink, Source};
 /// | 3 | the source failed | nothing |
 /// | 4 | the sink failed | a prefix of a text that the call could have written |
 /// | 5 | the bytes are no text of a script | the line of its fault, as `script fault 3 at 1:14` |
-/// | 6 | `serial`: a post would have passed the limit on entries | the report of what was done by then |
+/// | 6 | `serial`: the history had no room for a post and all that may follow it | the report of what was done by then |
 /// | 7 | `serial`, `gen`: a search has used up its budget | the report of what was done by then, or the summary |
 /// | 9 | want of memory | nothing |
 pub fn tevents<S: Source, K: Sink>(
@@ -68,6 +68,9 @@ pub fn tevents<S: Source, K: Sink>(
     ensures line { result ≡ 5 → (fault : ScriptFault)
         × GrewBy (K.bytes_held sink.old) (K.bytes_held sink.new) (fault_line fault) }
 
+    // Words that aren't refused say one thing.
+    ensures says { result ≢ 2 → result ≢ 9 → (w : Words) × Says (map string_bytes words.now) w }
+
     // 2
     ensures refused { result ≡ 2 → AreRefused (map string_bytes words.now) }
     ensures refuses { AreRefused (map string_bytes words.now) → (result ≡ 2) ⊎ (result ≡ 9) }
@@ -84,6 +87,10 @@ pub fn tevents<S: Source, K: Sink>(
     ensures cut_short { result ≡ 4 → (w : Words) → Says (map string_bytes words.now) w
         → (read : List ℕ) → S.bytes_left source.old ≡ Some read
         → (written : List ℕ) × (status : ℕ) × Answers w read written status
+        × GrewByPrefix (K.bytes_held sink.old) (K.bytes_held sink.new) written }
+
+    ensures generated_cut_short { result ≡ 4 → (w : Words) → Says (map string_bytes words.now) w → w.mode ≡ modes.Gen
+        → (written : List ℕ) × (status : ℕ) × IsSummary w.number w.budget written status
         × GrewByPrefix (K.bytes_held sink.old) (K.bytes_held sink.new) written }
 
     // Where no end failed and there was memory, a script is run or printed.

@@ -43,6 +43,54 @@ const REPORTS: &[(&[u8], u8, &[u8])] = &[
             3 commit a: a.0[]=(5) b.0[]=(@a.0.0); a>b b>a\n4 take a 0 =(5)\n5 take b 0 =(@a.0.0)\n\
             6 end a done (5)\n7 end b done (@a.0.0)\nclosed 7\n",
     ),
+    // a needs c's left branch and b its right one, so none of the three can commit.
+    (
+        b"channels p q m; thread a { x <- sync do { u <- recv p; send m () }; } \
+            thread b { x <- sync do { u <- recv q; recv m }; } thread c { x <- sync choose { send p () | send q () }; }",
+        1,
+        b"1 post a 0 at 1.0\n2 post b 0 at 1.0\n3 post c 0 at 1.0\n\
+            4 stuck a\n5 end a stuck\n6 end b stuck\n7 end c stuck\nclosed 7\n",
+    ),
+    // A value that is thrown commits with its group, and ends the thread.
+    (
+        b"channels c; thread a { x <- sync do { u <- send c (1); throw (9) }; emit (5); } \
+            thread b { y <- sync recv c; emit y; }",
+        0,
+        b"1 post a 0 at 1.0\n2 post b 0 at 1.0\n3 commit a: a.0[]!(9) b.0[]=(1); a>b\n\
+            4 take a 0 !(9)\n5 take b 0 =(1)\n6 end a raised (9)\n7 end b done (1)\nclosed 7\n",
+    ),
+    // Catching takes back no meeting.
+    (
+        b"channels c; thread a { x <- sync try { do { u <- recv c; throw (u.0 + 1) } } catch e { always e }; emit x; } \
+            thread b { y <- sync send c (4); }",
+        0,
+        b"1 post a 0 at 1.0\n2 post b 0 at 1.0\n3 commit a: a.0[]=(5) b.0[]=(); b>a\n\
+            4 take a 0 =(5)\n5 take b 0 =()\n6 end a done (5)\n7 end b done\nclosed 7\n",
+    ),
+    // A sum past 64 bits raises (-1).
+    (
+        b"thread a { x <- sync try { always (9223372036854775807 + 1) } catch e \
+            { always (e.0, 9223372036854775807 + 0) }; emit x; }",
+        0,
+        b"1 post a 0 at 1.0\n2 commit a: a.0[]=(-1,9223372036854775807);\n\
+            3 take a 0 =(-1,9223372036854775807)\n4 end a done (-1,9223372036854775807)\nclosed 4\n",
+    ),
+    // A number in a channel's place raises (-2).
+    (
+        b"channels c d; thread a { x <- sync do { u <- send c (d); recv d }; emit x; } \
+            thread b { y <- sync do { u <- recv c; send u.0 (8) }; z <- sync recv 5; }",
+        0,
+        b"1 post a 0 at 1.0\n2 post b 0 at 1.0\n3 commit a: a.0[]=(8) b.0[]=(); a>b b>a\n\
+            4 take a 0 =(8)\n5 take b 0 =()\n6 end a done (8)\n7 post b 1 at 2.0\n8 commit b: b.1[]!(-2);\n\
+            9 take b 1 !(-2)\n10 end b raised (-2)\nclosed 10\n",
+    ),
+    // A register may be written again.
+    (
+        b"thread a { x <- sync always (2); x <- sync always (x.0 * 3, x.0); emit x; }",
+        0,
+        b"1 post a 0 at 1.0\n2 commit a: a.0[]=(2);\n3 take a 0 =(2)\n4 post a 1 at 2.0\n\
+            5 commit a: a.1[]=(6,2);\n6 take a 1 =(6,2)\n7 end a done (6,2)\nclosed 7\n",
+    ),
 ];
 
 #[test]
@@ -104,5 +152,22 @@ fn a_budget_that_is_used_up_is_told(rt: HostRuntime) -> Result<(), Fail> {
             spent 3 front 3 paths 1 groups 0\n"[..]
     );
     assert_eq!(rt; status, 7);
+    Ok(())
+}
+
+#[test]
+fn a_history_that_is_full_is_told(rt: HostRuntime) -> Result<(), Fail> {
+    let script =
+        b"thread a { repeat 10000 { x <- sync always (1); x <- sync always (1); x <- sync always (1); \
+        x <- sync always (1); x <- sync always (1); x <- sync always (1); x <- sync always (1); } }";
+    let mut source = SteadySource::new(rt.alloc(), script)?;
+    let mut sink = SteadySink::new(rt.alloc(), 10_000_000)?;
+    let words = words(rt.alloc(), &["serial"])?;
+    let status = tevents(rt.alloc(), words.as_slice(), &mut source, &mut sink);
+    assert_eq!(rt; status, 6);
+    assert!(rt;
+        sink.bytes()
+            .ends_with(b"\n199995 take a 66664 =(1)\nfull 199995\n")
+    );
     Ok(())
 }
