@@ -15,3 +15,6 @@ pub mod Commits
 pub mod Growing
 pub mod GivenOnce
 pub mod Lasting
+pub mod NoCommit
+pub mod RowsExchange
+pub mod HistoriesWorked

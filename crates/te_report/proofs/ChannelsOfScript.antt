@@ -142,7 +142,8 @@ module _ (P : ℕ → Type 0) (channels : ℕ) (threads : List Thread) (low : (c
   end_has (Some x) t ways.Stuck outs is ho w = tt
   end_has None t how outs is ho w = absurd w
 
-  entry_has : (h : List Entry) (e : Entry) → LooselyFollows (length threads) h e → WishedBy (slice_get threads (caller_of e)) (taken (caller_of e) h) e → SoFar h → MembersMake e → EntryHas P e
+  entry_has : (h : List Entry) (e : Entry) → LooselyFollows (length threads) h e → WishedBy (slice_get threads (caller_of e)) (taken (caller_of e) h) e
+      → SoFar h → MembersMake e → EntryHas P e
   entry_has h (entries.Post by ticket event) follows w so makes = (post_has (slice_get threads by) by ticket event (taken by h) refl (so.taken_so by) w).term
   entry_has h (entries.Commit by cert outcomes) follows w so makes = commit_has h cert outcomes so.state_so follows.2 makes
   entry_has h (entries.Withdraw by ticket) follows w so makes = tt
@@ -184,7 +185,8 @@ module _ (P : ℕ → Type 0) (channels : ℕ) (threads : List Thread) (low : (c
   appended Q [] ys hx hy = hy
   appended Q (x ∷ xs) ys hx hy = (hx.0, appended Q xs ys hx.1 hy)
 
-  pub goes_on : (h : List Entry) (e : Entry) → LooselyFollows (length threads) h e → WishedBy (slice_get threads (caller_of e)) (taken (caller_of e) h) e → SoFar h → MembersMake e → SoFar (h ++ e ∷ [])
+  pub goes_on : (h : List Entry) (e : Entry) → LooselyFollows (length threads) h e → WishedBy (slice_get threads (caller_of e)) (taken (caller_of e) h) e → SoFar h
+      → MembersMake e → SoFar (h ++ e ∷ [])
   goes_on h e follows w so makes =
       let has = entry_has h e follows w so makes in
       record {
@@ -201,7 +203,8 @@ module _ (P : ℕ → Type 0) (channels : ℕ) (threads : List Thread) (low : (c
   }
 
 -- the members of a commit are threads
-members_make : (P : ℕ → Type 0) (n : ℕ) (s : State) (ms : List Member) (gs : List steps.Member) → length s.callers ≡ n → ((t k : ℕ) → t < n → Makes P t k) → AreEvents s ms gs → AllByRecursion (λ m. Makes P m.thread m.ticket) ms
+members_make : (P : ℕ → Type 0) (n : ℕ) (s : State) (ms : List Member) (gs : List steps.Member) → length s.callers ≡ n → ((t k : ℕ) → t < n → Makes P t k)
+    → AreEvents s ms gs → AllByRecursion (λ m. Makes P m.thread m.ticket) ms
 members_make P n s [] [] many makes events = tt
 members_make P n s [] (g ∷ gs) many makes events = absurd events
 members_make P n s (m ∷ ms) [] many makes events = absurd events

@@ -12,11 +12,13 @@ use crate::place::callers_of;
 use crate::rounds::run;
 use crate::taking::take_given;
 use std::alloc::Global;
+use std::mem;
 use te_board::Board;
 use te_history::Phase;
 use te_script::Core;
+use te_terms::Rows;
 
-// What `finish` does.
+// What `finish` does, over the cores as a `Vec`.
 fn finish_cores(
     alloc: Global,
     board: &mut Board,
@@ -59,18 +61,20 @@ fn finish_cores(
 pub fn finish(
     alloc: Global,
     board: &mut Board,
-    cores: &mut Vec<Core>,
+    cores: &mut Rows<Core>,
     budget: u64,
 ) -> Result<(), FinishFault>
-    requires house { IsHouse board.old cores.old.items }
+    requires house { IsHouse board.old cores.old }
     requires budget { IsBudget budget }
     ensures legal { IsLegal board.new.callers board.new.entries }
-    ensures continues { Continues board.old cores.old.items board.new cores.new.items }
+    ensures continues { Continues board.old cores.old board.new cores.new }
     ensures whole { OnOk result (IsWhole board.new.callers board.new.entries) }
     ensures rounds { OnOk result (board.old.entries ≡ [] → IsInRounds board.new.callers board.new.entries) }
-    ensures cause { IfErr result (λ fault. HasCause board.new cores.new.items budget fault) }
+    ensures cause { IfErr result (λ fault. HasCause board.new cores.new budget fault) }
 {
-    let finished = finish_cores(alloc, board, cores, budget);
+    let mut list = mem::replace(cores, Rows::new(alloc)).into_vec();
+    let finished = finish_cores(alloc, board, &mut list, budget);
+    *cores = Rows::from(list);
     // The board tells that its history is legal.
     let _callers = callers_of(board);
     finished

@@ -8,12 +8,13 @@ use std::test::Fail;
 use te_board::Board;
 use te_history::Entry;
 use te_script::{Core, Script, generate};
+use te_terms::Rows;
 
 // The cores of a script's threads, at their first wishes.
-fn first_cores(alloc: Global, script: &Script) -> Result<Vec<Core>, Fail>
-    ensures { IfOk result (λ cores. AreFresh cores.items) }
+fn first_cores(alloc: Global, script: &Script) -> Result<Rows<Core>, Fail>
+    ensures { IfOk result (λ cores. AreFresh cores) }
 {
-    let mut cores = Vec::new(alloc);
+    let mut cores = Rows::new(alloc);
     for text in script.threads.as_slice() {
         cores.push(Core::new(alloc, Arc::try_clone(text)?)?)?;
     }
@@ -21,9 +22,9 @@ fn first_cores(alloc: Global, script: &Script) -> Result<Vec<Core>, Fail>
 }
 
 // A board of the generator's threads, before any of them has done anything, with their cores.
-fn house(alloc: Global, number: u32) -> Result<(Board, Vec<Core>), Fail>
+fn house(alloc: Global, number: u32) -> Result<(Board, Rows<Core>), Fail>
     requires { number ≤ 999 }
-    ensures { IfOk result (λ house. IsHouse house.0 house.1.items) }
+    ensures { IfOk result (λ house. IsHouse house.0 house.1) }
 {
     let script = generate(alloc, number)?;
     let cores = first_cores(alloc, &script)?;

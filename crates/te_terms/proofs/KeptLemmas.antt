@@ -12,10 +12,10 @@ use Rattle.te_terms.specs.declared.code.Node.{Node}
 use Rattle.te_terms.specs.declared.code.Mark.{Mark}
 use Rattle.te_terms.specs.Terms.{Term}
 use Rattle.te_terms.specs.Codes.{term_under}
-use Rattle.te_terms.specs.Measures.{height, weight, node_count, fresh_count}
+use Rattle.te_terms.specs.Measures.{height, choice_count, send_count, receive_count, node_count, fresh_count}
 use Rattle.te_terms.specs.Limits.{most_nodes, greatest_height, most_fresh}
 use Rattle.te_terms.specs.Shape.{children, times_in, times_named, one_if_fresh, fresh_nodes, NamesEarlier, IsForest, HasFreeChildren, term_over}
-use Rattle.te_terms.specs.Kept.{Tells, TellsNew, IsLow, own_weight, IsKept, IsFree, open_count, nodes_of, fresh_of, as_child, adopted}
+use Rattle.te_terms.specs.Kept.{Tells, TellsNew, IsLow, own_weighing, IsKept, IsFree, open_count, nodes_of, fresh_of, as_child, adopted}
 use Rattle.te_terms.proofs.TermLemmas.{IsEarlier, slice_get_front, slice_get_seam, term_at-append, term_at_new}
 use Rattle.te_terms.proofs.ChildLemmas.{times_named_push, no_or_two_children, two_differ, first_free, second_free}
 use Rattle.te_terms.proofs.AdoptLemmas.{length-adopted, kept-adopted, is_child-adopted, open_two_less, adopted_front}
@@ -116,7 +116,9 @@ forest_more code node forest free fits few fresh_few = record {
 -- the sizes that a mark tells are those of the term
 pub record TellsSizes (t : Term) (mark : Mark) : Type 0 where
   pub nodes_are : mark.nodes ≡ node_count t
-  pub weight_is : mark.weight ≡ weight t
+  pub choices_are : mark.choices ≡ choice_count t
+  pub sends_are : mark.sends ≡ send_count t
+  pub receives_are : mark.receives ≡ receive_count t
   pub height_is : mark.height ≡ height t
   pub fresh_are : mark.fresh ≡ fresh_count t
 
@@ -128,15 +130,26 @@ before code marks node mark fresh kept free new i other h =
     elim (under code node kept.forest.earlier free i h) [
       | inl old ↦
           let tells = kept.tells i other old.0 in
-          rw (get_or_append_left marks (mark ∷ []) other i (omega (arith, old.0, kept.as_many)), old.1)
-          (record { nodes_are = tells.nodes_are; weight_is = tells.weight_is; height_is = tells.height_is; fresh_are = tells.fresh_are }, tells.has_parent)
+          rw (get_or_append_left marks (mark ∷ []) other i (omega (arith, old.0, kept.as_many)), old.1) (
+            record {
+              nodes_are = tells.nodes_are;
+              choices_are = tells.choices_are;
+              sends_are = tells.sends_are;
+              receives_are = tells.receives_are;
+              height_is = tells.height_is;
+              fresh_are = tells.fresh_are;
+            },
+            tells.has_parent,
+          )
       | inr at ↦
           let last : i ≡ length marks = omega (arith, at.0, kept.as_many) in
           let none : times_named i code ≡ 0 = none_named code i kept.forest.earlier (omega (arith, at.0)) in
           let is_mark : get_or (marks ++ mark ∷ []) i other ≡ mark = ap (λ k. get_or (marks ++ mark ∷ []) k other) last ∙ get_or-append_seam marks mark [] other in (
             record {
               nodes_are = ap (λ m. m.nodes) is_mark ∙ new.nodes_are ∙ sym (ap node_count at.1);
-              weight_is = ap (λ m. m.weight) is_mark ∙ new.weight_is ∙ sym (ap weight at.1);
+              choices_are = ap (λ m. m.choices) is_mark ∙ new.choices_are ∙ sym (ap choice_count at.1);
+              sends_are = ap (λ m. m.sends) is_mark ∙ new.sends_are ∙ sym (ap send_count at.1);
+              receives_are = ap (λ m. m.receives) is_mark ∙ new.receives_are ∙ sym (ap receive_count at.1);
               height_is = ap (λ m. m.height) is_mark ∙ new.height_is ∙ sym (ap height at.1);
               fresh_are = ap (λ m. m.fresh) is_mark ∙ new.fresh_are ∙ sym (ap fresh_count at.1);
             },
@@ -224,7 +237,9 @@ kept_more code marks fresh node mark kept free fits new =
           let named = times_named_push i code node in
           record {
             nodes_are = kept-adopted (λ m. m.nodes) (λ m. refl) (children node) (marks ++ mark ∷ []) i other ∙ was.0.nodes_are;
-            weight_is = kept-adopted (λ m. m.weight) (λ m. refl) (children node) (marks ++ mark ∷ []) i other ∙ was.0.weight_is;
+            choices_are = kept-adopted (λ m. m.choices) (λ m. refl) (children node) (marks ++ mark ∷ []) i other ∙ was.0.choices_are;
+            sends_are = kept-adopted (λ m. m.sends) (λ m. refl) (children node) (marks ++ mark ∷ []) i other ∙ was.0.sends_are;
+            receives_are = kept-adopted (λ m. m.receives) (λ m. refl) (children node) (marks ++ mark ∷ []) i other ∙ was.0.receives_are;
             height_is = kept-adopted (λ m. m.height) (λ m. refl) (children node) (marks ++ mark ∷ []) i other ∙ was.0.height_is;
             fresh_are = kept-adopted (λ m. m.fresh) (λ m. refl) (children node) (marks ++ mark ∷ []) i other ∙ was.0.fresh_are;
             has_parent = (
@@ -242,25 +257,31 @@ kept_more code marks fresh node mark kept free fits new =
 pub low_mark : (code : List Node) (i : ℕ) (mark : Mark) → IsForest code → i < length code → Tells code i mark → IsLow mark
 low_mark code i mark forest h tells = record {
   few = omega (arith, tells.nodes_are, forest.few_under i h, forest.few);
-  light = omega (arith, tells.weight_is, weights_are_nodes (term_under code i), forest.few_under i h, forest.few);
+  few_choices = omega (arith, tells.choices_are, weights_are_nodes 1 0 0 (omega arith) (omega arith) (omega arith) (term_under code i), forest.few_under i h, forest.few);
+  few_sends = omega (arith, tells.sends_are, weights_are_nodes 0 1 0 (omega arith) (omega arith) (omega arith) (term_under code i), forest.few_under i h, forest.few);
+  few_receives = omega (arith, tells.receives_are, weights_are_nodes 0 0 1 (omega arith) (omega arith) (omega arith) (term_under code i), forest.few_under i h, forest.few);
   low = omega (arith, tells.height_is, forest.low i h);
   few_fresh = omega (arith, tells.fresh_are, forest.fresh_under i h, forest.few_fresh);
 }
 
-pub new_over : (code : List Node) (node : Node) (a b : ℕ) (first second : Mark) (own news top : ℕ) → children node ≡ a ∷ b ∷ [] → Tells code a first → Tells code b second →
-    own ≡ own_weight node → news ≡ one_if_fresh node → top ≡ max first.height second.height →
+pub new_over : (code : List Node) (node : Node) (a b : ℕ) (first second : Mark) (choices sends receives news top : ℕ) → children node ≡ a ∷ b ∷ [] → Tells code a first → Tells code b second →
+    choices ≡ own_weighing 1 0 0 node → sends ≡ own_weighing 0 1 0 node → receives ≡ own_weighing 0 0 1 node → news ≡ one_if_fresh node → top ≡ max first.height second.height →
     TellsNew code node (record {
       nodes = 1 + (first.nodes + second.nodes);
-      weight = own + (first.weight + second.weight);
+      choices = choices + (first.choices + second.choices);
+      sends = sends + (first.sends + second.sends);
+      receives = receives + (first.receives + second.receives);
       height = 1 + top;
       fresh = news + (first.fresh + second.fresh);
       is_child = false;
     })
-new_over code node a b first second own news top is tells tells' own_is news_is top_is =
+new_over code node a b first second choices sends receives news top is tells tells' choices_is sends_is receives_is news_is top_is =
     let sizes = two_sizes code node a b is in
     record {
       nodes_are = omega (arith, sizes.nodes_are, tells.nodes_are, tells'.nodes_are);
-      weight_is = omega (arith, sizes.weight_is, tells.weight_is, tells'.weight_is, own_is);
+      choices_are = omega (arith, sizes.choices_are, tells.choices_are, tells'.choices_are, choices_is);
+      sends_are = omega (arith, sizes.sends_are, tells.sends_are, tells'.sends_are, sends_is);
+      receives_are = omega (arith, sizes.receives_are, tells.receives_are, tells'.receives_are, receives_is);
       height_is = rw (top_is, tells.height_is, tells'.height_is) (sym sizes.height_is);
       fresh_are = omega (arith, sizes.fresh_are, tells.fresh_are, tells'.fresh_are, news_is);
       no_parent = refl;

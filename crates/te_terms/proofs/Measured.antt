@@ -7,7 +7,7 @@ use Rattle.te_terms.specs.declared.code.Node.{Node}
 use Rattle.te_terms.specs.declared.code.Node.TheVariants as nodes
 use Rattle.te_terms.specs.Expressions.{Variable, value_of}
 use Rattle.te_terms.specs.Terms.{Term, always, never, fresh, throw, send, recv, and_then, choose, catch, when, replaced}
-use Rattle.te_terms.specs.Measures.{counted, total, one_each, one_weighing, one_fresh, one_final, one_with_value, node_count, final_count}
+use Rattle.te_terms.specs.Measures.{counted, total, one_each, weighing, one_fresh, one_final, one_with_value, node_count, final_count, weight, choice_count, send_count, receive_count}
 use Rattle.te_terms.specs.Codes.{over, term_within, term_at, term_under}
 use Rattle.te_terms.specs.Shape.{children, term_over}
 use Rattle.te_terms.specs.Steps.{head, with_head}
@@ -25,33 +25,33 @@ pub record SeesForms (own : Term → ℕ) : Type 0 where
 pub each_sees : SeesForms one_each
 each_sees = record { replaced_too = λ by t. refl; level_too = λ f g l m o. refl }
 
-weighing_replaced : (by : Variable → Variable) (t : Term) → one_weighing (replaced by t) ≡ one_weighing t
-weighing_replaced by (always e) = refl
-weighing_replaced by never = refl
-weighing_replaced by fresh = refl
-weighing_replaced by (throw e) = refl
-weighing_replaced by (send p e) = refl
-weighing_replaced by (recv p) = refl
-weighing_replaced by (and_then e n f) = refl
-weighing_replaced by (choose e f) = refl
-weighing_replaced by (catch e n h) = refl
-weighing_replaced by (when test p q e f) = refl
+weighing_replaced : (c s r : ℕ) (by : Variable → Variable) (t : Term) → weighing c s r (replaced by t) ≡ weighing c s r t
+weighing_replaced c s r by (always e) = refl
+weighing_replaced c s r by never = refl
+weighing_replaced c s r by fresh = refl
+weighing_replaced c s r by (throw e) = refl
+weighing_replaced c s r by (send p e) = refl
+weighing_replaced c s r by (recv p) = refl
+weighing_replaced c s r by (and_then e n f) = refl
+weighing_replaced c s r by (choose e f) = refl
+weighing_replaced c s r by (catch e n h) = refl
+weighing_replaced c s r by (when test p q e f) = refl
 
-weighing_levels : (f g : ℕ → ℕ → Term) (l m : ℕ) (o : Option Node) → one_weighing (over f l o) ≡ one_weighing (over g m o)
-weighing_levels f g l m None = refl
-weighing_levels f g l m (Some (nodes.Always e)) = refl
-weighing_levels f g l m (Some nodes.Never) = refl
-weighing_levels f g l m (Some nodes.Fresh) = refl
-weighing_levels f g l m (Some (nodes.Throw e)) = refl
-weighing_levels f g l m (Some (nodes.Send p e)) = refl
-weighing_levels f g l m (Some (nodes.Recv p)) = refl
-weighing_levels f g l m (Some (nodes.Then a b)) = refl
-weighing_levels f g l m (Some (nodes.Choose a b)) = refl
-weighing_levels f g l m (Some (nodes.Catch a b)) = refl
-weighing_levels f g l m (Some (nodes.If c a b)) = refl
+weighing_levels : (c s r : ℕ) (f g : ℕ → ℕ → Term) (l m : ℕ) (o : Option Node) → weighing c s r (over f l o) ≡ weighing c s r (over g m o)
+weighing_levels c s r f g l m None = refl
+weighing_levels c s r f g l m (Some (nodes.Always e)) = refl
+weighing_levels c s r f g l m (Some nodes.Never) = refl
+weighing_levels c s r f g l m (Some nodes.Fresh) = refl
+weighing_levels c s r f g l m (Some (nodes.Throw e)) = refl
+weighing_levels c s r f g l m (Some (nodes.Send p e)) = refl
+weighing_levels c s r f g l m (Some (nodes.Recv p)) = refl
+weighing_levels c s r f g l m (Some (nodes.Then a b)) = refl
+weighing_levels c s r f g l m (Some (nodes.Choose a b)) = refl
+weighing_levels c s r f g l m (Some (nodes.Catch a b)) = refl
+weighing_levels c s r f g l m (Some (nodes.If p a b)) = refl
 
-pub weighing_sees : SeesForms one_weighing
-weighing_sees = record { replaced_too = weighing_replaced; level_too = weighing_levels }
+pub weighing_sees : (c s r : ℕ) → SeesForms (weighing c s r)
+weighing_sees c s r = record { replaced_too = weighing_replaced c s r; level_too = weighing_levels c s r }
 
 fresh_replaced : (by : Variable → Variable) (t : Term) → one_fresh (replaced by t) ≡ one_fresh t
 fresh_replaced by (always e) = refl
@@ -201,14 +201,27 @@ final_once _ = omega arith
 pub finals_are_nodes : (t : Term) → final_count t ≤ node_count t
 finals_are_nodes t = no_more one_final final_once t
 
-weighing_once : (t : Term) → one_weighing t ≤ 1
-weighing_once (send p e) = omega arith
-weighing_once (recv p) = omega arith
-weighing_once (choose e f) = omega arith
-weighing_once _ = omega arith
+weighing_once : (c s r : ℕ) → c ≤ 1 → s ≤ 1 → r ≤ 1 → (t : Term) → weighing c s r t ≤ 1
+weighing_once c s r few few' few'' (choose e f) = few
+weighing_once c s r few few' few'' (send p e) = few'
+weighing_once c s r few few' few'' (recv p) = few''
+weighing_once c s r few few' few'' _ = omega arith
 
-pub weights_are_nodes : (t : Term) → total one_weighing t ≤ node_count t
-weights_are_nodes t = no_more one_weighing weighing_once t
+pub weights_are_nodes : (c s r : ℕ) → c ≤ 1 → s ≤ 1 → r ≤ 1 → (t : Term) → total (weighing c s r) t ≤ node_count t
+weights_are_nodes c s r few few' few'' t = no_more (weighing c s r) (weighing_once c s r few few' few'') t
+
+-- the weight is the choices, the sends and the receives
+pub weight-by_kind : (t : Term) → weight t ≡ choice_count t + (send_count t + receive_count t)
+weight-by_kind (always e) = refl
+weight-by_kind never = refl
+weight-by_kind fresh = refl
+weight-by_kind (throw e) = refl
+weight-by_kind (send p e) = refl
+weight-by_kind (recv p) = refl
+weight-by_kind (and_then e n f) = omega (arith, weight-by_kind e, weight-by_kind f)
+weight-by_kind (choose e f) = omega (arith, weight-by_kind e, weight-by_kind f)
+weight-by_kind (catch e n h) = omega (arith, weight-by_kind e, weight-by_kind h)
+weight-by_kind (when test p q e f) = omega (arith, weight-by_kind e, weight-by_kind f)
 
 -- ---- another head
 

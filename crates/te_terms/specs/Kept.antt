@@ -7,14 +7,16 @@ use Rattle.te_terms.specs.declared.code.Node.TheVariants as nodes
 use Rattle.te_terms.specs.declared.code.Mark.{Mark}
 use Rattle.te_terms.specs.Terms.{Term, always, never, fresh, throw, send, recv, and_then, choose, catch, when, replaced, registers_to}
 use Rattle.te_terms.specs.Codes.{term_at, term_under, primitive_of, expression_of}
-use Rattle.te_terms.specs.Measures.{height, weight, node_count, fresh_count}
+use Rattle.te_terms.specs.Measures.{height, choice_count, send_count, receive_count, node_count, fresh_count}
 use Rattle.te_terms.specs.Limits.{most_nodes, greatest_height, most_fresh}
 use Rattle.te_terms.specs.Shape.{times_named, fresh_nodes, IsForest, term_over}
 
 -- the mark of node i
 pub record Tells (code : List Node) (i : ℕ) (mark : Mark) : Type 0 where
   pub nodes_are : mark.nodes ≡ node_count (term_under code i)
-  pub weight_is : mark.weight ≡ weight (term_under code i)
+  pub choices_are : mark.choices ≡ choice_count (term_under code i)
+  pub sends_are : mark.sends ≡ send_count (term_under code i)
+  pub receives_are : mark.receives ≡ receive_count (term_under code i)
   pub height_is : mark.height ≡ height (term_under code i)
   pub fresh_are : mark.fresh ≡ fresh_count (term_under code i)
   pub has_parent : IsTrue mark.is_child ↔ (0 < times_named i code)
@@ -40,7 +42,9 @@ pub record IsKept (code : List Node) (marks : List Mark) (fresh : ℕ) : Type 0 
 -- what a mark can say
 pub record IsLow (mark : Mark) : Type 0 where
   pub few : mark.nodes ≤ most_nodes
-  pub light : mark.weight ≤ most_nodes
+  pub few_choices : mark.choices ≤ most_nodes
+  pub few_sends : mark.sends ≤ most_nodes
+  pub few_receives : mark.receives ≤ most_nodes
   pub low : mark.height ≤ greatest_height
   pub few_fresh : mark.fresh ≤ most_fresh
 
@@ -49,12 +53,12 @@ abbrev pub listed : Option (ℕ × ℕ) → List ℕ
 listed None = []
 listed (Some p) = p.0 ∷ p.1 ∷ []
 
--- what a node itself adds to the weight of its term
-abbrev pub own_weight : Node → ℕ
-own_weight (nodes.Send p e) = 1
-own_weight (nodes.Recv p) = 1
-own_weight (nodes.Choose a b) = 1
-own_weight _ = 0
+-- what a node itself adds to such a count of its term
+abbrev pub own_weighing : ℕ → ℕ → ℕ → Node → ℕ
+own_weighing c s r (nodes.Choose a b) = c
+own_weighing c s r (nodes.Send p e) = s
+own_weighing c s r (nodes.Recv p) = r
+own_weighing c s r _ = 0
 
 -- an earlier number that has no parent yet
 abbrev pub IsFree : List Node → ℕ → Type 0
@@ -78,7 +82,9 @@ adopted (c ∷ cs) ms = adopted cs (adopt c ms)
 -- the mark of a node that is appended
 pub record TellsNew (code : List Node) (node : Node) (mark : Mark) : Type 0 where
   pub nodes_are : mark.nodes ≡ node_count (term_over code node)
-  pub weight_is : mark.weight ≡ weight (term_over code node)
+  pub choices_are : mark.choices ≡ choice_count (term_over code node)
+  pub sends_are : mark.sends ≡ send_count (term_over code node)
+  pub receives_are : mark.receives ≡ receive_count (term_over code node)
   pub height_is : mark.height ≡ height (term_over code node)
   pub fresh_are : mark.fresh ≡ fresh_count (term_over code node)
   pub no_parent : mark.is_child ≡ false

@@ -2,6 +2,7 @@
 use Rattle.std.specs.Prelude.{ℕ, ◌+◌, max, List, Result, Ok, Err}
 use Rattle.te_terms.specs.declared.value.Atom.{Atom}
 use Rattle.te_terms.specs.declared.value.Trap.{Trap}
+use Rattle.te_terms.specs.declared.code.Counts.{Counts}
 use Rattle.te_terms.specs.Expressions.{value_of}
 use Rattle.te_terms.specs.Terms.{Term, always, fresh, throw, send, recv, and_then, choose, catch, when}
 
@@ -21,12 +22,12 @@ total own t = counted own (λ a b. a + b) t
 abbrev pub one_each : Term → ℕ
 one_each t = 1
 
--- the choose, send and receive nodes
-abbrev pub one_weighing : Term → ℕ
-one_weighing (send p e) = 1
-one_weighing (recv p) = 1
-one_weighing (choose e f) = 1
-one_weighing _ = 0
+-- what each choose, each send and each receive node counts, in this order; no other node counts
+abbrev pub weighing : ℕ → ℕ → ℕ → Term → ℕ
+weighing c s r (choose e f) = c
+weighing c s r (send p e) = s
+weighing c s r (recv p) = r
+weighing c s r _ = 0
 
 abbrev pub one_fresh : Term → ℕ
 one_fresh fresh = 1
@@ -46,8 +47,21 @@ one_final _ = 0
 abbrev pub height : Term → ℕ
 height t = counted one_each max t
 
+-- the choose, send and receive nodes
 abbrev pub weight : Term → ℕ
-weight t = total one_weighing t
+weight t = total (weighing 1 1 1) t
+
+abbrev pub choice_count : Term → ℕ
+choice_count t = total (weighing 1 0 0) t
+
+abbrev pub send_count : Term → ℕ
+send_count t = total (weighing 0 1 0) t
+
+abbrev pub receive_count : Term → ℕ
+receive_count t = total (weighing 0 0 1) t
+
+abbrev pub counts_of : Term → Counts
+counts_of t = record { choices = choice_count t; sends = send_count t; receives = receive_count t }
 
 abbrev pub node_count : Term → ℕ
 node_count t = total one_each t

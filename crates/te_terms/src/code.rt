@@ -4,11 +4,11 @@ ghost use Rattle.te_terms.specs.declared.code.Node.{Node};
 ghost use Rattle.te_terms.specs.declared.code.Node.TheVariants as nodes;
 ghost use Rattle.te_terms.specs.declared.code.CodeFault.TheVariants as faults;
 ghost use Rattle.te_terms.specs.Codes.{term_under};
-ghost use Rattle.te_terms.specs.Measures.{height, weight};
+ghost use Rattle.te_terms.specs.Measures.{height, counts_of};
 ghost use Rattle.te_terms.specs.Limits.{most_nodes, greatest_height, most_fresh, IsWithinLimits};
 ghost use Rattle.te_terms.specs.Shape.{children, times_named, one_if_fresh, fresh_nodes, NamesEarlier, IsForest, HasFreeChildren, term_over};
 ghost use Rattle.te_terms.specs.Views.{node_seen, IsShortNode};
-ghost use Rattle.te_terms.specs.Kept.{Tells, TellsNew, IsLow, IsKept, IsFree, listed, own_weight, adopted};
+ghost use Rattle.te_terms.specs.Kept.{Tells, TellsNew, IsLow, IsKept, IsFree, listed, own_weighing, adopted};
 
 use crate::expr::{Calc, Cond, Expr, Operand};
 use crate::lent::NodeView;
@@ -60,11 +60,32 @@ impl Node {
         }
     }
 
-    fn own_weight(&self) -> u16
-        ensures { result ≡ own_weight self.now }
+    // 1 for a choice, else 0.
+    fn own_choices(&self) -> u16
+        ensures { result ≡ own_weighing 1 0 0 self.now }
     {
         match self {
-            Node::Choose(_, _) | Node::Send(_, _) | Node::Recv(_) => 1,
+            Node::Choose(_, _) => 1,
+            _ => 0,
+        }
+    }
+
+    // 1 for a send, else 0.
+    fn own_sends(&self) -> u16
+        ensures { result ≡ own_weighing 0 1 0 self.now }
+    {
+        match self {
+            Node::Send(_, _) => 1,
+            _ => 0,
+        }
+    }
+
+    // 1 for a receive, else 0.
+    fn own_receives(&self) -> u16
+        ensures { result ≡ own_weighing 0 0 1 self.now }
+    {
+        match self {
+            Node::Recv(_) => 1,
             _ => 0,
         }
     }
@@ -100,11 +121,25 @@ pub enum CodeFault {
     Fresh,
 }
 
+/// The numbers of choose, send and receive nodes of an event. Their sum is its weight. Counting them is this
+/// project's own.
+#[derive(Clone, Copy, Debug, PartialEq, Eq)]
+pub struct Counts {
+    /// The choose nodes, 0 to 4,096.
+    pub choices: u32,
+    /// The send nodes, 0 to 4,096.
+    pub sends: u32,
+    /// The receive nodes, 0 to 4,096.
+    pub receives: u32,
+}
+
 // What is kept of a node: the sizes of the term under it, and whether it has a parent.
 #[derive(Clone, Copy, Drop)]
 struct Mark {
     nodes: u16,
-    weight: u16,
+    choices: u16,
+    sends: u16,
+    receives: u16,
     height: u8,
     fresh: u8,
     is_child: bool,
@@ -207,13 +242,18 @@ impl EventCode {
         }
     }
 
-    // The weight of the term under node `i`, which keeps the limits of an event.
-    pub(crate) fn weight(&self, i: u32) -> u32
+    // The counts of the term under node `i`, which keeps the limits of an event.
+    pub(crate) fn counts(&self, i: u32) -> Counts
         requires { i < length self.now }
-        ensures value { result ≡ weight (term_under self.now i) }
+        ensures value { result ≡ counts_of (term_under self.now i) }
         ensures limits { IsWithinLimits (term_under self.now i) }
     {
-        self.mark(i).weight as u32
+        let mark = self.mark(i);
+        Counts {
+            choices: mark.choices as u32,
+            sends: mark.sends as u32,
+            receives: mark.receives as u32,
+        }
     }
 
     fn mark(&self, i: u32) -> Mark
@@ -232,7 +272,9 @@ impl EventCode {
         match node.children() {
             None => Mark {
                 nodes: 1,
-                weight: node.own_weight(),
+                choices: node.own_choices(),
+                sends: node.own_sends(),
+                receives: node.own_receives(),
                 height: 1,
                 fresh: node.own_fresh(),
                 is_child: false,
@@ -242,7 +284,9 @@ impl EventCode {
                 let second = self.mark(b);
                 Mark {
                     nodes: 1 + (first.nodes + second.nodes),
-                    weight: node.own_weight() + (first.weight + second.weight),
+                    choices: node.own_choices() + (first.choices + second.choices),
+                    sends: node.own_sends() + (first.sends + second.sends),
+                    receives: node.own_receives() + (first.receives + second.receives),
                     height: 1 + first.height.max(second.height),
                     fresh: node.own_fresh() + (first.fresh + second.fresh),
                     is_child: false,

@@ -1,11 +1,11 @@
-ghost use Rattle.std.specs.Prelude.{◌≡◌, ◌↔◌, ◌<◌, ◌≤◌, length, IfSome, IsNone, IfOk, IsTrue};
+ghost use Rattle.std.specs.Prelude.{◌≡◌, ◌↔◌, ◌+◌, ◌<◌, ◌≤◌, length, IfSome, IsNone, IfOk, IsTrue};
 ghost use Rattle.te_terms.specs.Terms.{closed};
 ghost use Rattle.te_terms.specs.Codes.{term_under};
-ghost use Rattle.te_terms.specs.Measures.{weight};
+ghost use Rattle.te_terms.specs.Measures.{weight, counts_of};
 ghost use Rattle.te_terms.specs.Limits.{IsWithinLimits};
 ghost use Rattle.te_terms.specs.Made.{IsMadeOf, HasCode, HasRoot, HasRegisters};
 
-use crate::code::EventCode;
+use crate::code::{Counts, EventCode};
 use crate::limits::MOST_REGISTERS;
 use crate::memory::NoMemory;
 use crate::same::same_under;
@@ -95,7 +95,17 @@ impl Event {
         ensures value { result ≡ weight self.now }
         ensures limits { IsWithinLimits self.now }
     {
-        self.code.weight(self.root)
+        let counts = self.counts();
+        counts.choices + (counts.sends + counts.receives)
+    }
+
+    /// The numbers of choose, send and receive nodes under the root; their sum is `weight`. It takes no memory.
+    pub fn counts(&self) -> Counts
+        ensures value { result ≡ counts_of self.now }
+        ensures sum { result.choices + (result.sends + result.receives) ≡ weight self.now }
+        ensures limits { IsWithinLimits self.now }
+    {
+        self.code.counts(self.root)
     }
 
     /// Whether both are the same term, whatever the numbers of their nodes, over the values of their

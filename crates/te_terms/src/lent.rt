@@ -15,7 +15,9 @@ use crate::value::{Trap, Value};
 #[doc(hidden)]
 #[derive(Clone, Copy)]
 pub enum ExprView<'a> {
+    /// The whole value of a variable.
     Whole(Var),
+    /// A tuple of calculations, at most four.
     Tuple(&'a [Calc]),
 }
 
@@ -60,15 +62,25 @@ impl ExprView<'_> {
 #[doc(hidden)]
 #[derive(Clone, Copy)]
 pub enum NodeView<'a> {
+    /// Has no step.
     Never,
+    /// Gives a new channel.
     Fresh,
+    /// Gives the expression's value.
     Always(ExprView<'a>),
+    /// Raises the expression's value.
     Throw(ExprView<'a>),
+    /// Sends the expression's value on the channel.
     Send(Operand, ExprView<'a>),
+    /// Receives on the channel.
     Recv(Operand),
+    /// The first part, and then the second.
     Then(u32, u32),
+    /// The first part; where it raises, then the second.
     Catch(u32, u32),
+    /// One of two parts.
     Choose(u32, u32),
+    /// The first part where the condition holds, else the second.
     If(Cond, u32, u32),
 }
 

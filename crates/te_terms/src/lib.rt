@@ -14,7 +14,7 @@ mod same;
 mod slot;
 mod value;
 
-pub use code::{CodeFault, EventCode, Node};
+pub use code::{CodeFault, Counts, EventCode, Node};
 pub use event::{Event, Outcome, Parked};
 pub use expr::{Arith, Calc, Calcs, Cond, Expr, Operand as Prim, Scope, Test, Var};
 pub use laws::{

@@ -49,6 +49,15 @@ impl<T> Rows<T> {
     {
         self.items.as_slice()
     }
+
+    /// The items as a `Vec`, in order. It takes no memory and copies no item. The crates above use it where they
+    /// change items in place.
+    #[doc(hidden)]
+    pub fn into_vec(self) -> Vec<T>
+        ensures { result.items ≡ self }
+    {
+        self.items
+    }
 }
 
 impl<T: Drop> Rows<T> {

@@ -364,6 +364,9 @@ fn events_are_terms(rt: HostRuntime) {
             (Some(one), Some(other)) => {
                 assert_eq!(rt; one.same(&other), want);
                 assert_eq!(rt; one.weight(), 2);
+                let counts = one.counts();
+                assert_eq!(rt; counts.choices, 0);
+                assert_eq!(rt; counts.sends + counts.receives, 2);
                 assert_eq!(rt; one.root(), 2);
                 assert_eq!(rt; one.code().len(), 3);
                 let (code, root, regs) = one.parts();

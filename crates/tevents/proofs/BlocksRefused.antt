@@ -7,8 +7,8 @@ use Rattle.te_history.specs.declared.entry.Entry.{Entry}
 use Rattle.te_history.specs.declared.entry.Entry.TheVariants as entries
 use Rattle.te_serial.specs.Rounds.{TakesBy, TakesOf, IsLowestOf, IsInRounds}
 use Rattle.tevents.proofs.FirstRound.{first_round, block_parts, first_take, some_block, first_same, rest_same, cert_same}
-use Rattle.tevents.proofs.HistoriesWorked.{exchange_can_commit}
-use Rattle.tevents.proofs.RowsExchange as exchange
+use Rattle.te_history.proofs.HistoriesWorked.{exchange_can_commit}
+use Rattle.te_history.proofs.RowsExchange as exchange
 
 -- ---- a rest
 

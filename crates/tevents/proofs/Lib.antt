@@ -1,7 +1,6 @@
 pub mod RowsExchange
 pub mod RowsFilter
 pub mod RowsCaughtTrap
-pub mod NoCommit
 pub mod HistoriesWorked
 pub mod FirstRound
 mod ReportsWorked

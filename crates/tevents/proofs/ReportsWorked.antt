@@ -4,11 +4,12 @@ use Rattle.std.specs.Prelude.{codes}
 use Rattle.std.specs.Fmt.{digits}
 use Rattle.te_report.specs.declared.ending.Ending.TheVariants as endings
 use Rattle.te_report.specs.Report.{second, report_text}
-use Rattle.tevents.proofs.RowsExchange as exchange
+use Rattle.te_history.proofs.RowsExchange as exchange
+use Rattle.tevents.proofs.RowsExchange as exchanging
 use Rattle.tevents.proofs.RowsFilter as filter
 use Rattle.tevents.proofs.RowsCaughtTrap as caught
 
-pub exchange_report : report_text second exchange.script exchange.history endings.Closed
+pub exchange_report : report_text second exchanging.script exchange.history endings.Closed
     ≡ codes "tevents report 2\n1 post a 0 at 1.0\n2 post b 0 at 1.0\n3 commit a: a.0[]=() b.0[]=(7); a>b\n4 take a 0 =()\n5 take b 0 =(7)\n6 end a done\n7 end b done (7)\nclosed 7\n"
 unfolding digits
 exchange_report = refl

@@ -2,9 +2,9 @@
 use Rattle.std.proofs.Common.{refl, inr}
 use Rattle.std.specs.Prelude.{[], ◌∷◌}
 use Rattle.te_serial.specs.Rounds.{IsInRounds}
-use Rattle.tevents.proofs.NoCommit.{nobody_commits}
+use Rattle.te_history.proofs.NoCommit.{nobody_commits}
 use Rattle.tevents.proofs.HistoriesWorked.{exchange_whole}
-use Rattle.tevents.proofs.RowsExchange as exchange
+use Rattle.te_history.proofs.RowsExchange as exchange
 
 pub exchange_in_rounds : IsInRounds 2 exchange.history
 exchange_in_rounds = record {

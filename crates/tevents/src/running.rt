@@ -10,7 +10,7 @@ use te_board::Board;
 use te_report::Ending;
 use te_script::{Core, Script};
 use te_serial::{FinishFault, finish};
-use te_terms::NoMemory;
+use te_terms::{NoMemory, Rows};
 
 /// What a serial run leaves: the board with its history, and how it ended.
 #[derive(Drop)]
@@ -20,10 +20,10 @@ pub(crate) struct Run {
 }
 
 // A core for each thread, before any of them has done anything.
-fn cores_of(alloc: Global, script: &Script) -> Result<Vec<Core>, NoMemory>
-    ensures { IfOk result (λ cores. cores.items ≡ map (λ t. core_after t []) script.now.threads) }
+fn cores_of(alloc: Global, script: &Script) -> Result<Rows<Core>, NoMemory>
+    ensures { IfOk result (λ cores. cores ≡ map (λ t. core_after t []) script.now.threads) }
 {
-    let mut cores = Vec::new(alloc);
+    let mut cores = Rows::new(alloc);
     for text in script.threads.as_slice() {
         cores.push(Core::new(alloc, Arc::try_clone(text)?)?)?;
     }

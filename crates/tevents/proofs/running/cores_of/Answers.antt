@@ -7,5 +7,5 @@ use Rattle.tevents.proofs.running.cores_of.Goals as goal
 
 pub returns : goal.returns
 returns c =
-    let each : c.loop-text.cores.items ≡ map (λ a. core_after a.value []) c.script.inside.threads = search (rules, take_past) in
+    let each : c.loop-text.cores ≡ map (λ a. core_after a.value []) c.script.inside.threads = search (rules, take_past) in
     each ∙ of_texts (λ a. a.value) c.script.inside.threads ∙ ap (λ (p : Program). fresh_cores p.threads) c.script.view_is

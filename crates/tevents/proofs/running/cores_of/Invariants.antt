@@ -4,4 +4,4 @@ use Rattle.tevents.proofs.running.cores_of.Given as goal
 
 -- the cores of the threads so far
 abbrev pub invariant-loop-text : goal.invariant-loop-text
-invariant-loop-text l = l.cores.items ≡ map (λ a. core_after a.value []) (take l.text-index l.text-items)
+invariant-loop-text l = l.cores ≡ map (λ a. core_after a.value []) (take l.text-index l.text-items)
