@@ -6,7 +6,6 @@ pub mod Integers
 pub mod Tallies
 pub mod Grammar
 pub mod Text
-pub mod FirstForm
 pub mod NameReads
 pub mod ExpressionReads
 pub mod EventReads

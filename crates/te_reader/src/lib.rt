@@ -10,7 +10,6 @@ mod event;
 mod expression;
 mod fault;
 mod finder;
-mod first_form;
 mod form;
 mod integer;
 mod label;
@@ -36,8 +35,6 @@ mod token;
 
 pub use cause::Which;
 pub use fault::ScriptFault;
-#[doc(hidden)]
-pub use first_form::is_first_form;
 #[doc(hidden)]
 pub use laws::texts_are_decided;
 #[doc(hidden)]

@@ -3,7 +3,7 @@
 use std::alloc::Global;
 use std::process::Abort;
 use std::test::Fail;
-use te_reader::{Place, ScriptFault, Which, is_first_form, read_script};
+use te_reader::{Place, ScriptFault, Which, read_script};
 
 const EXCHANGE: &[u8] =
     b"channels c; thread a { x <- sync send c (7); } thread b { y <- sync recv c; emit y; }";
@@ -322,35 +322,6 @@ fn an_event_of_a_mebibyte_is_refused(rt: HostRuntime) -> Result<(), Fail> {
         let text = synchronising(rt.alloc(), count, head, before, after, tail)?;
         assert!(rt; text.len() <= 1_048_576, "{before}");
         assert!(rt; !is_read(&rt, rt.alloc(), text.as_slice()), "{before}");
-    }
-    Ok(())
-}
-
-#[test]
-fn scripts_of_the_first_form_are_told(rt: HostRuntime) -> Result<(), Fail> {
-    for (event, want) in [
-        ("always (1, c)", true),
-        ("always x", true),
-        ("send c x", true),
-        ("recv c", true),
-        ("never", false),
-        ("throw x", false),
-        ("always (1 + 1)", false),
-        ("always (x.0)", false),
-        ("send 5 x", false),
-        ("send x.0 x", false),
-        ("recv x.0", false),
-        ("choose { recv c | recv c }", false),
-        ("do { u <- recv c; always u }", false),
-    ] {
-        let text = format!(in rt.alloc();
-            "channels c; thread a {{ x <- sync always (); y <- sync {event}; emit y; }}"
-        )?;
-        let Ok(script) = read_script(rt.alloc(), text.as_bytes()) else {
-            assert!(rt; false, "{event} is refused");
-            return Ok(());
-        };
-        assert_eq!(rt; is_first_form(&script), want, "{event}");
     }
     Ok(())
 }
