@@ -1,21 +1,21 @@
 -- The canonical text of a script is a text of it, where it isn't too long.
-use Rattle.std.proofs.Common.{◌≡◌, ℕ, zero, suc, ◌≤◌, true, List, [], ◌∷◌, ◌++◌, length, refl, sym, ◌∙◌, ap, subst, append_assoc, arith, inl}
+use Rattle.std.proofs.Common.{◌≡◌, ℕ, ◌≤◌, true, List, [], ◌∷◌, ◌++◌, length, refl, sym, ◌∙◌, ap, subst, append_assoc, inl}
 use Rattle.std.specs.Prelude.{codes}
 use Rattle.std.specs.List.{AllByRecursion, flat_map}
 use Rattle.std.proofs.lemmas.List.{append-nil}
 use Rattle.te_script.specs.Names.{IsName}
-use Rattle.te_script.specs.Scripts.{Thread, Program, IsThread, IsProgram, HasNames, IsScript}
+use Rattle.te_script.specs.Scripts.{Thread, Program, IsThread, HasNames, IsScript}
 use Rattle.te_reader.specs.declared.token.Word.TheVariants as words
 use Rattle.te_reader.specs.declared.token.Sign.TheVariants as signs
 use Rattle.te_reader.specs.Tokens as tokens
 use Rattle.te_reader.specs.Tokens.{Token, word, sign, Spells}
-use Rattle.te_reader.specs.Grammar.{Span, is, ◌⨟◌, nothing, IsShort, in_braces, spells_statements, spells_thread, spells_threads, spells_names, spells_channels, spells_program}
-use Rattle.te_reader.specs.Canonical.{Spelling, lines_text, thread_text, spaced, channels_text, canonical_text}
+use Rattle.te_reader.specs.Grammar.{Span, is, ◌⨟◌, IsShort, spells_statements, spells_thread, spells_threads, spells_names, spells_channels, spells_program}
+use Rattle.te_reader.specs.Canonical.{lines_text, thread_text, spaced, channels_text, canonical_text}
 use Rattle.te_reader.specs.Text.{Text}
 use Rattle.te_reader.specs.Limits.{most_bytes}
 use Rattle.te_reader.proofs.Regrouped.{five}
-use Rattle.te_reader.proofs.TokensWritten.{IsApart, Writes, StandsApart, IsOneByte, brace_opens, brace_closes, semicolon_is, then_writes, nothing_writes, word_writes, name_writes, sign_before, sign_writes, blank_writes, under_writes}
-use Rattle.te_reader.proofs.StatementsWritten.{lines_apart, lines_write}
+use Rattle.te_reader.proofs.TokensWritten.{Writes, StandsApart, brace_opens, brace_closes, semicolon_is, then_writes, nothing_writes, word_writes, name_writes, sign_before, sign_writes, blank_writes, under_writes}
+use Rattle.te_reader.proofs.StatementsWritten.{lines_write}
 
 -- ---- threads
 

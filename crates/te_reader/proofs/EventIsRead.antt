@@ -1,5 +1,5 @@
 -- What is spelled of an event, has its names in scope and keeps the limits is read.
-use Rattle.std.proofs.Common.{◌≡◌, ℕ, zero, suc, ◌+◌, ◌≤◌, inl, inr, true, List, ◌∷◌, length, refl, sym, subst, arith}
+use Rattle.std.proofs.Common.{◌≡◌, ℕ, zero, suc, ◌≤◌, inl, inr, true, List, ◌∷◌, length, refl, sym, subst, arith}
 use Rattle.std.specs.Prelude.{Some, None}
 use Rattle.te_terms.specs.declared.expr.Test.{Test}
 use Rattle.te_terms.specs.declared.expr.Test.TheVariants as tests

@@ -27,7 +27,7 @@ both_true : (a b : Bool) → (a && b) ≡ true → (a ≡ true) × (b ≡ true)
 both_true true b e = (refl, e)
 both_true false b e = absurd cc
 
-made_some : (used : Tally) (t u : Term) (ts rest : List Token) → made used t ts ≡ Some (u, rest) → (◌≡◌ {A = Read Term} (Some (t, ts)) (Some (u, rest))) × HasRoom used t × (height t ≤ 32)
+pub made_some : (used : Tally) (t u : Term) (ts rest : List Token) → made used t ts ≡ Some (u, rest) → (◌≡◌ {A = Read Term} (Some (t, ts)) (Some (u, rest))) × HasRoom used t × (height t ≤ 32)
 unfolding made
 made_some used t u ts rest e =
     let a = bind_some (checked (is_within used t)) (λ _. Some (t, ts)) (u, rest) e in

@@ -1,5 +1,5 @@
 -- The canonical text of an event spells it, wherever the event stands.
-use Rattle.std.proofs.Common.{◌≡◌, ℕ, zero, suc, ◌+◌, ◌<◌, ◌≤◌, max, true, List, [], ◌∷◌, ◌++◌, length, refl, sym, ◌∙◌, ap, subst, append_assoc, arith, inl, inr}
+use Rattle.std.proofs.Common.{◌≡◌, ℕ, suc, ◌+◌, ◌≤◌, true, List, [], ◌∷◌, ◌++◌, length, refl, sym, ◌∙◌, ap, subst, append_assoc, arith}
 use Rattle.std.specs.Prelude.{codes}
 use Rattle.std.specs.List.{AllByRecursion}
 use Rattle.std.proofs.lemmas.List.{append-nil}
@@ -14,10 +14,10 @@ use Rattle.te_reader.specs.declared.token.Word.TheVariants as words
 use Rattle.te_reader.specs.declared.token.Sign.TheVariants as signs
 use Rattle.te_reader.specs.Tokens as tokens
 use Rattle.te_reader.specs.Tokens.{Token, word, sign}
-use Rattle.te_reader.specs.Grammar.{Span, is, ◌⨟◌, either, Names, IsFree, with_inner, bound, binds, Standing, alone, in_do, in_choose, closed, closed_do, closed_choose, in_braces, do_event, choose_event, do_parts, test_sign, spells_primitive, spells_expression, spells_event}
+use Rattle.te_reader.specs.Grammar.{Span, is, ◌⨟◌, Names, IsFree, with_inner, bound, binds, Standing, alone, in_do, in_choose, closed, closed_do, closed_choose, in_braces, do_event, choose_event, do_parts, test_sign, spells_primitive, spells_expression, spells_event}
 use Rattle.te_reader.specs.Canonical.{inner_text, Spelling, primitive_text, expression_text, test_text, do_open, do_close, choose_open, choose_close, event_text}
 use Rattle.te_reader.proofs.Regrouped.{three, six, eight}
-use Rattle.te_reader.proofs.TokensWritten.{IsApart, Writes, StandsApart, IsOneByte, brace_opens, brace_closes, semicolon_is, then_writes, word_writes, sign_before, sign_writes, sign_and_blank, blank_writes, named_writes, second_writes}
+use Rattle.te_reader.proofs.TokensWritten.{Writes, StandsApart, IsOneByte, brace_opens, brace_closes, semicolon_is, then_writes, word_writes, sign_before, sign_writes, sign_and_blank, blank_writes, named_writes, second_writes}
 use Rattle.te_reader.proofs.ExpressionsWritten.{names_at, scope_at, inner_writes, inner_is_free, primitive_writes, expression_writes}
 
 bar_is : IsOneByte signs.Bar 124

@@ -1,18 +1,16 @@
 -- The canonical text of an expression spells it.
-use Rattle.std.proofs.Common.{◌≡◌, ◌≢◌, ℕ, zero, suc, ◌+◌, ◌^◌, ◌<◌, ◌≤◌, pos, Bool, true, false, List, [], ◌∷◌, ◌++◌, length, take, get_or, refl, sym, ◌∙◌, ap, subst, append_assoc, arith, inl, inr}
-use Rattle.std.specs.Prelude.{codes, Some, slice_get, nat_eq}
+use Rattle.std.proofs.Common.{◌≡◌, ◌≢◌, ℕ, zero, suc, ◌<◌, ◌≤◌, pos, Bool, true, false, List, [], ◌∷◌, ◌++◌, length, take, get_or, refl, sym, ◌∙◌, ap, subst, append_assoc, arith}
+use Rattle.std.specs.Prelude.{codes, nat_eq}
 use Rattle.std.specs.List.{AllByRecursion}
 use Rattle.std.specs.Fmt.{decimal, signed_decimal}
 use Rattle.std.specs.Char.{is_ascii_alphabetic}
-use Rattle.std.specs.Str.Parse.{AllDigits}
 use Rattle.std.proofs.lemmas.Bool.Decides.{nat_tests}
 use Rattle.std.proofs.lemmas.Fmt.{decimal_is_IsNumeral, decimal_injective, length-decimal-le}
-use Rattle.std.proofs.lemmas.Str.Parse.{digit_from_value}
 use Rattle.te_terms.specs.declared.expr.Arith.{Arith}
 use Rattle.te_terms.specs.declared.expr.Arith.TheVariants as ariths
 use Rattle.te_terms.specs.Values.{fits_i64}
 use Rattle.te_terms.specs.Expressions.{Variable, register, name, known, Primitive, int, chan, part, Calculation, one, both, Expression, whole, tuple}
-use Rattle.te_script.specs.Names.{is_word_byte, IsIdentifier, IsName}
+use Rattle.te_script.specs.Names.{IsName}
 use Rattle.te_script.specs.Scripts.{Scope, IsVariable, IsPrimitive, IsCalculation, IsExpression}
 use Rattle.te_script.specs.Generated.{each}
 use Rattle.te_script.proofs.NamesMade.{word_bytes}
@@ -20,12 +18,12 @@ use Rattle.te_script.proofs.GeneratedKept.{length_each, all_each}
 use Rattle.te_reader.specs.declared.token.Sign.TheVariants as signs
 use Rattle.te_reader.specs.Tokens as tokens
 use Rattle.te_reader.specs.Tokens.{Token, sign}
-use Rattle.te_reader.specs.Grammar.{Span, is, ◌⨟◌, under, Names, IsAt, IsNew, IsShort, IsFree, bound, arith_sign, spells_variable, spells_integer, spells_primitive, spells_calculation, spells_further, spells_inside, spells_expression}
+use Rattle.te_reader.specs.Grammar.{is, ◌⨟◌, Names, IsAt, IsFree, bound, arith_sign, spells_variable, spells_integer, spells_primitive, spells_calculation, spells_further, spells_inside, spells_expression}
 use Rattle.te_reader.specs.Canonical.{name_at, inner_text, Spelling, variable_text, primitive_text, arith_text, calculation_text, further_text, inside_text, expression_text}
 use Rattle.te_reader.proofs.KeptIsRead.{at_taken, all_taken}
 use Rattle.te_reader.proofs.ListsKept.{all_at, all_weaker, at_more, at_last}
 use Rattle.te_reader.proofs.Regrouped.{three}
-use Rattle.te_reader.proofs.TokensWritten.{IsApart, Writes, StandsApart, IsOneByte, then_writes, token_writes, inner_ends, name_writes, sign_before, sign_writes, sign_and_blank, blank_writes, named_writes, under_writes, second_writes}
+use Rattle.te_reader.proofs.TokensWritten.{Writes, StandsApart, IsOneByte, then_writes, token_writes, inner_ends, name_writes, sign_before, sign_writes, sign_and_blank, blank_writes, named_writes, under_writes, second_writes}
 use Rattle.te_reader.proofs.IntegersWritten.{decimal_writes, integer_writes}
 
 -- ---- names

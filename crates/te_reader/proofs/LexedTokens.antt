@@ -1,6 +1,6 @@
 -- What the lexer finds are tokens.
-use Rattle.std.proofs.Common.{◌≡◌, ℕ, zero, suc, Bool, List, [], ◌∷◌, refl, subst}
-use Rattle.te_reader.specs.Tokens.{Token, IsToken, AreTokens, Between, in_blanks}
+use Rattle.std.proofs.Common.{◌≡◌, ℕ, zero, suc, List, [], ◌∷◌, refl}
+use Rattle.te_reader.specs.Tokens.{AreTokens, Between, in_blanks}
 use Rattle.te_reader.specs.Lexed.{Piece, gap, found, other, piece_at, place_after, bytes_after, before, lexed_behind, lexed}
 use Rattle.te_reader.proofs.LongestTokens.{token_found}
 use Rattle.te_reader.proofs.LexedIsSpelled.{token_of}

@@ -6,6 +6,7 @@ pub mod ListsKept
 pub mod HeadLemmas
 pub mod NameLemmas
 pub mod LoopSteps
+pub mod WrittenLemmas
 pub mod PassedOn
 pub mod DigitLaws
 pub mod ByteKinds
@@ -21,6 +22,9 @@ pub mod EventIsSpelled
 pub mod ReadIsKept
 pub mod SpelledIsRead
 pub mod EventIsRead
+pub mod FewerBefore
+pub mod SyncRead
+pub mod DraftLemmas
 pub mod KeptIsRead
 pub mod LexedTokens
 pub mod NamesRead

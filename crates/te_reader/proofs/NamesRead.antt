@@ -1,6 +1,6 @@
 -- What is spelled by tokens has names: its channels, threads and registers are NAME tokens.
-use Rattle.std.proofs.Common.{◌≡◌, ℕ, zero, suc, ◌<◌, ◌≤◌, Bool, true, false, nat_lt, List, [], ◌∷◌, ◌++◌, length, take, pos, refl, sym, ap, subst, inl, inr, arith}
-use Rattle.std.specs.Prelude.{◌⊎◌, ℤ, Some, nat_le, if◌then◌else◌}
+use Rattle.std.proofs.Common.{◌≡◌, ℕ, zero, suc, ◌≤◌, Bool, true, false, nat_lt, List, [], ◌∷◌, length, take, pos, refl, sym, subst, inl, inr, arith}
+use Rattle.std.specs.Prelude.{ℤ, if◌then◌else◌}
 use Rattle.std.specs.List.{AllByRecursion}
 use Rattle.std.proofs.lemmas.Bool.Decides.{nat_tests}
 use Rattle.te_terms.specs.Values.{fits_i64}
@@ -13,9 +13,8 @@ use Rattle.te_reader.specs.declared.token.Word.TheVariants as words
 use Rattle.te_reader.specs.declared.token.Sign.TheVariants as signs
 use Rattle.te_reader.specs.Tokens as tokens
 use Rattle.te_reader.specs.Tokens.{Token, word, sign, AreTokens}
-use Rattle.te_reader.specs.Grammar.{Span, is, ◌⨟◌, nothing, either, named, Rule, under, Names, IsAt, IsFree, with_inner, bound, binds, spells_variable, spells_integer, spells_primitive, spells_calculation, spells_further, spells_inside, spells_expression, Standing, alone, in_do, in_choose, closed, closed_do, closed_choose, in_braces, do_event, choose_event, do_parts, test_sign, arith_sign, spells_event, written_names, spells_sync, spells_statements, spells_thread, spells_threads, spells_names, spells_channels, spells_program}
-use Rattle.te_reader.proofs.KeptIsRead.{at_inside, at_taken, next_taken, whole_taken}
-use Rattle.te_reader.proofs.ListsKept.{all_at}
+use Rattle.te_reader.specs.Grammar.{Span, is, ◌⨟◌, either, named, under, Names, IsAt, IsFree, with_inner, bound, binds, spells_variable, spells_integer, spells_primitive, spells_calculation, spells_further, spells_inside, spells_expression, Standing, alone, in_do, in_choose, closed, closed_do, closed_choose, in_braces, do_parts, test_sign, arith_sign, spells_event, written_names, spells_sync, spells_statements, spells_thread, spells_threads, spells_names, spells_channels, spells_program}
+use Rattle.te_reader.proofs.KeptIsRead.{next_taken, whole_taken}
 
 -- ---- behind a span tokens are left
 

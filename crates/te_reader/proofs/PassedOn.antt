@@ -35,3 +35,8 @@ read_refused faults.Memory seen old new o fact all h none = tt
 pub body_refused : {R Q Y : Type 0} (e : Refusal) (fact : R → Type 0) (o : Read Body) (seen : Q → Y) (old new : Stream) (all : Read Y) → OnRead {R = R} (Err e) fact o → (o ≡ None → all ≡ None) → Answers (Err e) seen old new all
 body_refused faults.Refused fact o seen old new all h none = none h
 body_refused faults.Memory fact o seen old new all h none = tt
+
+-- a refusal of syncs is one of the body that they stand in
+pub read_passed_on : {R Q X : Type 0} (e : Refusal) (fact : R → Type 0) (fact' : Q → Type 0) (o : Read X) (all : Read Body) → OnRead {R = R} (Err e) fact o → (o ≡ None → all ≡ None) → OnRead {R = Q} (Err e) fact' all
+read_passed_on faults.Refused fact fact' o all h none = none h
+read_passed_on faults.Memory fact fact' o all h none = tt

@@ -7,7 +7,7 @@ use Rattle.std.proofs.lemmas.Bool.Decides.{nat_tests}
 use Rattle.te_terms.specs.Terms.{Term}
 use Rattle.te_terms.specs.Measures.{height, node_count}
 use Rattle.te_terms.specs.Limits.{IsWithinLimits}
-use Rattle.te_script.specs.Scripts.{IsEvent, Statement, sync, emit, repeat, AreSyncs, IsRepeat, Thread, Program, with_register, AreStatements, AreDistinct, AreApart, IsThread, thread_names, IsProgram}
+use Rattle.te_script.specs.Scripts.{IsEvent, Statement, sync, emit, repeat, AreSyncs, Thread, Program, with_register, AreStatements, AreDistinct, AreApart, IsThread, thread_names, IsProgram}
 use Rattle.te_reader.specs.declared.token.Word.TheVariants as words
 use Rattle.te_reader.specs.declared.token.Sign.TheVariants as signs
 use Rattle.te_reader.specs.declared.cause.Which.TheVariants as limits
@@ -29,7 +29,7 @@ use Rattle.te_reader.specs.Runs.{pick, pick_plain, run}
 use Rattle.te_reader.proofs.ListsKept.{distinct_push, at_more, at_last, taken, Grows, stays, goes_on, grows_one}
 use Rattle.te_reader.proofs.NameSetLemmas.{among_is, at_below}
 use Rattle.te_reader.proofs.PickedForms.{name_fits, integer_fits}
-use Rattle.te_reader.proofs.Passing.{spots_of, dotted, names_in, at}
+use Rattle.te_reader.proofs.Passing.{spots_of, dotted, at}
 use Rattle.te_reader.proofs.EventPasses.{reached}
 use Rattle.te_reader.proofs.ScriptPasses.{Rest, stand}
 use Rattle.te_reader.proofs.PassedExpressions.{Passed, unbroken, went, kept_first, took_alone, took_sign, took_word, one_token, expression_passed}

@@ -6,7 +6,7 @@ use Rattle.std.proofs.lemmas.List.{append-nil}
 use Rattle.std.proofs.lemmas.Bool.Decides.{nat_tests}
 use Rattle.te_terms.specs.Expressions.{Expression}
 use Rattle.te_terms.specs.Terms.{Term}
-use Rattle.te_script.specs.Scripts.{Statement, sync, emit, repeat, Thread, Program, with_register, AreSyncs, IsRepeat, IsEvent, AreStatements, AreDistinct, AreApart, IsThread, thread_names, IsProgram}
+use Rattle.te_script.specs.Scripts.{Statement, sync, emit, Thread, Program, with_register, AreSyncs, IsEvent, AreStatements, AreDistinct, AreApart, IsThread, thread_names, IsProgram}
 use Rattle.te_reader.specs.declared.token.Word.TheVariants as words
 use Rattle.te_reader.specs.declared.token.Sign.TheVariants as signs
 use Rattle.te_reader.specs.Tokens as tokens

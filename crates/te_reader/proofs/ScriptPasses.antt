@@ -17,7 +17,7 @@ use Rattle.te_reader.specs.declared.part.Part.{Part}
 use Rattle.te_reader.specs.declared.part.Part.TheVariants as parts
 use Rattle.te_reader.specs.Tokens as tokens
 use Rattle.te_reader.specs.Tokens.{Token, word, sign}
-use Rattle.te_reader.specs.Grammar.{Span, is, ◌⨟◌, IsAt, IsNew, IsShort, alone, spells_expression, spells_event, spells_sync, spells_statements, spells_thread, spells_threads, spells_names, spells_channels, spells_program}
+use Rattle.te_reader.specs.Grammar.{Span, is, ◌⨟◌, IsAt, IsNew, IsShort, spells_expression, spells_sync, spells_statements, spells_thread, spells_threads, spells_names, spells_channels, spells_program}
 use Rattle.te_reader.specs.Integers.{integer_value}
 use Rattle.te_terms.specs.Values.{fits_i64}
 use Rattle.te_reader.specs.Spots.{token}

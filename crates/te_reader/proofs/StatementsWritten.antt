@@ -1,5 +1,5 @@
 -- The canonical text of statements spells them, those of a repeat up to its closing brace.
-use Rattle.std.proofs.Common.{◌≡◌, ℕ, zero, suc, ◌+◌, ◌-◌, ◌^◌, ◌<◌, ◌≤◌, pos, Bool, true, false, nat_lt, List, [], ◌∷◌, ◌++◌, length, take, refl, sym, ◌∙◌, ap, subst, append_assoc, arith}
+use Rattle.std.proofs.Common.{◌≡◌, ℕ, zero, suc, ◌-◌, ◌<◌, ◌≤◌, pos, Bool, true, false, nat_lt, List, [], ◌∷◌, ◌++◌, length, refl, sym, ◌∙◌, ap, subst, append_assoc, arith}
 use Rattle.std.specs.Prelude.{codes, ◌==◌, if◌then◌else◌}
 use Rattle.std.specs.List.{AllByRecursion}
 use Rattle.std.specs.Fmt.{decimal}
@@ -10,19 +10,18 @@ use Rattle.te_terms.specs.Expressions.{Expression}
 use Rattle.te_terms.specs.Terms.{Term}
 use Rattle.te_terms.specs.Limits.{IsWithinLimits}
 use Rattle.te_script.specs.Names.{IsName}
-use Rattle.te_script.specs.Scripts.{IsEvent, IsExpression, Statement, sync, emit, repeat, with_register, AreSyncs, IsRepeat, AreStatements}
+use Rattle.te_script.specs.Scripts.{IsEvent, IsExpression, Statement, sync, emit, repeat, with_register, AreSyncs, AreStatements}
 use Rattle.te_reader.specs.declared.token.Word.TheVariants as words
 use Rattle.te_reader.specs.declared.token.Sign.TheVariants as signs
 use Rattle.te_reader.specs.Tokens as tokens
 use Rattle.te_reader.specs.Tokens.{Token, word, sign}
-use Rattle.te_reader.specs.Grammar.{Span, is, ◌⨟◌, nothing, under, IsAt, IsShort, alone, spells_integer, spells_expression, spells_event, written_names, spells_sync, behind_sync, spells_statements}
-use Rattle.te_reader.specs.Canonical.{Spelling, name_at, expression_text, event_text, indent, closing, sync_text, emit_text, line_text, left_behind, lines_text}
-use Rattle.te_reader.proofs.KeptIsRead.{at_inside}
+use Rattle.te_reader.specs.Grammar.{Span, is, ◌⨟◌, IsAt, IsShort, alone, spells_integer, spells_expression, spells_event, written_names, spells_sync, behind_sync, spells_statements}
+use Rattle.te_reader.specs.Canonical.{Spelling, name_at, expression_text, event_text, indent, closing, sync_text, emit_text, lines_text}
 use Rattle.te_reader.proofs.ListsKept.{all_at}
 use Rattle.te_reader.proofs.Regrouped.{four, five}
-use Rattle.te_reader.proofs.TokensWritten.{IsApart, Writes, StandsApart, IsOneByte, brace_opens, brace_closes, semicolon_is, then_writes, word_writes, name_writes, nothing_writes, sign_before, sign_and_blank, blank_writes, named_writes, under_writes}
+use Rattle.te_reader.proofs.TokensWritten.{Writes, StandsApart, brace_opens, brace_closes, semicolon_is, then_writes, word_writes, name_writes, nothing_writes, sign_before, sign_and_blank, blank_writes, named_writes, under_writes}
 use Rattle.te_reader.proofs.IntegersWritten.{decimal_writes}
-use Rattle.te_reader.proofs.ExpressionsWritten.{names_at, scope_at, at_each, expression_writes}
+use Rattle.te_reader.proofs.ExpressionsWritten.{scope_at, at_each, expression_writes}
 use Rattle.te_reader.proofs.EventsWritten.{event_writes}
 
 -- ---- registers

@@ -1,6 +1,6 @@
 -- What is written spells its tokens: each token where what follows doesn't lengthen it, and single blanks before tokens.
-use Rattle.std.proofs.Common.{◌≡◌, ℕ, ◌+◌, Bool, true, false, cond, List, [], ◌∷◌, ◌++◌, length, take, refl, sym, ◌∙◌, ap, subst, append_assoc, one-add, arith, inl, inr}
-use Rattle.std.specs.Prelude.{codes, nat_eq, ◌||◌}
+use Rattle.std.proofs.Common.{◌≡◌, ℕ, Bool, true, false, List, [], ◌∷◌, ◌++◌, take, refl, sym, ◌∙◌, ap, subst, append_assoc, one-add, arith, inl, inr}
+use Rattle.std.specs.Prelude.{codes}
 use Rattle.std.specs.List.{AllByRecursion, prefix_len}
 use Rattle.std.specs.Char.{is_ascii_alphabetic, is_ascii_digit}
 use Rattle.std.proofs.lemmas.Bool.Decides.{nat_tests}
@@ -9,7 +9,7 @@ use Rattle.te_reader.specs.declared.token.Word.{Word}
 use Rattle.te_reader.specs.declared.token.Word.TheVariants as words
 use Rattle.te_reader.specs.declared.token.Sign.{Sign}
 use Rattle.te_reader.specs.declared.token.Sign.TheVariants as signs
-use Rattle.te_reader.specs.Tokens.{Token, word, name, inner, integer, sign, word_spelling, sign_spelling, spelling, is_blank, IsInner, IsToken, IsLongest, Spells}
+use Rattle.te_reader.specs.Tokens.{Token, word, name, inner, integer, sign, word_spelling, sign_spelling, spelling, is_blank, IsToken, IsLongest, Spells}
 use Rattle.te_reader.specs.Lexed.{found, run, reserved_as, word_or_name, token_at}
 use Rattle.te_reader.specs.Grammar.{Span, is, ◌⨟◌, nothing, either, named, under}
 use Rattle.te_reader.proofs.ReservedWords.{reserved_back, differs_from_words}

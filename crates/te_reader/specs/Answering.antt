@@ -24,6 +24,11 @@ Answers (Err faults.Memory) seen old new o = Unit {0}
 abbrev pub leaf : Node → Term
 leaf node = term_under (node ∷ []) 0
 
+-- a code that grew
+pub record Extends (before after : List Node) : Type 0 where
+  pub added : List Node
+  pub appended : after ≡ before ++ added
+
 -- a code that grew by the nodes of one event, of which the last is the root; nothing names the root yet, and what is new names nothing old
 pub record IsBuilt (level : ℕ) (before after : List Node) (root : ℕ) : Type 0 where
   pub forest : IsForest after
@@ -42,6 +47,12 @@ AnswersEvent (Ok root) level before after old new o =
     × (new.whole ≡ old.whole) × IsBuilt level before after root
 AnswersEvent (Err faults.Refused) level before after old new o = o ≡ None
 AnswersEvent (Err faults.Memory) level before after old new o = Unit {0}
+
+-- the event of a sync was read behind some nodes; where none stood before, a refusal says that none is read there
+abbrev pub AnswersSync : Result ℕ Refusal → List Node → List Node → Stream → Stream → Read Term → Type 0
+AnswersSync (Ok root) before after old new o = (o ≡ Some (term_under after root, new.tokens)) × (new.whole ≡ old.whole) × (root < length after)
+AnswersSync (Err faults.Refused) before after old new o = before ≡ [] → o ≡ None
+AnswersSync (Err faults.Memory) before after old new o = Unit {0}
 
 -- a node was put behind the others, or the limits refuse it
 abbrev pub Puts : Result ℕ Refusal → List Node → List Node → Node → Type 0

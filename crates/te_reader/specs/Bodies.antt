@@ -12,7 +12,7 @@ use Rattle.te_reader.specs.Reads.{Body, read_times, changed, before_repeat, read
 use Rattle.te_reader.specs.Behind.{behind_body, behind_repeat}
 
 -- a fact of what was read, or nothing is read there
-abbrev pub OnRead : {R : Type 0} → Result R Refusal → (R → Type 0) → Read Body → Type 0
+abbrev pub OnRead : {R Y : Type 0} → Result R Refusal → (R → Type 0) → Read Y → Type 0
 OnRead (Ok r) fact o = fact r
 OnRead (Err faults.Refused) fact o = o ≡ None
 OnRead (Err faults.Memory) fact o = Unit {0}

@@ -13,6 +13,7 @@ pub mod Reads
 pub mod Answering
 pub mod Behind
 pub mod Bodies
+pub mod Written
 pub mod ChannelIndex
 pub mod Spots
 pub mod Forms

@@ -1,5 +1,5 @@
 -- How many nodes stand before an event, and how many of them are fresh channels. It is this project's own.
-use Rattle.std.specs.Prelude.{◌≡◌, ℕ, suc, ◌+◌, ◌≤◌, List, length}
+use Rattle.std.specs.Prelude.{ℕ, suc, ◌+◌, ◌≤◌, List, length}
 use Rattle.te_terms.specs.declared.code.Node.{Node}
 use Rattle.te_terms.specs.Terms.{Term}
 use Rattle.te_terms.specs.Measures.{node_count, fresh_count}

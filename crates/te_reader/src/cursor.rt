@@ -35,6 +35,16 @@ impl<'a> Cursor<'a> {
         Cursor { head, rest }
     }
 
+    /// A second cursor at the same place.
+    pub fn copy(&self) -> Cursor<'a>
+        ensures { result ≡ self.now }
+    {
+        Cursor {
+            head: self.head,
+            rest: self.rest,
+        }
+    }
+
     /// Whether the text's end stands here.
     pub fn is_at_end(&self) -> bool
         ensures { IsTrue result ↔ IsEnd self.now }

@@ -2,7 +2,7 @@ ghost use Rattle.std.specs.Prelude.{◌≡◌, ◌+◌, ◌<◌, ◌≤◌, leng
 ghost use Rattle.te_reader.specs.Grammar.{alone, in_do, in_choose};
 ghost use Rattle.te_reader.specs.Tallies.{tally};
 ghost use Rattle.te_reader.specs.EventReads.{read_event, read_braced, read_part, read_do, read_choose, read_try, read_if};
-ghost use Rattle.te_reader.specs.Answering.{AnswersEvent};
+ghost use Rattle.te_reader.specs.Answering.{AnswersEvent, Extends};
 ghost use Rattle.te_terms.specs.Limits.{greatest_height};
 
 use crate::cursor::Cursor;
@@ -25,6 +25,7 @@ pub fn read_event(
     ensures event { AnswersEvent result (length names.old.inners) code.old code.new cursor.old cursor.new
         (read_event layers alone names.old (tally code.old) cursor.old.tokens) }
     ensures names { OnOk result (names.new ≡ names.old) }
+    ensures extends { Extends code.old code.new }
 {
     if layers == 0 {
         return Err(Refusal::Refused);
@@ -57,6 +58,7 @@ fn read_braced(
     ensures event { AnswersEvent result (length names.old.inners) code.old code.new cursor.old cursor.new
         (read_braced (read_event layers) names.old (tally code.old) cursor.old.tokens) }
     ensures names { OnOk result (names.new ≡ names.old) }
+    ensures extends { Extends code.old code.new }
 {
     if !cursor.take_sign(Sign::OpenBrace) {
         return Err(Refusal::Refused);
@@ -81,6 +83,7 @@ fn read_do(
     ensures event { AnswersEvent result (length names.old.inners) code.old code.new cursor.old cursor.new
         (read_do (read_event layers) names.old (tally code.old) cursor.old.tokens) }
     ensures names { OnOk result (names.new ≡ names.old) }
+    ensures extends { Extends code.old code.new }
 {
     if !cursor.take_sign(Sign::OpenBrace) {
         return Err(Refusal::Refused);
@@ -107,6 +110,7 @@ fn read_part(
     ensures event { AnswersEvent result (length names.old.inners) code.old code.new cursor.old cursor.new
         (read_part (read_event layers) names.old (tally code.old) name.now cursor.old.tokens) }
     ensures names { OnOk result (names.new ≡ names.old) }
+    ensures extends { Extends code.old code.new }
 {
     if !cursor.take_sign(Sign::Arrow) {
         return Err(Refusal::Refused);
@@ -134,6 +138,7 @@ fn read_rest(
     ensures event { AnswersEvent result (length names.old.inners) code.old code.new cursor.old cursor.new
         (read_event layers in_do names.old (tally code.old) cursor.old.tokens) }
     ensures names { OnOk result (names.new ≡ names.old) }
+    ensures extends { Extends code.old code.new }
 {
     if layers == 0 {
         return Err(Refusal::Refused);
@@ -161,6 +166,7 @@ fn read_choose(
     ensures event { AnswersEvent result (length names.old.inners) code.old code.new cursor.old cursor.new
         (read_choose (read_event layers) names.old (tally code.old) cursor.old.tokens) }
     ensures names { OnOk result (names.new ≡ names.old) }
+    ensures extends { Extends code.old code.new }
 {
     if !cursor.take_sign(Sign::OpenBrace) {
         return Err(Refusal::Refused);
@@ -186,6 +192,7 @@ fn read_more(
     ensures event { AnswersEvent result (length names.old.inners) code.old code.new cursor.old cursor.new
         (read_event layers in_choose names.old (tally code.old) cursor.old.tokens) }
     ensures names { OnOk result (names.new ≡ names.old) }
+    ensures extends { Extends code.old code.new }
 {
     if layers == 0 {
         return Err(Refusal::Refused);
@@ -214,6 +221,7 @@ fn read_try(
     ensures event { AnswersEvent result (length names.old.inners) code.old code.new cursor.old cursor.new
         (read_try (read_event layers) names.old (tally code.old) cursor.old.tokens) }
     ensures names { OnOk result (names.new ≡ names.old) }
+    ensures extends { Extends code.old code.new }
 {
     let first = read_braced(cursor, names, code, layers)?;
     if !cursor.take_word(Word::Catch) {
@@ -241,6 +249,7 @@ fn read_if(
     ensures event { AnswersEvent result (length names.old.inners) code.old code.new cursor.old cursor.new
         (read_if (read_event layers) names.old (tally code.old) cursor.old.tokens) }
     ensures names { OnOk result (names.new ≡ names.old) }
+    ensures extends { Extends code.old code.new }
 {
     let condition = read_condition(cursor, names)?;
     let first = read_braced(cursor, names, code, layers)?;

@@ -29,6 +29,7 @@ mod scope;
 mod script;
 mod stack;
 mod statement;
+mod sync;
 mod telling;
 mod thread;
 mod token;

@@ -1,4 +1,5 @@
-ghost use Rattle.std.specs.Prelude.{◌≡◌, ◌<◌, ◌≤◌, length, IfSome};
+ghost use Rattle.std.specs.Prelude.{◌≡◌, ◌<◌, ◌≤◌, length, IfSome, IsErrOf};
+ghost use Rattle.te_reader.specs.declared.refusal.Refusal.TheVariants.{Refused};
 ghost use Rattle.te_reader.specs.NameReads.{place_of, declared_in};
 ghost use Rattle.te_reader.specs.Answering.{Declares};
 
@@ -21,6 +22,7 @@ pub fn declare(most: usize, names: &mut Rows<Name>, name: &[u8]) -> Result<(), R
     requires { 0 < length name.now }
     ensures names { Declares result names.new (declared_in most names.old name.now) }
     ensures few { length names.old ≤ most → length names.new ≤ most }
+    ensures same { IsErrOf result Refused → names.new ≡ names.old }
 {
     if place_of(names.as_slice(), name).is_some() || names.len() >= most {
         return Err(Refusal::Refused);

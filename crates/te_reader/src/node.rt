@@ -3,7 +3,7 @@ ghost use Rattle.te_terms.specs.Codes.{primitive_of, term_at};
 ghost use Rattle.te_terms.specs.Shape.{children, HasFreeChildren};
 ghost use Rattle.te_reader.specs.Tallies.{tally};
 ghost use Rattle.te_reader.specs.EventReads.{made, read_leaf, read_one, test_first, read_condition};
-ghost use Rattle.te_reader.specs.Answering.{Answers, AnswersEvent, TakesSome, Puts, leaf};
+ghost use Rattle.te_reader.specs.Answering.{Answers, AnswersEvent, Extends, TakesSome, Puts, leaf};
 
 use crate::cursor::Cursor;
 use crate::expression::{read_expression, read_primitive};
@@ -78,8 +78,9 @@ pub fn read_one(
     names: &Names<'_, '_>,
     code: &mut EventCode,
 ) -> Result<u32, Refusal>
-    ensures { AnswersEvent result (length names.now.inners) code.old code.new cursor.old cursor.new
+    ensures event { AnswersEvent result (length names.now.inners) code.old code.new cursor.old cursor.new
         (read_one names.now (tally code.old) cursor.old.tokens) }
+    ensures extends { Extends code.old code.new }
 {
     match read_leaf(cursor, names) {
         Ok(node) => put(code, node),
@@ -90,7 +91,8 @@ pub fn read_one(
 /// Puts a node behind the others, where the limits of an event allow it.
 pub fn put(code: &mut EventCode, node: Node) -> Result<u32, Refusal>
     requires { HasFreeChildren code.old node }
-    ensures { Puts result code.old code.new node }
+    ensures puts { Puts result code.old code.new node }
+    ensures extends { Extends code.old code.new }
 {
     let _ = code.len();
     let root = match code.push(node) {

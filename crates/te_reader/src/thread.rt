@@ -13,7 +13,8 @@ use crate::channels::Channels;
 use crate::cursor::Cursor;
 use crate::names::place_of;
 use crate::refusal::Refusal;
-use crate::statement::{read_statement, read_times, read_written};
+use crate::statement::{read_emit, read_times};
+use crate::sync::read_syncs;
 use crate::token::{Sign, Word};
 use std::alloc::Global;
 use std::sync::Arc;
@@ -43,7 +44,7 @@ fn read_thread(
 }
 
 // The syncs of a repeat, up to its closing brace; there is at least one.
-fn read_syncs(
+fn read_inside(
     alloc: Global,
     cursor: &mut Cursor<'_>,
     channels: &Channels<'_>,
@@ -60,8 +61,7 @@ fn read_syncs(
 {
     let mut syncs: Vec<Stmt> = Vec::new(alloc);
     'syncs: while syncs.len() < room {
-        let sync = read_written(alloc, cursor, channels, registers)?;
-        syncs.push(sync)?;
+        read_syncs(alloc, cursor, channels, registers, &mut syncs, room)?;
         if cursor.take_sign(Sign::CloseBrace) {
             return Ok(syncs);
         }
@@ -88,14 +88,14 @@ fn read_repeat(
 {
     let times = read_times(cursor)?;
     let room = MOST_STATEMENTS - 1 - stmts.len();
-    let mut syncs = read_syncs(alloc, cursor, channels, registers, room)?;
+    let mut syncs = read_inside(alloc, cursor, channels, registers, room)?;
     let count = syncs.len() as u32;
     stmts.push(Stmt::Repeat { times, count })?;
     stmts.append(&mut syncs)?;
     Ok(())
 }
 
-// A statement, or a repeat with its syncs.
+// A repeat with its syncs, an emit, or some syncs.
 #[tactic(auto, unfolding(crate::specs::Reads::more_body))]
 fn read_more(
     alloc: Global,
@@ -116,9 +116,12 @@ fn read_more(
     if cursor.take_word(Word::Repeat) {
         return read_repeat(alloc, cursor, channels, registers, stmts);
     }
-    let stmt = read_statement(alloc, cursor, channels, registers)?;
-    stmts.push(stmt)?;
-    Ok(())
+    if cursor.take_word(Word::Emit) {
+        let value = read_emit(alloc, cursor, channels, registers)?;
+        stmts.push(Stmt::Emit(value))?;
+        return Ok(());
+    }
+    read_syncs(alloc, cursor, channels, registers, stmts, MOST_STATEMENTS)
 }
 
 // The statements of a thread, up to its closing brace.

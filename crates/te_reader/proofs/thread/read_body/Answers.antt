@@ -1,9 +1,8 @@
 -- The statements of a thread, up to its closing brace.
-use Rattle.std.proofs.Common.{◌≡◌, ◌+◌, ◌-◌, ◌<◌, ℕ, List, [], ◌∷◌, ◌++◌, length, map, false, ◌∙◌, ap, subst, arith}
+use Rattle.std.proofs.Common.{◌<◌, ℕ, List, [], length, false, ◌∙◌, ap, subst, arith}
 use Rattle.std.specs.List.{AllByRecursion}
 use Rattle.te_script.specs.Names.{IsName}
 use Rattle.std.proofs.lemmas.Result.{err_from_is_err_and}
-use Rattle.te_script.specs.Texts.{statement_of}
 use Rattle.te_reader.specs.Reads.{read_body}
 use Rattle.te_reader.specs.Bodies.{more_behind}
 use Rattle.te_reader.proofs.PassedOn.{body_refused}

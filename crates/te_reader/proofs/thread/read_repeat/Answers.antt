@@ -1,5 +1,5 @@
 -- A repeat and its syncs stand behind the statements before.
-use Rattle.std.proofs.Common.{◌≡◌, ◌+◌, ◌-◌, List, [], ◌∷◌, ◌++◌, length, map, ◌∙◌, ap, arith}
+use Rattle.std.proofs.Common.{◌≡◌, ◌-◌, [], ◌∷◌, ◌++◌, length, map, ◌∙◌, ap, arith}
 use Rattle.te_script.specs.declared.script.Stmt.TheVariants as stmts
 use Rattle.te_script.specs.Texts.{statement_of}
 use Rattle.te_script.specs.Scripts.{repeat}

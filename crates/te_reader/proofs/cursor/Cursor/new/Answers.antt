@@ -1,4 +1,4 @@
-use Rattle.std.proofs.Common.{List, sym, subst}
+use Rattle.std.proofs.Common.{sym, subst}
 use Rattle.te_reader.specs.Tokens.{AreTokens}
 use Rattle.te_reader.specs.Lexed.{Stream}
 use Rattle.te_reader.proofs.LexedTokens.{lexed_tokens}

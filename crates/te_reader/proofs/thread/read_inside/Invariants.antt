@@ -3,7 +3,7 @@ use Rattle.std.specs.List.{AllByRecursion}
 use Rattle.te_script.specs.Texts.{statement_of, HasRoot}
 use Rattle.te_reader.specs.Reads.{read_body}
 use Rattle.te_reader.specs.Behind.{behind_syncs}
-use Rattle.te_reader.proofs.thread.read_syncs.Given as goal
+use Rattle.te_reader.proofs.thread.read_inside.Given as goal
 
 abbrev pub invariant-syncs : goal.invariant-syncs
 invariant-syncs l =
