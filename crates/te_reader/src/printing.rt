@@ -2,7 +2,9 @@ ghost use Rattle.std.specs.Prelude.{◌≡◌, suc, ◌+◌, ◌<◌, ◌≤◌,
 ghost use Rattle.std.specs.List.{flat_map, AllByRecursion};
 ghost use Rattle.std.specs.Fmt.{decimal, signed_decimal};
 ghost use Rattle.te_terms.specs.Codes.{variable_of, primitive_of, calculation_of, expression_of, term_at, term_under};
+ghost use Rattle.te_terms.specs.Expressions.{tuple};
 ghost use Rattle.te_terms.specs.Terms.{and_then, choose, catch, when};
+ghost use Rattle.te_terms.specs.Views.{expression_seen, node_seen};
 ghost use Rattle.te_terms.specs.Shape.{children};
 ghost use Rattle.te_script.specs.Texts.{statement_of, HasRoot};
 ghost use Rattle.te_reader.specs.Grammar.{Standing as Place, alone};
@@ -17,7 +19,9 @@ use itoa::Buffer;
 use std::alloc::Global;
 use std::sync::Arc;
 use te_script::{Script, Stmt, ThreadText};
-use te_terms::{Arith, Calc, Cond, EventCode, Expr, Name, NoMemory, Node, Prim, Rows, Test, Var};
+use te_terms::{
+    Arith, Calc, Cond, EventCode, Expr, ExprView, Name, NoMemory, NodeView, Prim, Rows, Test, Var,
+};
 
 // Where an event stands: by itself, or behind a part of a `do` or a bar of a `choose`, where a further one
 // needs no braces of its own.
@@ -138,16 +142,30 @@ fn put_inside(out: &mut Vec<u8>, names: &Names<'_>, calcs: &[Calc]) -> Result<()
     }
 }
 
+fn put_tuple(out: &mut Vec<u8>, names: &Names<'_>, calcs: &[Calc]) -> Result<(), NoMemory>
+    ensures { OnOk result (out.new.items ≡ out.old.items ++ expression_text (spelling names.now) (tuple (map calculation_of calcs.now))) }
+{
+    put(out, b"(")?;
+    put_inside(out, names, calcs)?;
+    put(out, b")")
+}
+
 fn put_expression(out: &mut Vec<u8>, names: &Names<'_>, e: &Expr) -> Result<(), NoMemory>
     ensures { OnOk result (out.new.items ≡ out.old.items ++ expression_text (spelling names.now) (expression_of e.now)) }
 {
     match e {
         Expr::Whole(x) => put_variable(out, names, *x),
-        Expr::Tuple(calcs) => {
-            put(out, b"(")?;
-            put_inside(out, names, calcs.as_slice())?;
-            put(out, b")")
-        }
+        Expr::Tuple(calcs) => put_tuple(out, names, calcs.as_slice()),
+    }
+}
+
+// An expression that a code lends.
+fn put_lent(out: &mut Vec<u8>, names: &Names<'_>, e: &ExprView<'_>) -> Result<(), NoMemory>
+    ensures { OnOk result (out.new.items ≡ out.old.items ++ expression_text (spelling names.now) (expression_of (expression_seen e.now))) }
+{
+    match e {
+        ExprView::Whole(x) => put_variable(out, names, *x),
+        ExprView::Tuple(calcs) => put_tuple(out, names, calcs),
     }
 }
 
@@ -209,35 +227,35 @@ fn choose_close(standing: Standing) -> &'static [u8]
 }
 
 // The node of an event that has no parts.
-fn put_leaf(out: &mut Vec<u8>, names: &Names<'_>, node: &Node) -> Result<(), NoMemory>
-    requires { children node.now ≡ [] }
-    ensures { (at : Place) → OnOk result (out.new.items ≡ out.old.items ++ event_text (spelling names.now) at (leaf node.now)) }
+fn put_leaf(out: &mut Vec<u8>, names: &Names<'_>, node: &NodeView<'_>) -> Result<(), NoMemory>
+    requires { children (node_seen node.now) ≡ [] }
+    ensures { (at : Place) → OnOk result (out.new.items ≡ out.old.items ++ event_text (spelling names.now) at (leaf (node_seen node.now))) }
 {
     match node {
-        Node::Always(e) => {
+        NodeView::Always(e) => {
             put(out, b"always ")?;
-            put_expression(out, names, e)
+            put_lent(out, names, e)
         }
-        Node::Never => put(out, b"never"),
-        Node::Fresh => put(out, b"fresh"),
-        Node::Throw(e) => {
+        NodeView::Never => put(out, b"never"),
+        NodeView::Fresh => put(out, b"fresh"),
+        NodeView::Throw(e) => {
             put(out, b"throw ")?;
-            put_expression(out, names, e)
+            put_lent(out, names, e)
         }
-        Node::Send(p, e) => {
+        NodeView::Send(p, e) => {
             put(out, b"send ")?;
             put_primitive(out, names, *p)?;
             put(out, b" ")?;
-            put_expression(out, names, e)
+            put_lent(out, names, e)
         }
-        Node::Recv(p) => {
+        NodeView::Recv(p) => {
             put(out, b"recv ")?;
             put_primitive(out, names, *p)
         }
-        Node::Then(_, _) => unreachable!(),
-        Node::Choose(_, _) => unreachable!(),
-        Node::Catch(_, _) => unreachable!(),
-        Node::If(_, _, _) => unreachable!(),
+        NodeView::Then(_, _) => unreachable!(),
+        NodeView::Choose(_, _) => unreachable!(),
+        NodeView::Catch(_, _) => unreachable!(),
+        NodeView::If(_, _, _) => unreachable!(),
     }
 }
 
@@ -256,14 +274,14 @@ fn put_event(
     requires low { level + root ≤ most_nodes }
     ensures { OnOk result (out.new.items ≡ out.old.items ++ event_text (spelling names.now) (standing_of standing) (term_at code.now level root)) }
 {
-    let Some(node) = code.node(root) else {
+    let Some(node) = code.look(root) else {
         unreachable!()
     };
     match &node {
-        Node::Then(a, b) => put_then(out, names, code, *a, *b, level, standing),
-        Node::Choose(a, b) => put_choose(out, names, code, *a, *b, level, standing),
-        Node::Catch(a, b) => put_catch(out, names, code, *a, *b, level),
-        Node::If(c, a, b) => put_if(out, names, code, c, *a, *b, level),
+        NodeView::Then(a, b) => put_then(out, names, code, *a, *b, level, standing),
+        NodeView::Choose(a, b) => put_choose(out, names, code, *a, *b, level, standing),
+        NodeView::Catch(a, b) => put_catch(out, names, code, *a, *b, level),
+        NodeView::If(c, a, b) => put_if(out, names, code, c, *a, *b, level),
         leaf => put_leaf(out, names, leaf),
     }
 }
