@@ -31,6 +31,8 @@ mod stack;
 mod statement;
 mod sync;
 mod telling;
+#[cfg(test)]
+mod tests;
 mod thread;
 mod token;
 
