@@ -17,6 +17,7 @@ pub mod NoneNamed
 pub mod TallyLemmas
 pub mod BuiltLemmas
 pub mod EventSteps
+pub mod LeafSteps
 pub mod ReadIsSpelled
 pub mod EventIsSpelled
 pub mod ReadIsKept

@@ -1,16 +1,16 @@
-ghost use Rattle.std.specs.Prelude.{◌≡◌, [], length, IfOk};
-ghost use Rattle.te_terms.specs.Codes.{primitive_of, term_at};
-ghost use Rattle.te_terms.specs.Shape.{children, HasFreeChildren};
+ghost use Rattle.std.specs.Prelude.{length};
+ghost use Rattle.te_terms.specs.Codes.{primitive_of};
+ghost use Rattle.te_terms.specs.Shape.{HasFreeChildren};
 ghost use Rattle.te_reader.specs.Tallies.{tally};
-ghost use Rattle.te_reader.specs.EventReads.{made, read_leaf, read_one, test_first, read_condition};
-ghost use Rattle.te_reader.specs.Answering.{Answers, AnswersEvent, Extends, TakesSome, Puts, leaf};
+ghost use Rattle.te_reader.specs.EventReads.{read_one, test_first, read_condition};
+ghost use Rattle.te_reader.specs.Answering.{Answers, AnswersEvent, Extends, TakesSome, Puts};
 
 use crate::cursor::Cursor;
 use crate::expression::{read_expression, read_primitive};
 use crate::refusal::Refusal;
 use crate::scope::Names;
 use crate::token::{Sign, Word};
-use te_terms::{CodeFault, Cond, EventCode, Expr, Node, Test};
+use te_terms::{CodeFault, Cond, EventCode, Node, Test};
 
 // Takes the sign of a test, where one stands here.
 #[tactic(auto, unfolding(crate::specs::EventReads::test_first))]
@@ -40,39 +40,8 @@ pub fn read_condition(cursor: &mut Cursor<'_>, names: &Names<'_, '_>) -> Result<
     Ok(Cond { test, left, right })
 }
 
-// The node of an event that has no parts.
-#[tactic(auto, unfolding(crate::specs::EventReads::read_leaf))]
-fn read_leaf(cursor: &mut Cursor<'_>, names: &Names<'_, '_>) -> Result<Node, Refusal>
-    ensures event { Answers result leaf cursor.old cursor.new (read_leaf names.now cursor.old.tokens) }
-    ensures no_parts { IfOk result (λ node. children node ≡ []) }
-{
-    if cursor.take_word(Word::Always) {
-        let value: Expr = read_expression(cursor, names)?;
-        return Ok(Node::Always(value));
-    }
-    if cursor.take_word(Word::Send) {
-        let channel = read_primitive(cursor, names)?;
-        let value = read_expression(cursor, names)?;
-        return Ok(Node::Send(channel, value));
-    }
-    if cursor.take_word(Word::Never) {
-        return Ok(Node::Never);
-    }
-    if cursor.take_word(Word::Throw) {
-        let value = read_expression(cursor, names)?;
-        return Ok(Node::Throw(value));
-    }
-    if cursor.take_word(Word::Fresh) {
-        return Ok(Node::Fresh);
-    }
-    if !cursor.take_word(Word::Recv) {
-        return Err(Refusal::Refused);
-    }
-    let channel = read_primitive(cursor, names)?;
-    Ok(Node::Recv(channel))
-}
-
 /// Reads an event that has no parts.
+#[tactic(auto, unfolding(crate::specs::EventReads::read_one, crate::specs::EventReads::read_leaf))]
 pub fn read_one(
     cursor: &mut Cursor<'_>,
     names: &Names<'_, '_>,
@@ -82,10 +51,30 @@ pub fn read_one(
         (read_one names.now (tally code.old) cursor.old.tokens) }
     ensures extends { Extends code.old code.new }
 {
-    match read_leaf(cursor, names) {
-        Ok(node) => put(code, node),
-        Err(fault) => Err(fault),
+    if cursor.take_word(Word::Always) {
+        let value = read_expression(cursor, names)?;
+        return put(code, Node::Always(value));
     }
+    if cursor.take_word(Word::Send) {
+        let channel = read_primitive(cursor, names)?;
+        let value = read_expression(cursor, names)?;
+        return put(code, Node::Send(channel, value));
+    }
+    if cursor.take_word(Word::Never) {
+        return put(code, Node::Never);
+    }
+    if cursor.take_word(Word::Throw) {
+        let value = read_expression(cursor, names)?;
+        return put(code, Node::Throw(value));
+    }
+    if cursor.take_word(Word::Fresh) {
+        return put(code, Node::Fresh);
+    }
+    if !cursor.take_word(Word::Recv) {
+        return Err(Refusal::Refused);
+    }
+    let channel = read_primitive(cursor, names)?;
+    put(code, Node::Recv(channel))
 }
 
 /// Puts a node behind the others, where the limits of an event allow it.

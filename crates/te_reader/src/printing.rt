@@ -46,9 +46,15 @@ fn put(out: &mut Vec<u8>, text: &[u8]) -> Result<(), NoMemory>
     Ok(())
 }
 
+// Most numbers have one digit.
+#[tactic(auto, using(std::proofs::lemmas::Fmt::decimal_digit))]
 fn put_number(out: &mut Vec<u8>, n: u32) -> Result<(), NoMemory>
     ensures { OnOk result (out.new.items ≡ out.old.items ++ decimal n) }
 {
+    if n < 10 {
+        out.push(b'0' + n as u8)?;
+        return Ok(());
+    }
     put(out, Buffer::new().format(n).as_bytes())
 }
 
