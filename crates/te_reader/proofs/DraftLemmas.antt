@@ -34,13 +34,15 @@ pub longer : (before after : List Node) → Extends before after → length befo
 longer before after e = omega (arith, ap length e.appended, length-append before e.added)
 
 -- drafts stand for the same syncs in a longer code
-pub drafts_stay : (code after : List Node) → IsForest code → Extends code after → (ds : List Draft) → AllByRecursion (IsDraft code) ds → map (draft_of after) ds ≡ map (draft_of code) ds
+pub drafts_stay : (code after : List Node) → IsForest code → Extends code after → (ds : List Draft) → AllByRecursion (IsDraft code) ds
+    → map (draft_of after) ds ≡ map (draft_of code) ds
 drafts_stay code after forest more [] h = refl
 drafts_stay code after forest more (d ∷ ds) h =
     let same : term_under after d.root ≡ term_under code d.root = ap (λ c. term_under c d.root) more.appended ∙ term_at-append code more.added forest.earlier 0 d.root h.0 in
     ap (λ t. sync d.reg t ∷ map (draft_of after) ds) same ∙ ap (λ xs. draft_of code d ∷ xs) (drafts_stay code after forest more ds h.1)
 
-pub drafts_inside : (code after : List Node) → Extends code after → (ds : List Draft) → AllByRecursion (IsDraft code) ds → AllByRecursion (IsDraft after) ds
+pub drafts_inside : (code after : List Node) → Extends code after → (ds : List Draft) → AllByRecursion (IsDraft code) ds
+    → AllByRecursion (IsDraft after) ds
 drafts_inside code after more ds h = all_weaker (IsDraft code) (IsDraft after) (λ d below. omega (arith, below, longer code after more)) ds h
 
 -- ---- appended to the statements
@@ -50,10 +52,12 @@ map_size f [] = refl
 map_size f (d ∷ ds) = omega (arith, map_size f ds)
 
 module _ (most room : ℕ) (channels registers : List (List ℕ)) (ts : List Token) (old new : List Stmt) (last : List (List ℕ)) (rest : List Token) (code : List Node) (drafts : List Draft) where
-  all_read : room ≡ most - length old → length old < most → AreDrafts room channels registers ts code drafts last rest → map statement_of new ≡ map statement_of old ++ map (draft_of code) drafts
+  all_read : room ≡ most - length old → length old < most → AreDrafts room channels registers ts code drafts last rest
+      → map statement_of new ≡ map statement_of old ++ map (draft_of code) drafts
       → AreSyncsRead most channels registers ts old new last rest
   all_read size some read listed = by drafts read.some read.within read.written listed where
-    by : (ds : List Draft) → 0 < length ds → length ds ≤ room → AreWritten channels registers ts (map (draft_of code) ds) last rest → map statement_of new ≡ map statement_of old ++ map (draft_of code) ds → AreSyncsRead most channels registers ts old new last rest
+    by : (ds : List Draft) → 0 < length ds → length ds ≤ room → AreWritten channels registers ts (map (draft_of code) ds) last rest
+        → map statement_of new ≡ map statement_of old ++ map (draft_of code) ds → AreSyncsRead most channels registers ts old new last rest
     by [] none within written listed = absurd (omega arith)
     by (d ∷ ds) one within written listed =
         let long : length (map statement_of new) ≡ length (map statement_of old) + suc (length (map (draft_of code) ds)) = ap length listed ∙ length-append (map statement_of old) (draft_of code d ∷ map (draft_of code) ds) in

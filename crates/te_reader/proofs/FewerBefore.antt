@@ -155,7 +155,8 @@ module _ (next : Parts) (lowers : Lowers next) (s : Names) (fewer used : Tally) 
   in_choose_fewer t ts rest h =
       let a = bind_some (read_alone next s used ts) _ _ h in
       rw (alone_fewer a.0.0 ts a.0.1 a.1) (by a.0.0 a.0.1 (sign_first signs.Bar a.0.1) a.2) where
-        by : (e : Term) (behind : List Token) (o : Option (List Token)) → bar_or_end next s used e behind o ≡ Some (t, rest) → bar_or_end next s fewer e behind o ≡ Some (t, rest)
+        by : (e : Term) (behind : List Token) (o : Option (List Token)) → bar_or_end next s used e behind o ≡ Some (t, rest)
+            → bar_or_end next s fewer e behind o ≡ Some (t, rest)
         by e behind None h = h
         by e behind (Some more) h = second_fewer t e more rest h
 

@@ -11,12 +11,14 @@ use Rattle.te_reader.specs.ExpressionReads.{read_primitive, read_expression}
 use Rattle.te_reader.specs.EventReads.{read_leaf}
 
 module _ (s : Names) (ts : List Token) where
-  pub always_read : (b rest : List Token) (e : Expression) → word_first words.Always ts ≡ Some b → read_expression s b ≡ Some (e, rest) → read_leaf s ts ≡ Some (always e, rest)
+  pub always_read : (b rest : List Token) (e : Expression) → word_first words.Always ts ≡ Some b → read_expression s b ≡ Some (e, rest)
+      → read_leaf s ts ≡ Some (always e, rest)
   unfolding read_leaf
   always_read b rest e f g = rw (f, g) refl
 
   module _ (no_always : word_first words.Always ts ≡ None) where
-    pub send_read : (b c rest : List Token) (p : Primitive) (e : Expression) → word_first words.Send ts ≡ Some b → read_primitive s b ≡ Some (p, c) → read_expression s c ≡ Some (e, rest)
+    pub send_read : (b c rest : List Token) (p : Primitive) (e : Expression) → word_first words.Send ts ≡ Some b → read_primitive s b ≡ Some (p, c)
+        → read_expression s c ≡ Some (e, rest)
         → read_leaf s ts ≡ Some (send p e, rest)
     unfolding read_leaf
     send_read b c rest p e f g h = rw (no_always, f, g, h) refl
@@ -27,7 +29,8 @@ module _ (s : Names) (ts : List Token) where
       never_read rest f = rw (no_always, no_send, f) refl
 
       module _ (no_never : word_first words.Never ts ≡ None) where
-        pub throw_read : (b rest : List Token) (e : Expression) → word_first words.Throw ts ≡ Some b → read_expression s b ≡ Some (e, rest) → read_leaf s ts ≡ Some (throw e, rest)
+        pub throw_read : (b rest : List Token) (e : Expression) → word_first words.Throw ts ≡ Some b → read_expression s b ≡ Some (e, rest)
+            → read_leaf s ts ≡ Some (throw e, rest)
         unfolding read_leaf
         throw_read b rest e f g = rw (no_always, no_send, no_never, f, g) refl
 
@@ -36,6 +39,7 @@ module _ (s : Names) (ts : List Token) where
           unfolding read_leaf
           fresh_read rest f = rw (no_always, no_send, no_never, no_throw, f) refl
 
-          pub recv_read : (b rest : List Token) (p : Primitive) → word_first words.Fresh ts ≡ None → word_first words.Recv ts ≡ Some b → read_primitive s b ≡ Some (p, rest) → read_leaf s ts ≡ Some (recv p, rest)
+          pub recv_read : (b rest : List Token) (p : Primitive) → word_first words.Fresh ts ≡ None → word_first words.Recv ts ≡ Some b
+              → read_primitive s b ≡ Some (p, rest) → read_leaf s ts ≡ Some (recv p, rest)
           unfolding read_leaf
           recv_read b rest p no_fresh f g = rw (no_always, no_send, no_never, no_throw, no_fresh, f, g) refl

@@ -15,16 +15,19 @@ use Rattle.te_reader.specs.Reads.{read_sync}
 use Rattle.te_reader.proofs.FewerBefore.{event_behind_none}
 
 module _ (channels registers : List (List ℕ)) (ts a b : List Token) (arrow : sign_first signs.Arrow ts ≡ Some a) (word : word_first words.Sync a ≡ Some b) where
-  pub event_in_sync : (used : Tally) (t : Term) (c rest : List Token) → read_event 32 alone (names_of channels registers) used b ≡ Some (t, c) → sign_first signs.Semicolon c ≡ Some rest
+  pub event_in_sync : (used : Tally) (t : Term) (c rest : List Token) → read_event 32 alone (names_of channels registers) used b ≡ Some (t, c)
+      → sign_first signs.Semicolon c ≡ Some rest
       → read_sync channels registers ts ≡ Some (t, rest)
   unfolding read_sync
   event_in_sync used t c rest e f = rw (arrow, word, event_behind_none 32 alone (names_of channels registers) used t b c e, f) refl
 
-  pub sync_not_ended : (used : Tally) (t : Term) (c : List Token) → read_event 32 alone (names_of channels registers) used b ≡ Some (t, c) → sign_first signs.Semicolon c ≡ None → read_sync channels registers ts ≡ None
+  pub sync_not_ended : (used : Tally) (t : Term) (c : List Token) → read_event 32 alone (names_of channels registers) used b ≡ Some (t, c)
+      → sign_first signs.Semicolon c ≡ None → read_sync channels registers ts ≡ None
   unfolding read_sync
   sync_not_ended used t c e f = rw (arrow, word, event_behind_none 32 alone (names_of channels registers) used t b c e, f) refl
 
-  pub no_event_in_sync : (code : List Node) → read_event 32 alone (names_of channels registers) (tally code) b ≡ None → code ≡ [] → read_sync channels registers ts ≡ None
+  pub no_event_in_sync : (code : List Node) → read_event 32 alone (names_of channels registers) (tally code) b ≡ None → code ≡ []
+      → read_sync channels registers ts ≡ None
   unfolding read_sync
   no_event_in_sync code e none =
       let first : read_event 32 alone (names_of channels registers) no_node b ≡ None = ap (λ x. read_event 32 alone (names_of channels registers) (tally x) b) (sym none) ∙ e in

@@ -35,25 +35,29 @@ module _ (channels : List (List ℕ)) where
   at_sync registers (tokens.integer n ∷ ts) x e = absurd cc
   at_sync registers (tokens.sign g ∷ ts) x e = absurd cc
 
-  pub written_push : (registers more last : List (List ℕ)) (ts behind rest : List Token) (ss : List Statement) (s : Statement) → AreWritten channels registers ts ss more behind
+  pub written_push : (registers more last : List (List ℕ)) (ts behind rest : List Token) (ss : List Statement) (s : Statement)
+      → AreWritten channels registers ts ss more behind
       → read_written channels more behind ≡ Some ((s, last), rest) → AreWritten channels registers ts (ss ++ s ∷ []) last rest
   written_push registers more last ts behind rest [] s h e = (last, rest, rw (h.0, h.1) e, (refl, refl))
   written_push registers more last ts behind rest (x ∷ xs) s h e = (h.0, h.1, h.2, written_push h.0 more last h.1 behind rest xs s h.3 e)
 
   -- the first of them is read, and with it all where it is the only one
-  only_one : (registers last : List (List ℕ)) (ts rest : List Token) (s : Statement) → AreWritten channels registers ts (s ∷ []) last rest → read_written channels registers ts ≡ Some ((s, last), rest)
+  only_one : (registers last : List (List ℕ)) (ts rest : List Token) (s : Statement) → AreWritten channels registers ts (s ∷ []) last rest
+      → read_written channels registers ts ≡ Some ((s, last), rest)
   only_one registers last ts rest s h = rw (h.3.0, h.3.1) at h.2
 
   -- ---- statements of a body
 
-  more_first : (next : Bodies) (registers more : List (List ℕ)) (ts behind : List Token) (s : Statement) → read_written channels registers ts ≡ Some ((s, more), behind)
+  more_first : (next : Bodies) (registers more : List (List ℕ)) (ts behind : List Token) (s : Statement)
+      → read_written channels registers ts ≡ Some ((s, more), behind)
       → more_body next channels registers ts ≡ changed (before_body s) (next false more behind)
   unfolding more_body read_statement
   more_first next registers more ts behind s e =
       let at = at_sync registers ts ((s, more), behind) e in
       rw (at.no_repeat, at.no_emit, e) refl
 
-  body_first : (left : ℕ) (registers more : List (List ℕ)) (ts behind : List Token) (s : Statement) → read_written channels registers ts ≡ Some ((s, more), behind)
+  body_first : (left : ℕ) (registers more : List (List ℕ)) (ts behind : List Token) (s : Statement)
+      → read_written channels registers ts ≡ Some ((s, more), behind)
       → read_body (suc left) channels false registers ts ≡ changed (before_body s) (read_body left channels false more behind)
   unfolding read_body
   body_first left registers more ts behind s e = rw ((at_sync registers ts ((s, more), behind) e).no_brace, more_first (read_body left channels) registers more ts behind s e) refl
@@ -62,12 +66,14 @@ module _ (channels : List (List ℕ)) where
   before_one s None = refl
   before_one s (Some b) = refl
 
-  before_more : (s x : Statement) (ss : List Statement) (o : Read Body) → changed (before_body s) (behind_body (x ∷ ss) o) ≡ behind_body (s ∷ x ∷ ss) o
+  before_more : (s x : Statement) (ss : List Statement) (o : Read Body)
+      → changed (before_body s) (behind_body (x ∷ ss) o) ≡ behind_body (s ∷ x ∷ ss) o
   before_more s x ss None = refl
   before_more s x ss (Some b) = refl
 
   -- behind one sync, the others
-  others_behind : (left : ℕ) (last : List (List ℕ)) (rest : List Token) (s : Statement) (ss : List Statement) (more : List (List ℕ)) (behind : List Token) → AreWritten channels more behind ss last rest → length ss ≤ left
+  others_behind : (left : ℕ) (last : List (List ℕ)) (rest : List Token) (s : Statement) (ss : List Statement) (more : List (List ℕ)) (behind : List Token)
+      → AreWritten channels more behind ss last rest → length ss ≤ left
       → changed (before_body s) (read_body left channels false more behind) ≡ behind_body (s ∷ ss) (read_body (left - length ss) channels false last rest)
   others_behind left last rest s [] more behind h most =
       let less : left ≡ left - 0 = omega arith in
@@ -82,7 +88,8 @@ module _ (channels : List (List ℕ)) where
       ∙ before_more s x ss (read_body (left - length ss) channels false last rest)
       ∙ ap (λ k. behind_body (s ∷ x ∷ ss) (read_body k channels false last rest)) less
 
-  pub syncs_are_read : (before left : ℕ) (registers last : List (List ℕ)) (ts rest : List Token) (s : Statement) (ss : List Statement) → AreWritten channels registers ts (s ∷ ss) last rest → before + suc (length ss) ≤ 1024
+  pub syncs_are_read : (before left : ℕ) (registers last : List (List ℕ)) (ts rest : List Token) (s : Statement) (ss : List Statement)
+      → AreWritten channels registers ts (s ∷ ss) last rest → before + suc (length ss) ≤ 1024
       → left ≡ 1024 - (before + suc (length ss)) → more_behind before channels registers ts ≡ behind_body (s ∷ ss) (read_body left channels false last rest)
   syncs_are_read before left registers last ts rest s ss h most size =
       let less : (1024 - (before + 1)) - length ss ≡ left = omega (arith, most, size) in
@@ -90,17 +97,20 @@ module _ (channels : List (List ℕ)) where
       ∙ others_behind (1024 - (before + 1)) last rest s ss h.0 h.1 h.3 (omega (arith, most))
       ∙ ap (λ k. behind_body (s ∷ ss) (read_body k channels false last rest)) less
 
-  pub no_sync_read : (before : ℕ) (registers : List (List ℕ)) (ts : List Token) → word_first words.Repeat ts ≡ None → word_first words.Emit ts ≡ None → read_written channels registers ts ≡ None
+  pub no_sync_read : (before : ℕ) (registers : List (List ℕ)) (ts : List Token) → word_first words.Repeat ts ≡ None → word_first words.Emit ts ≡ None
+      → read_written channels registers ts ≡ None
       → more_behind before channels registers ts ≡ None
   unfolding more_body read_statement
   no_sync_read before registers ts a b e = rw (a, b, e) refl
 
   -- so many syncs more
-  pub syncs_longer : (most : ℕ) (registers last : List (List ℕ)) (ts rest : List Token) (old new : List Stmt) (read : AreSyncsRead most channels registers ts old new last rest) → length new ≡ length old + suc (length read.others)
+  pub syncs_longer : (most : ℕ) (registers last : List (List ℕ)) (ts rest : List Token) (old new : List Stmt) (read : AreSyncsRead most channels registers ts old new last rest)
+      → length new ≡ length old + suc (length read.others)
   syncs_longer most registers last ts rest old new read =
       omega (arith, ap length read.appended, length-append (map statement_of old) (read.first ∷ read.others), map_length new, map_length old)
 
-  pub syncs_appended : {U : Type 0} (r : Result U Refusal) (registers last : List (List ℕ)) (ts rest : List Token) (old new : List Stmt) → word_first words.Repeat ts ≡ None → word_first words.Emit ts ≡ None
+  pub syncs_appended : {U : Type 0} (r : Result U Refusal) (registers last : List (List ℕ)) (ts rest : List Token) (old new : List Stmt)
+      → word_first words.Repeat ts ≡ None → word_first words.Emit ts ≡ None
       → OnRead r (λ u. AreSyncsRead 1024 channels registers ts old new last rest) (read_written channels registers ts)
       → OnRead r (λ u. AreAppended channels old new last rest (more_behind (length old) channels registers ts)) (more_behind (length old) channels registers ts)
   syncs_appended (Ok u) registers last ts rest old new a b read =
@@ -115,16 +125,19 @@ module _ (channels : List (List ℕ)) where
   syncs_appended (Err faults.Refused) registers last ts rest old new a b none = no_sync_read (length old) registers ts a b none
   syncs_appended (Err faults.Memory) registers last ts rest old new a b h = tt
 
-  emit_read : (registers : List (List ℕ)) (ts behind rest : List Token) (e : Expression) → word_first words.Emit ts ≡ Some behind → read_emit channels registers behind ≡ Some (e, rest)
+  emit_read : (registers : List (List ℕ)) (ts behind rest : List Token) (e : Expression) → word_first words.Emit ts ≡ Some behind
+      → read_emit channels registers behind ≡ Some (e, rest)
       → read_statement channels registers ts ≡ Some ((emit e, registers), rest)
   unfolding read_statement
   emit_read registers ts behind rest e f g = rw (f, g) refl
 
-  pub emit_is_read : (before left : ℕ) (registers : List (List ℕ)) (ts behind rest : List Token) (e : Expression) → word_first words.Repeat ts ≡ None → word_first words.Emit ts ≡ Some behind
+  pub emit_is_read : (before left : ℕ) (registers : List (List ℕ)) (ts behind rest : List Token) (e : Expression) → word_first words.Repeat ts ≡ None
+      → word_first words.Emit ts ≡ Some behind
       → read_emit channels registers behind ≡ Some (e, rest) → left ≡ 1024 - (before + 1) → more_behind before channels registers ts ≡ behind_body (emit e ∷ []) (read_body left channels false registers rest)
   emit_is_read before left registers ts behind rest e a f g size = statement_is_read channels registers registers before left (emit e) ts rest a (emit_read registers ts behind rest e f g) size
 
-  pub no_emit_read : (before : ℕ) (registers : List (List ℕ)) (ts behind : List Token) → word_first words.Repeat ts ≡ None → word_first words.Emit ts ≡ Some behind → read_emit channels registers behind ≡ None
+  pub no_emit_read : (before : ℕ) (registers : List (List ℕ)) (ts behind : List Token) → word_first words.Repeat ts ≡ None
+      → word_first words.Emit ts ≡ Some behind → read_emit channels registers behind ≡ None
       → more_behind before channels registers ts ≡ None
   unfolding more_body read_statement
   no_emit_read before registers ts behind a f g = rw (a, f, g) refl
@@ -132,7 +145,8 @@ module _ (channels : List (List ℕ)) where
   -- ---- syncs of a repeat
 
   module _ (room : ℕ) (last : List (List ℕ)) (rest : List Token) (all : Read Body) where
-    pub more_of_them : (i : ℕ) (done : List Statement) (registers : List (List ℕ)) (ts : List Token) (s : Statement) (ss : List Statement) → behind_syncs done (read_body (room - i) channels true registers ts) ≡ all
+    pub more_of_them : (i : ℕ) (done : List Statement) (registers : List (List ℕ)) (ts : List Token) (s : Statement) (ss : List Statement)
+        → behind_syncs done (read_body (room - i) channels true registers ts) ≡ all
         → AreWritten channels registers ts (s ∷ ss) last rest → i + suc (length ss) ≤ room → sign_first signs.CloseBrace rest ≡ None
         → behind_syncs (done ++ s ∷ ss) (read_body (room - (i + suc (length ss))) channels true last rest) ≡ all
     more_of_them i done registers ts s [] kept h most no_brace =
@@ -145,7 +159,8 @@ module _ (channels : List (List ℕ)) where
         ∙ ap (λ k. behind_syncs ((done ++ s ∷ []) ++ x ∷ ss) (read_body k channels true last rest)) less
         ∙ more_of_them (i + 1) (done ++ s ∷ []) h.0 h.1 x ss one h.3 (omega (arith, most)) no_brace
 
-    pub last_of_them : (i : ℕ) (done : List Statement) (registers : List (List ℕ)) (ts : List Token) (s : Statement) (ss : List Statement) (after : List Token) → behind_syncs done (read_body (room - i) channels true registers ts) ≡ all
+    pub last_of_them : (i : ℕ) (done : List Statement) (registers : List (List ℕ)) (ts : List Token) (s : Statement) (ss : List Statement) (after : List Token)
+        → behind_syncs done (read_body (room - i) channels true registers ts) ≡ all
         → AreWritten channels registers ts (s ∷ ss) last rest → i + suc (length ss) ≤ room → sign_first signs.CloseBrace rest ≡ Some after
         → all ≡ behind_repeat (done ++ s ∷ ss) (read_body (room - (i + suc (length ss))) channels false last after)
     last_of_them i done registers ts s [] after kept h most brace =
