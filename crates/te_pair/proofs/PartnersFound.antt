@@ -131,11 +131,11 @@ not_true : (b : Bool) → not b ≡ true → b ≡ false
 not_true true h = cc
 not_true false h = refl
 
-at_told : (channel : ℕ) (sends : Bool) (e : End) → is_at channel sends e ≡ true → (e.channel ≡ channel) × (e.sends ≡ sends)
+pub at_told : (channel : ℕ) (sends : Bool) (e : End) → is_at channel sends e ≡ true → (e.channel ≡ channel) × (e.sends ≡ sends)
 at_told channel true e h = (eqb-true e.channel channel (both_true (nat_eq e.channel channel) e.sends h).0, (both_true (nat_eq e.channel channel) e.sends h).1)
 at_told channel false e h = (eqb-true e.channel channel (both_true (nat_eq e.channel channel) (not e.sends) h).0, not_true e.sends (both_true (nat_eq e.channel channel) (not e.sends) h).1)
 
-at_is : (channel : ℕ) (sends : Bool) (e : End) → e.channel ≡ channel → e.sends ≡ sends → is_at channel sends e ≡ true
+pub at_is : (channel : ℕ) (sends : Bool) (e : End) → e.channel ≡ channel → e.sends ≡ sends → is_at channel sends e ≡ true
 at_is channel true e c s = ap₂ (λ a b. a && b) (eq-eqb e.channel channel c) s
 at_is channel false e c s = ap₂ (λ a b. a && not b) (eq-eqb e.channel channel c) s
 

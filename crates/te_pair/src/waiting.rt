@@ -122,6 +122,22 @@ impl Waiting {
         }
     }
 
+    /// Keeps a path that isn't kept, as one that stands at a send, or else at a receive, on a channel. After a refusal,
+    /// for want of memory, the same paths are kept as before. It is public for the crates above alone, which know already
+    /// where the path stands.
+    #[doc(hidden)]
+    pub fn keep_at(&mut self, path: u32, channel: u32, sends: bool) -> Result<(), NoMemory>
+        requires { ¬ IsKept self.old path }
+        ensures ok { OnOk result (self.new ≡ self.old ++ record { path = path; channel = channel; sends = sends } ∷ []) }
+        ensures err { OnErr result (self.new ≡ self.old) }
+    {
+        self.keep(End {
+            path,
+            channel,
+            sends,
+        })
+    }
+
     // Keeps an end.
     fn keep(&mut self, end: End) -> Result<(), NoMemory>
         requires { ¬ IsKept self.old end.path }

@@ -9,6 +9,7 @@ use Rattle.te_terms.proofs.OneThing.{Rests}
 use Rattle.te_terms.specs.Settling.{settled}
 use Rattle.te_trail.proofs.Lines.{rests_move}
 use Rattle.te_trail.proofs.ClockLaws.{clock_in}
+use Rattle.te_pair.specs.Ends.{paths_of}
 use Rattle.te_search.specs.Assemblies.{IsMore}
 use Rattle.te_path.specs.Paths.{IsChoice}
 use Rattle.te_terms.specs.Joint.{Message, after_choice, sending, receiving}
@@ -21,7 +22,7 @@ use Rattle.te_trail.proofs.MembersMove.{Handing, handing}
 use Rattle.te_search.specs.declared.work.Work.{Work}
 use Rattle.te_search.specs.Groups.{IsFinal, Partial, IsPartial}
 use Rattle.te_search.specs.Searching.{path_at, paths_by, AreUp, NoneTwice, AllFail, MayMeet, IsSearch}
-use Rattle.te_search.specs.Works.{numbers_of, AreLow, AreEnds, told, pending_of, IsCounted, IsWork, IsWorkOn}
+use Rattle.te_search.specs.Works.{AreLow, AreEnds, told, pending_of, IsCounted, IsWork, IsWorkOn}
 use Rattle.te_search.specs.Works.{Gains, IsSpentAt, StandsAs}
 use Rattle.te_search.proofs.ListLaws.{once_both, holds_left, holds_right, holds_which, holds_one, holds_at, once_by_places}
 use Rattle.te_search.proofs.WorkDone.{IsStep, step_done, final_cannot_choose}
@@ -132,7 +133,7 @@ ending old p x threads ex w f th = record {
 }
   where
     waits : List Path
-    waits = paths_by old.store.paths (numbers_of old.waiting.items)
+    waits = paths_by old.store.paths (paths_of old.waiting)
 
     finals : List Path
     finals = paths_by old.store.paths old.finals.items
@@ -178,14 +179,14 @@ ending_counted old p x threads count groups w e t is = record {
 
 -- nothing was found from it
 pub end_done : (old new : Work) (p : ℕ) (x : Path) (threads : List ℕ) (count : ℕ) → slice_get old.store.paths p ≡ Some x → IsWorkOn old p → IsFinal old.store.events x
-    → Ending old p x threads → new.store ≡ old.store → new.moves.items ≡ old.moves.items → new.pending.items ≡ old.pending.items → new.waiting.items ≡ old.waiting.items
+    → Ending old p x threads → new.store ≡ old.store → new.moves.items ≡ old.moves.items → new.pending.items ≡ old.pending.items → new.waiting ≡ old.waiting
     → new.finals.items ≡ old.finals.items ++ (p ∷ []) → new.groups ≡ old.groups + suc count → Tries old.store.events old.store.paths x (x ∷ []) count
     → Fails (Holds (paths_by old.store.paths (old.finals.items ++ (p ∷ [])))) (x ∷ []) → IsWork new
 end_done old new p x threads count ex w f e st mo pe wa fi gr tries fails = record {
-  search = subst (λ t. IsSearch t.events t.paths (paths_by t.paths new.pending.items) (paths_by t.paths (numbers_of new.waiting.items)) (paths_by t.paths new.finals.items)) (sym st)
-      (subst (λ k. IsSearch old.store.events old.store.paths (paths_by old.store.paths k) (paths_by old.store.paths (numbers_of new.waiting.items))
+  search = subst (λ t. IsSearch t.events t.paths (paths_by t.paths new.pending.items) (paths_by t.paths (paths_of new.waiting)) (paths_by t.paths new.finals.items)) (sym st)
+      (subst (λ k. IsSearch old.store.events old.store.paths (paths_by old.store.paths k) (paths_by old.store.paths (paths_of new.waiting))
       (paths_by old.store.paths new.finals.items)) (sym pe)
-      (subst (λ k. IsSearch old.store.events old.store.paths (pending_of old) (paths_by old.store.paths (numbers_of k)) (paths_by old.store.paths new.finals.items)) (sym wa)
+      (subst (λ k. IsSearch old.store.events old.store.paths (pending_of old) (paths_by old.store.paths (paths_of k)) (paths_by old.store.paths new.finals.items)) (sym wa)
       (subst (λ k. IsSearch old.store.events old.store.paths (pending_of old) waits (paths_by old.store.paths k)) (sym fi)
       (subst (IsSearch old.store.events old.store.paths (pending_of old) waits) (sym e.finals_are)
       (subst (λ q. IsSearch old.store.events q (pending_of old) waits (finals ++ (x ∷ []))) (append-nil old.store.paths)
@@ -193,16 +194,16 @@ end_done old new p x threads count ex w f e st mo pe wa fi gr tries fails = reco
       (subst (λ q. IsSearch old.store.events (old.store.paths ++ []) (pending_of old ++ []) q (finals ++ (x ∷ []))) (append-nil waits)
       (step_done old.store.events old.store.paths (pending_of old) waits finals x [] [] (x ∷ []) before step))))))));
   pending_low = subst (λ t. AreLow t.paths new.pending.items) (sym st) (subst (AreLow old.store.paths) (sym pe) w.pending_low);
-  waits_low = subst (λ t. AreLow t.paths (numbers_of new.waiting.items)) (sym st) (subst (λ k. AreLow old.store.paths (numbers_of k)) (sym wa) w.waits_low);
+  waits_low = subst (λ t. AreLow t.paths (paths_of new.waiting)) (sym st) (subst (λ k. AreLow old.store.paths (paths_of k)) (sym wa) w.waits_low);
   finals_low = subst (λ t. AreLow t.paths new.finals.items) (sym st) (subst (AreLow old.store.paths) (sym fi) e.stand.finals_low);
-  ends = subst (λ t. AreEnds t.events t.paths new.waiting.items) (sym st) (subst (AreEnds old.store.events old.store.paths) (sym wa) w.ends);
+  ends = subst (λ t. AreEnds t.events t.paths new.waiting) (sym st) (subst (AreEnds old.store.events old.store.paths) (sym wa) w.ends);
   told_are = ap (map told) mo ∙ w.told_are ∙ ap (λ t. map labels_of_move t.paths) (sym st);
   counted = subst (λ t. IsCounted t.events t.paths (paths_by t.paths new.finals.items) new.groups) (sym st)
       (subst (λ k. IsCounted old.store.events old.store.paths (paths_by old.store.paths k) new.groups) (sym fi) (ending_counted old p x threads count new.groups w e tries gr));
 }
   where
     waits : List Path
-    waits = paths_by old.store.paths (numbers_of old.waiting.items)
+    waits = paths_by old.store.paths (paths_of old.waiting)
 
     finals : List Path
     finals = paths_by old.store.paths old.finals.items
@@ -265,7 +266,7 @@ end_spent old new p x threads count budget w e st gr tries sum = record {
 
 pub end_ends : (old new : Work) (p : ℕ) (x : Path) (threads : List ℕ) (joined : List (Option ℕ)) (count : ℕ) (found : Option (Vec (Option ℕ) Global))
     → slice_get old.store.paths p ≡ Some x → IsWorkOn old p → IsFinal old.store.events x → Ending old p x threads → new.store ≡ old.store → new.moves.items ≡ old.moves.items
-    → new.pending.items ≡ old.pending.items → new.waiting.items ≡ old.waiting.items
+    → new.pending.items ≡ old.pending.items → new.waiting ≡ old.waiting
     → new.finals.items ≡ old.finals.items ++ (p ∷ []) → new.groups ≡ old.groups + suc count → Names old.store.paths threads (joint (x ∷ [])) joined
     → Assembles old.store.events old.store.paths threads (old.finals.items ++ (p ∷ [])) joined count found → EndsSo new threads found
 end_ends old new p x threads joined count None ex w f e st mo pe wa fi gr names h =
@@ -350,21 +351,21 @@ gains_grow old new news g =
 
 -- ---- the last path that is still to be worked on is taken in hand
 
-pub taken_in_hand : (old new : Work) (p : ℕ) → IsWork old → new.store ≡ old.store → new.moves.items ≡ old.moves.items → new.waiting.items ≡ old.waiting.items
+pub taken_in_hand : (old new : Work) (p : ℕ) → IsWork old → new.store ≡ old.store → new.moves.items ≡ old.moves.items → new.waiting ≡ old.waiting
     → new.finals.items ≡ old.finals.items → new.groups ≡ old.groups → old.pending.items ≡ new.pending.items ++ (p ∷ []) → IsWorkOn new p
 taken_in_hand old new p w st mo wa fi gr pe = record {
-  search = subst (λ t. IsSearch t.events t.paths (paths_by t.paths new.pending.items ++ (path_at t.paths p ∷ [])) (paths_by t.paths (numbers_of new.waiting.items))
+  search = subst (λ t. IsSearch t.events t.paths (paths_by t.paths new.pending.items ++ (path_at t.paths p ∷ [])) (paths_by t.paths (paths_of new.waiting))
       (paths_by t.paths new.finals.items)) (sym st)
       (subst (λ k. IsSearch old.store.events old.store.paths (paths_by old.store.paths new.pending.items ++ (path_at old.store.paths p ∷ []))
-      (paths_by old.store.paths (numbers_of k)) (paths_by old.store.paths new.finals.items)) (sym wa)
+      (paths_by old.store.paths (paths_of k)) (paths_by old.store.paths new.finals.items)) (sym wa)
       (subst (λ k. IsSearch old.store.events old.store.paths (paths_by old.store.paths new.pending.items ++ (path_at old.store.paths p ∷ []))
-      (paths_by old.store.paths (numbers_of old.waiting.items)) (paths_by old.store.paths k)) (sym fi)
-      (subst (λ k. IsSearch old.store.events old.store.paths k (paths_by old.store.paths (numbers_of old.waiting.items)) (paths_by old.store.paths old.finals.items))
+      (paths_by old.store.paths (paths_of old.waiting)) (paths_by old.store.paths k)) (sym fi)
+      (subst (λ k. IsSearch old.store.events old.store.paths k (paths_by old.store.paths (paths_of old.waiting)) (paths_by old.store.paths old.finals.items))
       (ap (paths_by old.store.paths) pe ∙ map_both (path_at old.store.paths) new.pending.items (p ∷ [])) w.search)));
   pending_low = subst (λ t. AreLow t.paths new.pending.items) (sym st) (λ i n e. w.pending_low i n (ap (λ k. slice_get k i) pe ∙ get_more new.pending.items (p ∷ []) i n e));
-  waits_low = subst (λ t. AreLow t.paths (numbers_of new.waiting.items)) (sym st) (subst (λ k. AreLow old.store.paths (numbers_of k)) (sym wa) w.waits_low);
+  waits_low = subst (λ t. AreLow t.paths (paths_of new.waiting)) (sym st) (subst (λ k. AreLow old.store.paths (paths_of k)) (sym wa) w.waits_low);
   finals_low = subst (λ t. AreLow t.paths new.finals.items) (sym st) (subst (AreLow old.store.paths) (sym fi) w.finals_low);
-  ends = subst (λ t. AreEnds t.events t.paths new.waiting.items) (sym st) (subst (AreEnds old.store.events old.store.paths) (sym wa) w.ends);
+  ends = subst (λ t. AreEnds t.events t.paths new.waiting) (sym st) (subst (AreEnds old.store.events old.store.paths) (sym wa) w.ends);
   told_are = ap (map told) mo ∙ w.told_are ∙ ap (λ t. map labels_of_move t.paths) (sym st);
   counted = subst (λ t. IsCounted t.events t.paths (paths_by t.paths new.finals.items) new.groups) (sym st)
       (subst (λ k. IsCounted old.store.events old.store.paths (paths_by old.store.paths k) new.groups) (sym fi)

@@ -9,7 +9,7 @@ use Rattle.te_trail.specs.States.{chosen, Ends, met, state_of, HasState}
 use Rattle.te_trail.specs.Stores.{Holds, IsStore}
 use Rattle.te_trail.proofs.MovesChain.{mapped}
 use Rattle.te_trail.proofs.PastsChain.{then_some, parts_of}
-use Rattle.te_search.specs.declared.work.End.{End}
+use Rattle.te_pair.specs.declared.end.End.{End}
 use Rattle.te_search.specs.Groups.{IsFinal, Partial, IsPartial}
 use Rattle.te_search.specs.Searching.{MayMeet, IsSearch}
 use Rattle.te_search.specs.Works.{AreEnds, StandsAs, IsCounted}

@@ -22,7 +22,7 @@ use Rattle.te_trail.proofs.PastsChain.{then_some}
 use Rattle.te_search.specs.Assemblies.{joint}
 use Rattle.te_search.specs.Works.{threads_of}
 use Rattle.te_search.specs.Findings.{ArePlacedIn, IsGroupOf}
-use Rattle.te_search.specs.Stacks.{has_number}
+use Rattle.te_search.specs.Plantings.{has_number}
 use Rattle.te_search.specs.Picks.{Picks, touched, members_by, EndSo, AreMeetingsOf, AreMembers, thread_of_member}
 use Rattle.te_search.proofs.StepsTaken.{Stepping, stepped_quietly, stepped_by_choice, Joining, stepped_by_meeting}
 use Rattle.te_search.proofs.ChainsSplit.{Uncrossed, part_at}

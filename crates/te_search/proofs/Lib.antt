@@ -6,6 +6,8 @@ pub mod JoinedPasts
 pub mod GroupsSound
 pub mod GroupsClosed
 pub mod ListLaws
+pub mod ListsChange
+pub mod TableTells
 pub mod WorkDone
 pub mod PartialLaws
 pub mod Trying

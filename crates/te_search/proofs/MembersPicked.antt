@@ -10,7 +10,7 @@ use Rattle.te_cert.specs.Certs.{letters_of, choices_of}
 use Rattle.te_cert.specs.Checks.{RiseAfter, ThreadsRise, group_of}
 use Rattle.te_search.specs.Works.{threads_of}
 use Rattle.te_search.specs.Findings.{ArePlacedIn}
-use Rattle.te_search.specs.Stacks.{has_number}
+use Rattle.te_search.specs.Plantings.{has_number}
 use Rattle.te_search.specs.Picks.{members_by, thread_of_member}
 
 -- the events of the side

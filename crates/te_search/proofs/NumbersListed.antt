@@ -7,7 +7,7 @@ use Rattle.te_terms.specs.Joint.{RiseFrom, IsGroup, member_of, as_member, as_gro
 use Rattle.te_cert.specs.Certs.{place_of}
 use Rattle.te_search.specs.Works.{threads_of}
 use Rattle.te_search.specs.Findings.{HasThread}
-use Rattle.te_search.specs.Stacks.{has_number}
+use Rattle.te_search.specs.Plantings.{has_number}
 use Rattle.te_search.specs.Picks.{RiseAbove, NumbersRise}
 
 take_next : {A : Type 0} (xs : List A) (i : ℕ) (x : A) → slice_get xs i ≡ Some x → take (suc i) xs ≡ take i xs ++ (x ∷ [])

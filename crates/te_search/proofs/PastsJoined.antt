@@ -30,7 +30,8 @@ use Rattle.te_search.specs.Groups.{IsFinal}
 use Rattle.te_search.specs.Assemblies.{joint, Numbers}
 use Rattle.te_search.specs.Works.{told, threads_of, IsHit}
 use Rattle.te_search.specs.Findings.{IsGroupOf}
-use Rattle.te_search.specs.Stacks.{has_number, IsAmong}
+use Rattle.te_search.specs.Stacks.{IsAmong}
+use Rattle.te_search.specs.Plantings.{has_number}
 use Rattle.te_search.specs.Picks.{Picks, touched, members_by, EndsAt, EndSo, thread_of_member, AreMembers, AreGathered, IsJointTrail, AreMeetingsOf, AreMeets, NumbersRise, TellsNamed}
 use Rattle.te_search.proofs.Working.{map_both}
 use Rattle.te_search.proofs.Trying.{above_number, got_or}

@@ -7,13 +7,15 @@ use Rattle.te_terms.specs.Steps.{Member, outcome_of}
 use Rattle.te_terms.specs.Joint.{member_of, as_group, part, outcomes_of, and_outcome, CanCommit}
 use Rattle.te_trail.specs.Paths.{planted}
 use Rattle.te_trail.specs.Stores.{Holds}
+use Rattle.te_pair.specs.Ends.{paths_of}
 use Rattle.te_search.specs.declared.work.Work.{Work}
 use Rattle.te_search.specs.declared.stack.Stack.{Stack}
 use Rattle.te_search.specs.declared.finding.SearchFault.TheVariants as faults
 use Rattle.te_search.specs.Searching.{paths_by}
-use Rattle.te_search.specs.Works.{numbers_of, threads_of, IsCounted, IsSpentAt}
+use Rattle.te_search.specs.Works.{threads_of, IsCounted, IsSpentAt}
 use Rattle.te_search.specs.Findings.{IsUsedUp}
-use Rattle.te_search.specs.Stacks.{IsAmong, IsStack, has_number}
+use Rattle.te_search.specs.Stacks.{IsAmong, IsStack}
+use Rattle.te_search.specs.Plantings.{has_number}
 use Rattle.te_search.proofs.AssemblyFinds.{Commits}
 use Rattle.te_search.proofs.WorkDone.{nothing_commits}
 use Rattle.te_search.proofs.Trying.{member_place}
@@ -60,15 +62,15 @@ parked_at [] i t e = cc
 parked_at (p ∷ parked) zero t e = (p, refl, (let one : p.thread ≡ t = cc in one))
 parked_at (p ∷ parked) (suc i) t e = parked_at parked i t e
 
-pub blocked : (s : Stack) → IsStack s → ((i : ℕ) (p : Parked) → slice_get s.parked.items i ≡ Some p → has_number s.threads.items p.thread ≡ true) → ¬ CanCommit s.parked.items
-blocked s w all c = nothing_commits (as_group s.parked.items) s.work.store.paths (paths_by s.work.store.paths (numbers_of s.work.waiting.items)) (paths_by s.work.store.paths s.work.finals.items)
-    (search_more s.work.store.events (as_group s.parked.items) s.work.store.paths [] (paths_by s.work.store.paths (numbers_of s.work.waiting.items))
-    (paths_by s.work.store.paths s.work.finals.items) w.levels.among w.whole.search) plants (commits s.parked.items c)
+pub blocked : (s : Stack) → IsStack s → ((i : ℕ) (p : Parked) → slice_get s.parked i ≡ Some p → has_number s.threads p.thread ≡ true) → ¬ CanCommit s.parked
+blocked s w all c = nothing_commits (as_group s.parked) s.work.store.paths (paths_by s.work.store.paths (paths_of s.work.waiting)) (paths_by s.work.store.paths s.work.finals.items)
+    (search_more s.work.store.events (as_group s.parked) s.work.store.paths [] (paths_by s.work.store.paths (paths_of s.work.waiting))
+    (paths_by s.work.store.paths s.work.finals.items) w.levels.among w.whole.search) plants (commits s.parked c)
   where
-    plants : (t : ℕ) (e : Member) → member_of t (as_group s.parked.items) ≡ Some e → Holds s.work.store.paths (planted t)
+    plants : (t : ℕ) (e : Member) → member_of t (as_group s.parked) ≡ Some e → Holds s.work.store.paths (planted t)
     plants t e h =
-        let i : (i : ℕ) × (slice_get (map (λ m. m.thread) (as_group s.parked.items)) i ≡ Some t) = member_place t (as_group s.parked.items) e h in
-        let p : (p : Parked) × (slice_get s.parked.items i.0 ≡ Some p) × (p.thread ≡ t) = parked_at s.parked.items i.0 t i.1 in
+        let i : (i : ℕ) × (slice_get (map (λ m. m.thread) (as_group s.parked)) i ≡ Some t) = member_place t (as_group s.parked) e h in
+        let p : (p : Parked) × (slice_get s.parked i.0 ≡ Some p) × (p.thread ≡ t) = parked_at s.parked i.0 t i.1 in
         let n : has_number (threads_of s.work.store.events) t ≡ true = subst (λ k. has_number (threads_of s.work.store.events) k ≡ true) p.2
         (ap (λ l. has_number l p.0.thread) (sym w.levels.threads_are) ∙ all i.0 p.0 p.1) in
         let m : (m : Member) × (member_of t s.work.store.events ≡ Some m) = number_member s.work.store.events t n in
@@ -90,8 +92,8 @@ used_up parked w budget among s = record {
     c : IsCounted (as_group parked) w.store.paths s.finals w.groups
     c = counted_more w.store.events (as_group parked) w.store.paths s.finals w.groups among s.counted
 
-pub whole_used_up : (s : Stack) (budget : ℕ) → IsStack s → length s.work.store.paths + s.work.groups ≡ budget → IsUsedUp s.parked.items budget (length s.work.store.paths) s.work.groups
-whole_used_up s budget w sum = used_up s.parked.items s.work budget w.levels.among
+pub whole_used_up : (s : Stack) (budget : ℕ) → IsStack s → length s.work.store.paths + s.work.groups ≡ budget → IsUsedUp s.parked budget (length s.work.store.paths) s.work.groups
+whole_used_up s budget w sum = used_up s.parked s.work budget w.levels.among
     (record { same = refl; store = w.whole.search.store; finals = paths_by s.work.store.paths s.work.finals.items; counted = w.whole.counted; sum = inl sum })
 
 pub spent_same : (parked : List Parked) (budget p g paths groups : ℕ) → faults.Spent p g ≡ faults.Spent paths groups → IsUsedUp parked budget p g → IsUsedUp parked budget paths groups

@@ -7,7 +7,7 @@ use Rattle.te_trail.specs.declared.moves.Move.{Move}
 use Rattle.te_trail.specs.Paths.{Path}
 use Rattle.te_trail.specs.Trails.{Mark, back_at}
 use Rattle.te_trail.proofs.RecordsRead.{take_low, take_get, take_all}
-use Rattle.te_search.specs.declared.work.End.{End}
+use Rattle.te_pair.specs.declared.end.End.{End}
 use Rattle.te_search.specs.declared.stack.Level.{Level}
 use Rattle.te_search.specs.declared.stack.Stack.{Stack}
 use Rattle.te_search.specs.Works.{threads_of}
@@ -134,22 +134,22 @@ levels_back now levels marks i l m a el em = record {
 }
 
 pub cut_stack : (s t : Stack) (i : ℕ) (l : Level) (m : Mark) → HasLevels s → slice_get s.levels.items i ≡ Some l → slice_get s.work.store.marks i ≡ Some m → t.parked ≡ s.parked
-    → t.threads.items ≡ take i s.threads.items → t.levels.items ≡ take i s.levels.items → t.work.store ≡ back_at s.work.store i m
-    → t.work.moves.items ≡ take l.moves s.work.moves.items → t.work.waiting.items ≡ take l.waiting s.work.waiting.items → t.work.finals.items ≡ take l.finals s.work.finals.items
+    → t.threads ≡ take i s.threads → t.levels.items ≡ take i s.levels.items → t.work.store ≡ back_at s.work.store i m
+    → t.work.moves.items ≡ take l.moves s.work.moves.items → t.work.waiting ≡ take l.waiting s.work.waiting → t.work.finals.items ≡ take l.finals s.work.finals.items
     → t.work.pending.items ≡ [] → t.work.groups ≡ l.groups → IsStack t
 cut_stack s t i l m h el em pa th le st mo wa fi pe gr = record {
   levels = record {
-    rise = subst (λ q. IsGroup (as_group q.items)) (sym pa) h.rise;
+    rise = subst (λ q. IsGroup (as_group q)) (sym pa) h.rise;
     threads_are = th ∙ ap (take i) h.threads_are ∙ sym (map_taken (λ k. k.thread) s.work.store.events i) ∙ ap threads_of (sym events);
-    among = subst (λ q. IsAmong t.work.store.events (as_group q.items)) (sym pa)
-        (subst (λ q. IsAmong q (as_group s.parked.items)) (sym events) (λ k e f. h.among k e (taken_among s.work.store.events i k e f)));
+    among = subst (λ q. IsAmong t.work.store.events (as_group q)) (sym pa)
+        (subst (λ q. IsAmong q (as_group s.parked)) (sym events) (λ k e f. h.among k e (taken_among s.work.store.events i k e f)));
     levels = subst₂ (λ a b. AreLevels a b t.work.store.marks) (sym lists) (sym le)
         (subst (AreLevels (back_to (extent_at l m) (lists_of s.work)) (take i s.levels.items)) (sym marks)
         (levels_back (lists_of s.work) s.levels.items s.work.store.marks i l m h.levels el em));
   };
   as_many = ap length le ∙ length_taken s.levels.items i (let z : i < length s.levels.items = get_low s.levels.items l i el in omega (arith, z)) ∙ sym long;
   fewer = (let a : length t.work.store.paths ≡ m.paths = ap length paths
-      ∙ length_taken s.work.store.paths m.paths v.before.paths in let b : i ≤ m.paths = v.fewer in let c : length t.threads.items ≡ i = long in omega (arith, a, b, c));
+      ∙ length_taken s.work.store.paths m.paths v.before.paths in let b : i ≤ m.paths = v.fewer in let c : length t.threads ≡ i = long in omega (arith, a, b, c));
   whole = subst₂ IsWhole (sym lists) (sym gr) v.whole;
   idle = pe;
 }
@@ -168,19 +168,19 @@ cut_stack s t i l m h el em pa th le st mo wa fi pe gr = record {
 
     lists : lists_of t.work ≡ back_to (extent_at l m) (lists_of s.work)
     lists = lists_same t.work.store.events (take m.events s.work.store.events) t.work.store.paths (take m.paths s.work.store.paths) t.work.moves.items
-        (take l.moves s.work.moves.items) t.work.waiting.items (take l.waiting s.work.waiting.items) t.work.finals.items (take l.finals s.work.finals.items)
+        (take l.moves s.work.moves.items) t.work.waiting (take l.waiting s.work.waiting) t.work.finals.items (take l.finals s.work.finals.items)
         (ap (λ q. q.events) st) paths mo wa fi
 
-    low : i ≤ length s.threads.items
-    low = (let a : m.events ≤ length s.work.store.events = v.before.events in let b : m.events ≡ i = v.events_are in let c : length s.threads.items ≡ length
+    low : i ≤ length s.threads
+    low = (let a : m.events ≤ length s.work.store.events = v.before.events in let b : m.events ≡ i = v.events_are in let c : length s.threads ≡ length
         s.work.store.events = ap length h.threads_are ∙ by_length s.work.store.events in omega (arith, a, b, c))
       where
         by_length : (g : List Member) → length (threads_of g) ≡ length g
         by_length [] = refl
         by_length (x ∷ g) = ap suc (by_length g)
 
-    long : length t.threads.items ≡ i
-    long = ap length th ∙ length_taken s.threads.items i low
+    long : length t.threads ≡ i
+    long = ap length th ∙ length_taken s.threads i low
 
 -- ---- a new level
 

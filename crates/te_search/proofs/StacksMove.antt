@@ -1,6 +1,6 @@
 -- What each call leaves of a stack.
-use Rattle.std.proofs.Common.{◌≡◌, ◌<◌, ◌≤◌, inl, inr, ℕ, zero, suc, ◌+◌, List, [], ◌∷◌, ◌++◌, map, length}
-use Rattle.std.proofs.Common.{false, Option, Some, None, Result, Ok, Err, OnErr, slice_get, get_or, refl, ap, ap₂, sym, ◌∙◌, subst, subst₂, arith, length-append, append-nil}
+use Rattle.std.proofs.Common.{◌≡◌, ◌<◌, ◌≤◌, inl, inr, ℕ, suc, ◌+◌, List, [], ◌∷◌, ◌++◌, map, length}
+use Rattle.std.proofs.Common.{false, Option, Some, None, Result, Ok, Err, OnErr, slice_get, refl, ap, ap₂, sym, ◌∙◌, subst, subst₂, arith, length-append, append-nil}
 use Rattle.std.specs.List.{AllByRecursion}
 use Rattle.te_terms.specs.declared.event.Parked.{Parked}
 use Rattle.te_terms.specs.Steps.{Member}
@@ -9,16 +9,18 @@ use Rattle.te_trail.specs.declared.moves.Move.{Move}
 use Rattle.te_trail.specs.Paths.{Path, planted, thread_of}
 use Rattle.te_trail.specs.Stores.{Holds, IsStore}
 use Rattle.te_trail.specs.Trails.{Mark, with_mark, unplanted}
-use Rattle.te_search.specs.declared.work.End.{End}
+use Rattle.te_pair.specs.declared.end.End.{End}
+use Rattle.te_pair.specs.Ends.{paths_of}
 use Rattle.te_search.specs.declared.work.Work.{Work}
 use Rattle.te_search.specs.declared.stack.Level.{Level}
 use Rattle.te_search.specs.declared.stack.Stack.{Stack}
 use Rattle.te_search.specs.Groups.{Partial, IsPartial}
 use Rattle.te_search.specs.Searching.{paths_by, IsSearch}
-use Rattle.te_search.specs.Works.{numbers_of, told, threads_of, IsWork, Keeps}
+use Rattle.te_search.specs.Works.{told, threads_of, IsWork, Keeps}
 use Rattle.te_search.specs.Findings.{HasThread, put_in, without}
 use Rattle.te_search.specs.Stacks.{Lists, lists_of, IsWhole, Extent, extent_of, extent_at, AreLevels}
-use Rattle.te_search.specs.Stacks.{IsAmong, HasLevels, IsStack, IsReady, IsBegun, IsExploring, IsOpened, has_number, count_left}
+use Rattle.te_search.specs.Stacks.{IsAmong, HasLevels, IsStack, IsReady, IsBegun, IsExploring, IsOpened, count_left}
+use Rattle.te_search.specs.Plantings.{has_number}
 use Rattle.te_search.proofs.Working.{map_both}
 use Rattle.te_search.proofs.Trying.{state_member}
 use Rattle.te_search.proofs.StackLevels.{levels_more, levels_begin}
@@ -34,9 +36,9 @@ by_length : (g : List Member) → length (threads_of g) ≡ length g
 by_length [] = refl
 by_length (x ∷ g) = ap suc (by_length g)
 
-same_lists : (a b : Work) → a.store.events ≡ b.store.events → a.store.paths ≡ b.store.paths → a.moves.items ≡ b.moves.items → a.waiting.items ≡ b.waiting.items
+same_lists : (a b : Work) → a.store.events ≡ b.store.events → a.store.paths ≡ b.store.paths → a.moves.items ≡ b.moves.items → a.waiting ≡ b.waiting
     → a.finals.items ≡ b.finals.items → lists_of a ≡ lists_of b
-same_lists a b e p m w f = go a.store.events b.store.events a.store.paths b.store.paths a.moves.items b.moves.items a.waiting.items b.waiting.items a.finals.items b.finals.items e p m w f
+same_lists a b e p m w f = go a.store.events b.store.events a.store.paths b.store.paths a.moves.items b.moves.items a.waiting b.waiting a.finals.items b.finals.items e p m w f
   where
     as_lists : List Member → List Path → List (Option Move) → List End → List ℕ → Lists
     as_lists e p m w f = record { events = e; paths = p; moves = m; waiting = w; finals = f }
@@ -47,20 +49,20 @@ same_lists a b e p m w f = go a.store.events b.store.events a.store.paths b.stor
 
 -- ---- a level begins
 
-pub begin_stack : (s t : Stack) (l : Level) → IsStack s → t.parked ≡ s.parked → t.threads.items ≡ s.threads.items → t.levels.items ≡ s.levels.items ++ (l ∷ [])
-    → t.work.store ≡ with_mark s.work.store → t.work.moves.items ≡ s.work.moves.items → t.work.waiting.items ≡ s.work.waiting.items → t.work.finals.items ≡ s.work.finals.items
+pub begin_stack : (s t : Stack) (l : Level) → IsStack s → t.parked ≡ s.parked → t.threads ≡ s.threads → t.levels.items ≡ s.levels.items ++ (l ∷ [])
+    → t.work.store ≡ with_mark s.work.store → t.work.moves.items ≡ s.work.moves.items → t.work.waiting ≡ s.work.waiting → t.work.finals.items ≡ s.work.finals.items
     → t.work.pending.items ≡ s.work.pending.items → t.work.groups ≡ s.work.groups
-    → l.moves ≡ length s.work.moves.items → l.waiting ≡ length s.work.waiting.items → l.finals ≡ length s.work.finals.items → l.groups ≡ s.work.groups → IsBegun s t
+    → l.moves ≡ length s.work.moves.items → l.waiting ≡ length s.work.waiting → l.finals ≡ length s.work.finals.items → l.groups ≡ s.work.groups → IsBegun s t
 begin_stack s t l k pa th le st mo wa fi pe gr lm lw lf lg = record {
   ready = record {
     levels = record {
-      rise = subst (λ q. IsGroup (as_group q.items)) (sym pa) k.levels.rise;
+      rise = subst (λ q. IsGroup (as_group q)) (sym pa) k.levels.rise;
       threads_are = th ∙ k.levels.threads_are ∙ ap threads_of (sym events);
-      among = subst (λ q. IsAmong t.work.store.events (as_group q.items)) (sym pa) (subst (λ q. IsAmong q (as_group s.parked.items)) (sym events) k.levels.among);
+      among = subst (λ q. IsAmong t.work.store.events (as_group q)) (sym pa) (subst (λ q. IsAmong q (as_group s.parked)) (sym events) k.levels.among);
       levels = subst₂ (λ a b. AreLevels a b t.work.store.marks) (sym lists) (sym le)
           (subst (AreLevels (lists_of s.work) (s.levels.items ++ (l ∷ []))) (sym (ap (λ q. q.marks) st))
           (levels_begin (lists_of s.work) s.levels.items s.work.store.marks l mark k.levels.levels (subst (IsWhole (lists_of s.work)) (sym lg) k.whole) here long
-          (let a : length s.levels.items ≡ length s.threads.items = k.as_many in let b : length s.threads.items ≤ length s.work.store.paths = k.fewer in omega (arith, a, b))));
+          (let a : length s.levels.items ≡ length s.threads = k.as_many in let b : length s.threads ≤ length s.work.store.paths = k.fewer in omega (arith, a, b))));
     };
     one_more = ap length le ∙ length-append s.levels.items (l ∷ []) ∙ ap (λ n. n + 1) (k.as_many ∙ ap length (sym th));
     fewer = subst₂ (λ a b. length a ≤ length b) (sym th) (sym paths) k.fewer;
@@ -88,7 +90,7 @@ begin_stack s t l k pa th le st mo wa fi pe gr lm lw lf lg = record {
     long = sym (by_length s.work.store.events) ∙ ap length (sym k.levels.threads_are) ∙ sym k.as_many
 
     here : extent_at l mark ≡ extent_of (lists_of s.work)
-    here = extents l.moves (length s.work.moves.items) l.waiting (length s.work.waiting.items) l.finals (length s.work.finals.items) lm lw lf
+    here = extents l.moves (length s.work.moves.items) l.waiting (length s.work.waiting) l.finals (length s.work.finals.items) lm lw lf
       where
         as_extent : ℕ → ℕ → ℕ → Extent
         as_extent m w f = record { events = length s.work.store.events; paths = length s.work.store.paths; moves = m; waiting = w; finals = f }
@@ -103,26 +105,26 @@ pub record PutsOne (s t : Stack) (p : Parked) : Type 0 where
   pub parked : t.parked ≡ s.parked
   pub levels : t.levels.items ≡ s.levels.items
   pub place : ℕ
-  pub is : slice_get s.parked.items place ≡ Some p
-  pub new : has_number s.threads.items p.thread ≡ false
-  pub threads : t.threads.items ≡ s.threads.items ++ (p.thread ∷ [])
+  pub is : slice_get s.parked place ≡ Some p
+  pub new : has_number s.threads p.thread ≡ false
+  pub threads : t.threads ≡ s.threads ++ (p.thread ∷ [])
   pub events : t.work.store.events ≡ s.work.store.events ++ (as_member p ∷ [])
   pub marks : t.work.store.marks ≡ s.work.store.marks
   pub more_paths : List Path
   pub paths : t.work.store.paths ≡ s.work.store.paths ++ more_paths
   pub more_moves : List (Option Move)
   pub moves : t.work.moves.items ≡ s.work.moves.items ++ more_moves
-  pub waiting : t.work.waiting.items ≡ s.work.waiting.items
+  pub waiting : t.work.waiting ≡ s.work.waiting
   pub finals : t.work.finals.items ≡ s.work.finals.items
 
 pub put_levels : (s t : Stack) (p : Parked) → HasLevels s → PutsOne s t p → HasLevels t
 put_levels s t p h k = record {
-  rise = subst (λ q. IsGroup (as_group q.items)) (sym k.parked) h.rise;
+  rise = subst (λ q. IsGroup (as_group q)) (sym k.parked) h.rise;
   threads_are = k.threads ∙ ap (λ l. l ++ (p.thread ∷ [])) h.threads_are ∙ sym (map_both (λ m. m.thread) s.work.store.events (as_member p ∷ [])) ∙ ap threads_of (sym k.events);
-  among = subst (λ q. IsAmong t.work.store.events (as_group q.items)) (sym k.parked)
-      (subst (λ q. IsAmong q (as_group s.parked.items)) (sym k.events) (λ t e f. elim (last_found s.work.store.events (as_member p) t e f) [
+  among = subst (λ q. IsAmong t.work.store.events (as_group q)) (sym k.parked)
+      (subst (λ q. IsAmong q (as_group s.parked)) (sym k.events) (λ t e f. elim (last_found s.work.store.events (as_member p) t e f) [
         | inl a ↦ h.among t e a
-        | inr b ↦ subst₂ (λ u v. member_of u (as_group s.parked.items) ≡ Some v) b.0 b.1 (parked_found s.parked.items k.place p h.rise k.is)
+        | inr b ↦ subst₂ (λ u v. member_of u (as_group s.parked) ≡ Some v) b.0 b.1 (parked_found s.parked k.place p h.rise k.is)
       ]));
   levels = subst₂ (λ a b. AreLevels (lists_of t.work) a b) (sym k.levels) (sym k.marks) (levels_more (lists_of s.work) (lists_of t.work) s.levels.items s.work.store.marks (record {
     more_events = as_member p ∷ [];
@@ -132,7 +134,7 @@ put_levels s t p h k = record {
     more_moves = k.more_moves;
     moves = k.moves;
     more_waiting = [];
-    waiting = k.waiting ∙ sym (append-nil s.work.waiting.items);
+    waiting = k.waiting ∙ sym (append-nil s.work.waiting);
     more_finals = [];
     finals = k.finals ∙ sym (append-nil s.work.finals.items);
   }) h.levels);
@@ -144,15 +146,15 @@ opened_stack s t p r k one_path one_move store pe gr = record {
   exploring = record {
     levels = put_levels s t p r.levels k;
     as_many = ap length k.levels ∙ r.one_more ∙ sym longer;
-    some_level = (let a : length t.levels.items ≡ length s.threads.items + 1 = ap length k.levels ∙ r.one_more in omega (arith, a));
-    fewer = (let a : length s.threads.items ≤ length s.work.store.paths = r.fewer in let b : length t.threads.items ≡ length s.threads.items + 1 = longer in let c : length
+    some_level = (let a : length t.levels.items ≡ length s.threads + 1 = ap length k.levels ∙ r.one_more in omega (arith, a));
+    fewer = (let a : length s.threads ≤ length s.work.store.paths = r.fewer in let b : length t.threads ≡ length s.threads + 1 = longer in let c : length
         t.work.store.paths ≡ length s.work.store.paths + 1 = paths_long in omega (arith, a, b, c));
     work = planted_work s.work t.work (as_member p) r.whole k.events none paths store moves pe k.waiting k.finals gr;
     planted_all = all_planted s.work.store.events t.work.store.events s.work.store.paths t.work.store.paths (as_member p) r.whole.planted_all k.events paths;
   };
   paths = paths_long;
   groups = gr;
-  left = subst₂ (λ a b. count_left a b.items < count_left s.threads.items s.parked.items) (sym k.threads) (sym k.parked) (left_fewer s.threads.items s.parked.items k.place p k.is k.new);
+  left = subst₂ (λ a b. count_left a b < count_left s.threads s.parked) (sym k.threads) (sym k.parked) (left_fewer s.threads s.parked k.place p k.is k.new);
 }
   where
     none : member_of p.thread s.work.store.events ≡ None
@@ -164,23 +166,23 @@ opened_stack s t p r k one_path one_move store pe gr = record {
     paths_long : length t.work.store.paths ≡ length s.work.store.paths + 1
     paths_long = ap length paths ∙ length-append s.work.store.paths (planted p.thread ∷ [])
 
-    longer : length t.threads.items ≡ length s.threads.items + 1
-    longer = ap length k.threads ∙ length-append s.threads.items (p.thread ∷ [])
+    longer : length t.threads ≡ length s.threads + 1
+    longer = ap length k.threads ∙ length-append s.threads (p.thread ∷ [])
 
     moves : map told t.work.moves.items ≡ map told s.work.moves.items ++ ([] ∷ [])
     moves = ap (map told) (k.moves ∙ ap (λ l. s.work.moves.items ++ l) one_move) ∙ map_both told s.work.moves.items (None ∷ [])
 
 -- the event isn't put yet
-pub not_put : (s : Stack) (t : ℕ) → HasLevels s → has_number s.threads.items t ≡ false → member_of t s.work.store.events ≡ None
+pub not_put : (s : Stack) (t : ℕ) → HasLevels s → has_number s.threads t ≡ false → member_of t s.work.store.events ≡ None
 not_put s t h new = absent s.work.store.events t (subst (λ l. has_number l t ≡ false) h.threads_are new)
 
 -- ---- all work is done
 
-pub keeps_levels : (s t : Stack) → HasLevels s → t.parked ≡ s.parked → t.threads.items ≡ s.threads.items → t.levels.items ≡ s.levels.items → Keeps s.work t.work → HasLevels t
+pub keeps_levels : (s t : Stack) → HasLevels s → t.parked ≡ s.parked → t.threads ≡ s.threads → t.levels.items ≡ s.levels.items → Keeps s.work t.work → HasLevels t
 keeps_levels s t h pa th le k = record {
-  rise = subst (λ q. IsGroup (as_group q.items)) (sym pa) h.rise;
+  rise = subst (λ q. IsGroup (as_group q)) (sym pa) h.rise;
   threads_are = th ∙ h.threads_are ∙ ap threads_of (sym k.events);
-  among = subst (λ q. IsAmong t.work.store.events (as_group q.items)) (sym pa) (subst (λ q. IsAmong q (as_group s.parked.items)) (sym k.events) h.among);
+  among = subst (λ q. IsAmong t.work.store.events (as_group q)) (sym pa) (subst (λ q. IsAmong q (as_group s.parked)) (sym k.events) h.among);
   levels = subst₂ (λ a b. AreLevels (lists_of t.work) a b) (sym le) (sym k.marks) (levels_more (lists_of s.work) (lists_of t.work) s.levels.items s.work.store.marks (record {
     more_events = [];
     events = k.events ∙ sym (append-nil s.work.store.events);
@@ -200,15 +202,15 @@ held_more [] ys x h = absurd h
 held_more (z ∷ xs) ys x (inl e) = inl e
 held_more (z ∷ xs) ys x (inr h) = inr (held_more xs ys x h)
 
-pub settled_stack : (s t : Stack) → IsExploring s → t.parked ≡ s.parked → t.threads.items ≡ s.threads.items → t.levels.items ≡ s.levels.items → Keeps s.work t.work → IsWork t.work
+pub settled_stack : (s t : Stack) → IsExploring s → t.parked ≡ s.parked → t.threads ≡ s.threads → t.levels.items ≡ s.levels.items → Keeps s.work t.work → IsWork t.work
     → t.work.pending.items ≡ [] → IsStack t
 settled_stack s t x pa th le k w idle = record {
   levels = keeps_levels s t x.levels pa th le k;
   as_many = ap length le ∙ x.as_many ∙ ap length (sym th);
-  fewer = (let a : length s.threads.items ≤ length s.work.store.paths = x.fewer in let b : length t.threads.items ≡ length s.threads.items = ap length th in let c : length
+  fewer = (let a : length s.threads ≤ length s.work.store.paths = x.fewer in let b : length t.threads ≡ length s.threads = ap length th in let c : length
       t.work.store.paths ≡ length s.work.store.paths + length k.more_paths = ap length k.paths ∙ length-append s.work.store.paths k.more_paths in omega (arith, a, b, c));
   whole = record {
-    search = subst (λ l. IsSearch t.work.store.events t.work.store.paths (paths_by t.work.store.paths l) (paths_by t.work.store.paths (numbers_of t.work.waiting.items))
+    search = subst (λ l. IsSearch t.work.store.events t.work.store.paths (paths_by t.work.store.paths l) (paths_by t.work.store.paths (paths_of t.work.waiting))
         (paths_by t.work.store.paths t.work.finals.items)) idle w.search;
     waits_low = w.waits_low;
     finals_low = w.finals_low;
@@ -222,34 +224,34 @@ settled_stack s t x pa th le k w idle = record {
 
 -- ---- the list changes
 
-pub post_stack : (s t : Stack) (p : Parked) → IsStack s → (¬ HasThread s.parked.items p.thread) → t.parked.items ≡ put_in p s.parked.items → t.threads ≡ s.threads
+pub post_stack : (s t : Stack) (p : Parked) → IsStack s → (¬ HasThread s.parked p.thread) → t.parked ≡ put_in p s.parked → t.threads ≡ s.threads
     → t.levels ≡ s.levels → t.work ≡ s.work → IsStack t
 post_stack s t p k none pa th le wo = record {
   levels = record {
-    rise = subst (λ q. IsGroup (as_group q)) (sym pa) (put_group p s.parked.items k.levels.rise none);
-    threads_are = subst₂ (λ a b. a.items ≡ threads_of b.store.events) (sym th) (sym wo) k.levels.threads_are;
-    among = λ u e h. subst (λ q. member_of u (as_group q) ≡ Some e) (sym pa) (put_among p s.parked.items none u e (k.levels.among u e (ap (λ b. member_of u b.store.events) (sym wo) ∙ h)));
+    rise = subst (λ q. IsGroup (as_group q)) (sym pa) (put_group p s.parked k.levels.rise none);
+    threads_are = subst₂ (λ a b. a ≡ threads_of b.store.events) (sym th) (sym wo) k.levels.threads_are;
+    among = λ u e h. subst (λ q. member_of u (as_group q) ≡ Some e) (sym pa) (put_among p s.parked none u e (k.levels.among u e (ap (λ b. member_of u b.store.events) (sym wo) ∙ h)));
     levels = subst₂ (λ a b. AreLevels (lists_of b) a.items b.store.marks) (sym le) (sym wo) k.levels.levels;
   };
-  as_many = ap₂ (λ a b. length a.items) le th ∙ k.as_many ∙ ap (λ a. length a.items) (sym th);
-  fewer = subst₂ (λ a b. length a.items ≤ length b.store.paths) (sym th) (sym wo) k.fewer;
+  as_many = ap₂ (λ a b. length a.items) le th ∙ k.as_many ∙ ap (λ a. length a) (sym th);
+  fewer = subst₂ (λ a b. length a ≤ length b.store.paths) (sym th) (sym wo) k.fewer;
   whole = subst (λ b. IsWhole (lists_of b) b.groups) (sym wo) k.whole;
   idle = subst (λ b. b.pending.items ≡ []) (sym wo) k.idle;
 }
 
-pub remove_stack : (s t : Stack) (u : ℕ) → IsStack s → has_number s.threads.items u ≡ false → t.parked.items ≡ without u s.parked.items → t.threads ≡ s.threads
+pub remove_stack : (s t : Stack) (u : ℕ) → IsStack s → has_number s.threads u ≡ false → t.parked ≡ without u s.parked → t.threads ≡ s.threads
     → t.levels ≡ s.levels → t.work ≡ s.work → IsStack t
 remove_stack s t u k gone pa th le wo = record {
   levels = record {
-    rise = subst (λ q. IsGroup (as_group q)) (sym pa) (without_group u s.parked.items k.levels.rise);
-    threads_are = subst₂ (λ a b. a.items ≡ threads_of b.store.events) (sym th) (sym wo) k.levels.threads_are;
+    rise = subst (λ q. IsGroup (as_group q)) (sym pa) (without_group u s.parked k.levels.rise);
+    threads_are = subst₂ (λ a b. a ≡ threads_of b.store.events) (sym th) (sym wo) k.levels.threads_are;
     among = λ v e h. (let f : member_of v s.work.store.events ≡ Some e = ap (λ b. member_of v b.store.events) (sym wo) ∙ h in subst (λ q. member_of v (as_group q) ≡ Some e)
-        (sym pa) (without_found u s.parked.items v e (λ same. present s.work.store.events v e
+        (sym pa) (without_found u s.parked v e (λ same. present s.work.store.events v e
         (subst (λ w. has_number (threads_of s.work.store.events) w ≡ false) same (subst (λ l. has_number l u ≡ false) k.levels.threads_are gone)) f) (k.levels.among v e f)));
     levels = subst₂ (λ a b. AreLevels (lists_of b) a.items b.store.marks) (sym le) (sym wo) k.levels.levels;
   };
-  as_many = ap₂ (λ a b. length a.items) le th ∙ k.as_many ∙ ap (λ a. length a.items) (sym th);
-  fewer = subst₂ (λ a b. length a.items ≤ length b.store.paths) (sym th) (sym wo) k.fewer;
+  as_many = ap₂ (λ a b. length a.items) le th ∙ k.as_many ∙ ap (λ a. length a) (sym th);
+  fewer = subst₂ (λ a b. length a ≤ length b.store.paths) (sym th) (sym wo) k.fewer;
   whole = subst (λ b. IsWhole (lists_of b) b.groups) (sym wo) k.whole;
   idle = subst (λ b. b.pending.items ≡ []) (sym wo) k.idle;
 }
@@ -295,17 +297,17 @@ empty_whole = record {
   planted_all = λ t e h. cc;
 }
 
-pub empty_stack : (t : Stack) → IsGroup (as_group t.parked.items) → t.threads.items ≡ [] → t.levels.items ≡ [] → t.work.store ≡ unplanted [] → t.work.moves.items ≡ []
-    → t.work.pending.items ≡ [] → t.work.waiting.items ≡ [] → t.work.finals.items ≡ [] → t.work.groups ≡ 0 → IsStack t
+pub empty_stack : (t : Stack) → IsGroup (as_group t.parked) → t.threads ≡ [] → t.levels.items ≡ [] → t.work.store ≡ unplanted [] → t.work.moves.items ≡ []
+    → t.work.pending.items ≡ [] → t.work.waiting ≡ [] → t.work.finals.items ≡ [] → t.work.groups ≡ 0 → IsStack t
 empty_stack t rise th le st mo pe wa fi gr = record {
   levels = record {
     rise = rise;
     threads_are = th ∙ ap threads_of (sym events);
-    among = subst (λ q. IsAmong q (as_group t.parked.items)) (sym events) (λ u e h. cc);
+    among = subst (λ q. IsAmong q (as_group t.parked)) (sym events) (λ u e h. cc);
     levels = subst₂ (AreLevels (lists_of t.work)) (sym le) (sym (ap (λ q. q.marks) st)) (record { as_long = refl; each = λ i l m e f. cc; rising = λ i j l k m n h e f g o. cc });
   };
   as_many = ap length le ∙ ap length (sym th);
-  fewer = (let a : length t.threads.items ≡ 0 = ap length th in omega (arith, a));
+  fewer = (let a : length t.threads ≡ 0 = ap length th in omega (arith, a));
   whole = subst₂ IsWhole (sym lists) (sym gr) empty_whole;
   idle = pe;
 }
@@ -314,7 +316,7 @@ empty_stack t rise th le st mo pe wa fi gr = record {
     events = ap (λ q. q.events) st
 
     lists : lists_of t.work ≡ record { events = []; paths = []; moves = []; waiting = []; finals = [] }
-    lists = go t.work.store.events t.work.store.paths t.work.moves.items t.work.waiting.items t.work.finals.items events (ap (λ q. q.paths) st) mo wa fi
+    lists = go t.work.store.events t.work.store.paths t.work.moves.items t.work.waiting t.work.finals.items events (ap (λ q. q.paths) st) mo wa fi
       where
         as_lists : List Member → List Path → List (Option Move) → List End → List ℕ → Lists
         as_lists e p m w f = record { events = e; paths = p; moves = m; waiting = w; finals = f }
@@ -353,10 +355,8 @@ nothing_used s k none = ap₂ (λ a b. a + b) no_paths (sym k.whole.counted.coun
 
 -- ---- events at places
 
-pub same_parked : (parked : List Parked) (i : ℕ) (p q : Parked) → slice_get parked i ≡ Some p → q ≡ get_or parked i q → p ≡ q
-same_parked [] i p q e f = cc
-same_parked (r ∷ parked) zero p q e f = (let one : r ≡ p = cc in sym one ∙ sym f)
-same_parked (r ∷ parked) (suc i) p q e f = same_parked parked i p q e f
+pub same_parked : (parked : List Parked) (i : ℕ) (p q : Parked) → slice_get parked i ≡ Some p → slice_get parked i ≡ Some q → p ≡ q
+same_parked parked i p q e f = cc
 
 pub at_last : (g : List Member) (m : Member) → slice_get (g ++ (m ∷ [])) (length g) ≡ Some m
 at_last [] m = refl

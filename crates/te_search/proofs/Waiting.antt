@@ -1,6 +1,6 @@
 -- A path in hand that has met its partners waits.
 use Rattle.std.proofs.Common.{◌≡◌, ◌⊎◌, ◌<◌, inl, inr, ℕ, zero, suc, ◌+◌, List, [], ◌∷◌, ◌++◌, length, map, Bool, true}
-use Rattle.std.proofs.Common.{false, Option, Some, None, ◌≢◌, slice_get, refl, ap, ap₂, sym, ◌∙◌, subst, arith, eqb-true, append-nil, length-append, true≢false}
+use Rattle.std.proofs.Common.{false, not, Option, Some, None, slice_get, refl, ap, ap₂, sym, ◌∙◌, subst, arith, eqb-true, append-nil, length-append}
 use Rattle.te_terms.specs.Terms.{Term}
 use Rattle.te_terms.specs.Steps.{Member, at_term, outcome_of}
 use Rattle.te_terms.proofs.OneThing.{Rests, send_is_alone, receive_is_alone}
@@ -11,16 +11,17 @@ use Rattle.te_trail.specs.Clocks.{Agree}
 use Rattle.te_trail.specs.States.{chosen, Ends, met, state_of}
 use Rattle.te_trail.proofs.MovesChain.{mapped}
 use Rattle.te_trail.proofs.MembersMove.{Handing, handing}
+use Rattle.te_pair.specs.Ends.{path_of, paths_of}
 use Rattle.te_search.specs.declared.work.Work.{Work}
-use Rattle.te_search.specs.declared.work.End.{End}
+use Rattle.te_pair.specs.declared.end.End.{End}
 use Rattle.te_search.specs.Groups.{IsFinal}
 use Rattle.te_search.specs.Searching.{path_at, paths_by, AreUp, AllFail, IsSearch}
-use Rattle.te_search.specs.Works.{path_of_end, numbers_of, AreLow, AreEnds, told, pending_of, IsCounted, IsWork, IsWorkOn, met_paths, StandsAs, IsMeeting}
+use Rattle.te_search.specs.Works.{AreLow, AreEnds, told, pending_of, IsCounted, IsWork, IsWorkOn, met_paths, StandsAs, others_of, IsMeeting}
 use Rattle.te_search.proofs.ListLaws.{holds_left, holds_right, holds_which, holds_one, holds_at, once_by_places}
 use Rattle.te_search.proofs.WorkDone.{IsStep, step_done}
 use Rattle.te_search.proofs.Trying.{listed, paths_at, get_low, path_there}
 use Rattle.te_search.proofs.Working.{map_both, at_more, get_more, by_more, low_more, low_both, counted_more, last_or_old, ends_more}
-use Rattle.te_search.proofs.Meeting.{number_there, agree_flips}
+use Rattle.te_search.proofs.Meeting.{IsThere, end_of_other, other_of_end, number_there, agree_flips}
 
 -- ---- what stands at a send or a receive does nothing else
 
@@ -90,34 +91,28 @@ pair_is false x y q r (inl e) = inr ((let a : q ≡ y = cc in a), (let b : r ≡
 pair_is false x y q r (inr (inl e)) = cc
 pair_is false x y q r (inr (inr n)) = absurd n
 
-end_of : (ends : List End) (i n : ℕ) → slice_get (numbers_of ends) i ≡ Some n → (e : End) × (slice_get ends i ≡ Some e) × (e.path ≡ n)
+end_of : (ends : List End) (i n : ℕ) → slice_get (paths_of ends) i ≡ Some n → (e : End) × (slice_get ends i ≡ Some e) × (e.path ≡ n)
 end_of [] i n e = cc
 end_of (d ∷ ends) zero n e = (d, refl, cc)
 end_of (d ∷ ends) (suc i) n e = end_of ends i n e
-
-differs : (a b : Bool) → a ≡ false → b ≡ true → a ≢ b
-differs a b e f g = true≢false (sym f ∙ sym g ∙ e)
-
-differs2 : (a b : Bool) → a ≡ true → b ≡ false → a ≢ b
-differs2 a b e f g = true≢false (sym e ∙ g ∙ f)
 
 -- ---- the path waits
 
 -- the work of which a path in hand has met all partners, with the path kept
 pub wait_done : (old mid new : Work) (p : ℕ) (x : Path) (channel : ℕ) (sends : Bool) → slice_get old.store.paths p ≡ Some x → IsWorkOn old p
-    → StandsAs old.store.events x channel sends → IsMeeting old mid x channel sends (length old.waiting.items)
+    → StandsAs old.store.events x channel sends → IsMeeting old mid x sends (others_of old channel sends) (length (others_of old channel sends))
     → new.store ≡ mid.store → new.moves.items ≡ mid.moves.items → new.pending.items ≡ mid.pending.items → new.finals.items ≡ mid.finals.items → new.groups ≡ mid.groups
-    → new.waiting.items ≡ mid.waiting.items ++ (record { path = p; channel = channel; sends = sends } ∷ []) → IsWork new
+    → new.waiting ≡ mid.waiting ++ (record { path = p; channel = channel; sends = sends } ∷ []) → IsWork new
 wait_done old mid new p x channel sends ex w stands m st mo pe fi gr wa = record {
-  search = subst (λ e. IsSearch e new.store.paths (pending_of new) (paths_by new.store.paths (numbers_of new.waiting.items)) (paths_by new.store.paths new.finals.items))
+  search = subst (λ e. IsSearch e new.store.paths (pending_of new) (paths_by new.store.paths (paths_of new.waiting)) (paths_by new.store.paths new.finals.items))
       (sym events) (search_of (step_done old.store.events old.store.paths (pending_of old) waits finals x m.news (x ∷ []) [] before step));
   pending_low = subst (AreLow new.store.paths) (sym pe) (subst (λ t. AreLow t.paths mid.pending.items) (sym st) m.gains.pending_low);
-  waits_low = subst (λ q. AreLow q (numbers_of new.waiting.items)) (sym paths)
+  waits_low = subst (λ q. AreLow q (paths_of new.waiting)) (sym paths)
       (subst (AreLow (old.store.paths ++ m.news)) (sym numbers)
-      (low_both (old.store.paths ++ m.news) (numbers_of old.waiting.items) (p ∷ []) (low_more old.store.paths m.news (numbers_of old.waiting.items) w.waits_low) p_low));
+      (low_both (old.store.paths ++ m.news) (paths_of old.waiting) (p ∷ []) (low_more old.store.paths m.news (paths_of old.waiting) w.waits_low) p_low));
   finals_low = subst (AreLow new.store.paths) (sym (fi ∙ m.gains.finals)) (subst (λ q. AreLow q old.finals.items) (sym paths) (low_more old.store.paths m.news old.finals.items w.finals_low));
-  ends = subst (λ e. AreEnds e new.store.paths new.waiting.items) (sym events)
-      (subst (AreEnds old.store.events new.store.paths) (sym waiting) (subst (λ q. AreEnds old.store.events q (old.waiting.items ++ (own ∷ []))) (sym paths) ends_are));
+  ends = subst (λ e. AreEnds e new.store.paths new.waiting) (sym events)
+      (subst (AreEnds old.store.events new.store.paths) (sym waiting) (subst (λ q. AreEnds old.store.events q (old.waiting ++ (own ∷ []))) (sym paths) ends_are));
   told_are = ap (map told) mo ∙ m.gains.moves ∙ ap (λ k. k ++ map labels_of_move m.news) w.told_are ∙ sym (map_both labels_of_move old.store.paths m.news) ∙ ap (map labels_of_move) (sym paths);
   counted = subst (λ e. IsCounted e new.store.paths (paths_by new.store.paths new.finals.items) new.groups) (sym events)
       (subst (IsCounted old.store.events new.store.paths (paths_by new.store.paths new.finals.items)) (sym (gr ∙ m.gains.groups))
@@ -129,7 +124,7 @@ wait_done old mid new p x channel sends ex w stands m st mo pe fi gr wa = record
     own = record { path = p; channel = channel; sends = sends }
 
     waits : List Path
-    waits = paths_by old.store.paths (numbers_of old.waiting.items)
+    waits = paths_by old.store.paths (paths_of old.waiting)
 
     finals : List Path
     finals = paths_by old.store.paths old.finals.items
@@ -140,11 +135,11 @@ wait_done old mid new p x channel sends ex w stands m st mo pe fi gr wa = record
     events : new.store.events ≡ old.store.events
     events = ap (λ t. t.events) st ∙ m.gains.events
 
-    waiting : new.waiting.items ≡ old.waiting.items ++ (own ∷ [])
+    waiting : new.waiting ≡ old.waiting ++ (own ∷ [])
     waiting = wa ∙ ap (λ k. k ++ (own ∷ [])) m.gains.waiting
 
-    numbers : numbers_of new.waiting.items ≡ numbers_of old.waiting.items ++ (p ∷ [])
-    numbers = ap numbers_of waiting ∙ map_both path_of_end old.waiting.items (own ∷ [])
+    numbers : paths_of new.waiting ≡ paths_of old.waiting ++ (p ∷ [])
+    numbers = ap paths_of waiting ∙ map_both path_of old.waiting (own ∷ [])
 
     p_in : p < length old.store.paths
     p_in = get_low old.store.paths x p ex
@@ -156,9 +151,9 @@ wait_done old mid new p x channel sends ex w stands m st mo pe fi gr wa = record
     hx : Holds old.store.paths x
     hx = holds_at old.store.paths p x ex
 
-    waits_same : paths_by new.store.paths (numbers_of new.waiting.items) ≡ waits ++ (x ∷ [])
-    waits_same = ap₂ paths_by paths numbers ∙ map_both (path_at (old.store.paths ++ m.news)) (numbers_of old.waiting.items) (p ∷ [])
-        ∙ ap₂ (λ a b. a ++ (b ∷ [])) (by_more old.store.paths m.news (numbers_of old.waiting.items) w.waits_low)
+    waits_same : paths_by new.store.paths (paths_of new.waiting) ≡ waits ++ (x ∷ [])
+    waits_same = ap₂ paths_by paths numbers ∙ map_both (path_at (old.store.paths ++ m.news)) (paths_of old.waiting) (p ∷ [])
+        ∙ ap₂ (λ a b. a ++ (b ∷ [])) (by_more old.store.paths m.news (paths_of old.waiting) w.waits_low)
         (at_more old.store.paths m.news p p_in ∙ path_there old.store.paths p x ex)
 
     finals_same : paths_by new.store.paths new.finals.items ≡ finals
@@ -167,13 +162,13 @@ wait_done old mid new p x channel sends ex w stands m st mo pe fi gr wa = record
     pending_same : pending_of new ≡ pending_of old ++ m.news
     pending_same = ap₂ paths_by (ap (λ t. t.paths) st) pe ∙ m.gains.pending
 
-    ends_are : AreEnds old.store.events (old.store.paths ++ m.news) (old.waiting.items ++ (own ∷ []))
-    ends_are i e y ei ey = elim (last_or_old old.waiting.items own i e ei) [
+    ends_are : AreEnds old.store.events (old.store.paths ++ m.news) (old.waiting ++ (own ∷ []))
+    ends_are i e y ei ey = elim (last_or_old old.waiting own i e ei) [
       | inl a ↦ (let at : slice_get (old.store.paths ++ m.news) p ≡ Some x = get_more old.store.paths m.news p x ex in let here : slice_get
           (old.store.paths ++ m.news) p ≡ Some y = ap (λ k. slice_get (old.store.paths ++ m.news) k.path) a.1
           ∙ ey in let same : x ≡ y = (let k : Some x ≡ Some y = sym at ∙ here in cc) in subst (λ k. StandsAs old.store.events y k.channel k.sends) a.1
           (subst (λ z. StandsAs old.store.events z channel sends) same stands))
-      | inr b ↦ ends_more old.store.events old.store.paths m.news old.waiting.items w.waits_low w.ends i e y b.1 ey
+      | inr b ↦ ends_more old.store.events old.store.paths m.news old.waiting w.waits_low w.ends i e y b.1 ey
     ]
 
     before : IsSearch old.store.events old.store.paths (pending_of old ++ (x ∷ [])) waits finals
@@ -186,18 +181,20 @@ wait_done old mid new p x channel sends ex w stands m st mo pe fi gr wa = record
     store = subst (λ e. IsStore e (old.store.paths ++ m.news)) m.gains.events (subst (IsStore mid.store.events) m.gains.paths m.gains.store)
 
     -- a kept end with its number
-    kept_end : (y : Path) → Holds waits y → (j : ℕ) × (e : End) × (slice_get old.waiting.items j ≡ Some e) × (slice_get old.store.paths e.path ≡ Some y)
+    kept_end : (y : Path) → Holds waits y → (j : ℕ) × (e : End) × (slice_get old.waiting j ≡ Some e) × (slice_get old.store.paths e.path ≡ Some y)
     kept_end y h =
-        let l : (i : ℕ) × (n : ℕ) × (slice_get (numbers_of old.waiting.items) i ≡ Some n) × (slice_get old.store.paths n ≡ Some y) = listed old.store.paths
-        (numbers_of old.waiting.items) w.waits_low y h in
-        let e : (e : End) × (slice_get old.waiting.items l.0 ≡ Some e) × (e.path ≡ l.1) = end_of old.waiting.items l.0 l.1 l.2 in
+        let l : (i : ℕ) × (n : ℕ) × (slice_get (paths_of old.waiting) i ≡ Some n) × (slice_get old.store.paths n ≡ Some y) = listed old.store.paths
+        (paths_of old.waiting) w.waits_low y h in
+        let e : (e : End) × (slice_get old.waiting l.0 ≡ Some e) × (e.path ≡ l.1) = end_of old.waiting l.0 l.1 l.2 in
         (l.0, e.0, e.1, ap (slice_get old.store.paths) e.2 ∙ l.3)
 
-    partner : (y : Path) → Holds waits y → Agree x y → ((e : End) → StandsAs old.store.events y e.channel e.sends → (e.channel ≡ channel) × (e.sends ≢ sends)) → (z : Path)
+    partner : (y : Path) → Holds waits y → Agree x y → ((e : End) → StandsAs old.store.events y e.channel e.sends → (e.channel ≡ channel) × (e.sends ≡ not sends)) → (z : Path)
         → Holds (met_paths sends x y) z → Holds m.news z
-    partner y h ag fits z hz = let k : (j : ℕ) × (e : End) × (slice_get old.waiting.items j ≡ Some e) × (slice_get old.store.paths e.path ≡ Some y) = kept_end y h in let f :
-        (k.1.channel ≡ channel) × (k.1.sends ≢ sends) = fits k.1 (w.ends k.0 k.1 y k.2 k.3) in
-        m.made k.0 k.1 y (get_low old.waiting.items k.1 k.0 k.2) k.2 k.3 (f.0, f.1, ag) z hz
+    partner y h ag fits z hz =
+        let k : (j : ℕ) × (e : End) × (slice_get old.waiting j ≡ Some e) × (slice_get old.store.paths e.path ≡ Some y) = kept_end y h in
+        let f : (k.1.channel ≡ channel) × (k.1.sends ≡ not sends) = fits k.1 (w.ends k.0 k.1 y k.2 k.3) in
+        let o : (j : ℕ) × (slice_get (others_of old channel sends) j ≡ Some k.1.path) = other_of_end old.waiting channel (not sends) k.0 k.1 k.2 f.0 f.1 in
+        m.made o.0 k.1.path y (get_low (others_of old channel sends) k.1.path o.0 o.1) o.1 k.3 ag z hz
 
     meet_both : (q r : Path) (a b : Member) (e : Ends) → Holds waits q ⊎ Holds (x ∷ []) q → Holds waits r ⊎ Holds (x ∷ []) r → Agree q r → state_of old.store.events q ≡ Some a
         → state_of old.store.events r ≡ Some b → met a b ≡ Some e → Holds (old.store.paths ++ m.news) (sent q r) × Holds (old.store.paths ++ m.news) (got q r)
@@ -210,7 +207,7 @@ wait_done old mid new p x channel sends ex w stands m st mo pe fi gr wa = record
         let s : (sends ≡ true) × (h.message.channel ≡ channel) = sender_side old.store.events x channel sends a b e stands (ap (state_of old.store.events) (sym one) ∙ sa) h in
         let p2 : (z : Path) → Holds (met_paths sends x r) z → Holds m.news z = partner r hr (subst (λ k. Agree k r) one ag)
         (λ d sd. (let t : (d.sends ≡ false) × (h.channel ≡ d.channel) = receiver_side old.store.events r d.channel d.sends a b e sd sb h in
-        (sym t.1 ∙ sym (eqb-true h.message.channel h.channel h.same) ∙ s.1, differs d.sends sends t.0 s.0))) in
+        (sym t.1 ∙ sym (eqb-true h.message.channel h.channel h.same) ∙ s.1, t.0 ∙ ap not (sym s.0)))) in
         let f : Holds (met_paths sends x r) (sent x r) × Holds (met_paths sends x r) (got x r) = pair_first sends x r s.0 in
         subst (λ k. Holds (old.store.paths ++ m.news) (sent k r) × Holds (old.store.paths ++ m.news) (got k r)) (sym one)
         (holds_right old.store.paths m.news (sent x r) (p2 (sent x r) f.0), holds_right old.store.paths m.news (got x r) (p2 (got x r) f.1))
@@ -222,7 +219,7 @@ wait_done old mid new p x channel sends ex w stands m st mo pe fi gr wa = record
         let p2 : (z : Path) → Holds (met_paths sends x q) z
         → Holds m.news z = partner q hq (agree_flips q x (before.store.sound q hq2) (before.store.sound x hx) (subst (Agree q) one ag))
         (λ d sd. (let t : (d.sends ≡ true) × (h.message.channel ≡ d.channel) = sender_side old.store.events q d.channel d.sends a b e sd sa h in
-        (sym t.1 ∙ eqb-true h.message.channel h.channel h.same ∙ s.1, differs2 d.sends sends t.0 s.0))) in
+        (sym t.1 ∙ eqb-true h.message.channel h.channel h.same ∙ s.1, t.0 ∙ ap not (sym s.0)))) in
         let f : Holds (met_paths sends x q) (sent q x) × Holds (met_paths sends x q) (got q x) = pair_second sends x q s.0 in
         subst (λ k. Holds (old.store.paths ++ m.news) (sent q k) × Holds (old.store.paths ++ m.news) (got q k)) (sym one)
         (holds_right old.store.paths m.news (sent q x) (p2 (sent q x) f.0), holds_right old.store.paths m.news (got q x) (p2 (got q x) f.1))
@@ -242,20 +239,23 @@ wait_done old mid new p x channel sends ex w stands m st mo pe fi gr wa = record
       kept_once = ((λ n. n), tt);
       ended_once = tt;
       branched_of = λ q l h. (let f = m.from (branched q l) h in absurd (no_branch sends x f.2 q l f.7));
-      met_of = λ q r h. (let f = m.from (sent q r) h in both_kept q r f.2
-          (holds_at waits f.0 f.2 (paths_at old.store.paths (numbers_of old.waiting.items) f.0 f.1.path f.2 (number_there old.waiting.items f.0 f.1 f.4) f.5))
-          (pair_is sends x f.2 q r f.7));
+      met_of = λ q r h. (let f = m.from (sent q r) h in both_kept q r f.2 (other_waits f.0 f.1 f.2 f.4 f.5) (pair_is sends x f.2 q r f.7));
       meetings = λ q r a b e hq hr ag sa sb mt. meet_both q r a b e (holds_which waits (x ∷ []) q hq) (holds_which waits (x ∷ []) r hr) ag sa sb mt;
       failed = subst (AllFail old.store.events) (sym (append-nil finals)) before.failed;
     }
       where
+        other_waits : (j q : ℕ) (y : Path) → slice_get (others_of old channel sends) j ≡ Some q → slice_get old.store.paths q ≡ Some y → Holds waits y
+        other_waits j q y e ey = (let t : IsThere old.waiting channel (not sends) q = end_of_other old.waiting channel (not sends) j q e in
+            holds_at waits t.place y (paths_at old.store.paths (paths_of old.waiting) t.place t.end.path y (number_there old.waiting t.place t.end t.is)
+            (ap (slice_get old.store.paths) t.path ∙ ey)))
+
         both_kept : (q r y : Path) → Holds waits y → ((q ≡ x) × (r ≡ y)) ⊎ ((q ≡ y) × (r ≡ x)) → Holds (waits ++ (x ∷ [])) q × Holds (waits ++ (x ∷ [])) r
         both_kept q r y hy (inl (a, b)) = (holds_right waits (x ∷ []) q (inl a), holds_left waits (x ∷ []) r (subst (Holds waits) (sym b) hy))
         both_kept q r y hy (inr (a, b)) = (holds_left waits (x ∷ []) q (subst (Holds waits) (sym a) hy), holds_right waits (x ∷ []) r (inl b))
 
     search_of : IsSearch old.store.events (old.store.paths ++ m.news) (pending_of old ++ m.news) (waits ++ (x ∷ [])) (finals ++ [])
-        → IsSearch old.store.events new.store.paths (pending_of new) (paths_by new.store.paths (numbers_of new.waiting.items)) (paths_by new.store.paths new.finals.items)
-    search_of s = subst (λ q. IsSearch old.store.events q (pending_of new) (paths_by new.store.paths (numbers_of new.waiting.items)) (paths_by new.store.paths new.finals.items)) (sym paths)
-        (subst (λ d. IsSearch old.store.events (old.store.paths ++ m.news) d (paths_by new.store.paths (numbers_of new.waiting.items)) (paths_by new.store.paths new.finals.items)) (sym pending_same)
+        → IsSearch old.store.events new.store.paths (pending_of new) (paths_by new.store.paths (paths_of new.waiting)) (paths_by new.store.paths new.finals.items)
+    search_of s = subst (λ q. IsSearch old.store.events q (pending_of new) (paths_by new.store.paths (paths_of new.waiting)) (paths_by new.store.paths new.finals.items)) (sym paths)
+        (subst (λ d. IsSearch old.store.events (old.store.paths ++ m.news) d (paths_by new.store.paths (paths_of new.waiting)) (paths_by new.store.paths new.finals.items)) (sym pending_same)
         (subst (λ a. IsSearch old.store.events (old.store.paths ++ m.news) (pending_of old ++ m.news) a (paths_by new.store.paths new.finals.items)) (sym waits_same)
         (subst (IsSearch old.store.events (old.store.paths ++ m.news) (pending_of old ++ m.news) (waits ++ (x ∷ []))) (append-nil finals ∙ sym finals_same) s)))

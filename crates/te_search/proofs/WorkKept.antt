@@ -2,12 +2,12 @@
 use Rattle.std.proofs.Common.{◌≡◌, ℕ, List, [], ◌∷◌, ◌++◌, Option, ap, sym, ◌∙◌, subst, refl, append_assoc, append-nil}
 use Rattle.te_trail.specs.declared.moves.Move.{Move}
 use Rattle.te_trail.specs.Paths.{Path}
-use Rattle.te_search.specs.declared.work.End.{End}
+use Rattle.te_pair.specs.declared.end.End.{End}
 use Rattle.te_search.specs.declared.work.Work.{Work}
 use Rattle.te_search.specs.Works.{Keeps}
 
 -- nothing is new
-pub keeps_same : (old new : Work) → new.store ≡ old.store → new.moves.items ≡ old.moves.items → new.waiting.items ≡ old.waiting.items → new.finals.items ≡ old.finals.items → Keeps old new
+pub keeps_same : (old new : Work) → new.store ≡ old.store → new.moves.items ≡ old.moves.items → new.waiting ≡ old.waiting → new.finals.items ≡ old.finals.items → Keeps old new
 keeps_same old new st mo wa fi = record {
   events = ap (λ t. t.events) st;
   marks = ap (λ t. t.marks) st;
@@ -16,7 +16,7 @@ keeps_same old new st mo wa fi = record {
   more_moves = [];
   moves = mo ∙ sym (append-nil old.moves.items);
   more_waiting = [];
-  waiting = wa ∙ sym (append-nil old.waiting.items);
+  waiting = wa ∙ sym (append-nil old.waiting);
   more_finals = [];
   finals = fi ∙ sym (append-nil old.finals.items);
 }
@@ -36,7 +36,7 @@ keeps_both a b c k l = record {
   more_moves = k.more_moves ++ l.more_moves;
   moves = both_more a.moves.items b.moves.items c.moves.items k.more_moves l.more_moves k.moves l.moves;
   more_waiting = k.more_waiting ++ l.more_waiting;
-  waiting = both_more a.waiting.items b.waiting.items c.waiting.items k.more_waiting l.more_waiting k.waiting l.waiting;
+  waiting = both_more a.waiting b.waiting c.waiting k.more_waiting l.more_waiting k.waiting l.waiting;
   more_finals = k.more_finals ++ l.more_finals;
   finals = both_more a.finals.items b.finals.items c.finals.items k.more_finals l.more_finals k.finals l.finals;
 }
@@ -44,7 +44,7 @@ keeps_both a b c k l = record {
 -- new paths and their moves alone
 pub keeps_paths : (old new : Work) (xs : List Path) (ms : List (Option Move)) → new.store.events ≡ old.store.events → new.store.marks ≡ old.store.marks
     → new.store.paths ≡ old.store.paths ++ xs → new.moves.items ≡ old.moves.items ++ ms
-    → new.waiting.items ≡ old.waiting.items → new.finals.items ≡ old.finals.items → Keeps old new
+    → new.waiting ≡ old.waiting → new.finals.items ≡ old.finals.items → Keeps old new
 keeps_paths old new xs ms ev mk ps mo wa fi = record {
   events = ev;
   marks = mk;
@@ -53,13 +53,13 @@ keeps_paths old new xs ms ev mk ps mo wa fi = record {
   more_moves = ms;
   moves = mo;
   more_waiting = [];
-  waiting = wa ∙ sym (append-nil old.waiting.items);
+  waiting = wa ∙ sym (append-nil old.waiting);
   more_finals = [];
   finals = fi ∙ sym (append-nil old.finals.items);
 }
 
 -- one more final path, or waiting end
-pub keeps_final : (old new : Work) (p : ℕ) → new.store ≡ old.store → new.moves.items ≡ old.moves.items → new.waiting.items ≡ old.waiting.items
+pub keeps_final : (old new : Work) (p : ℕ) → new.store ≡ old.store → new.moves.items ≡ old.moves.items → new.waiting ≡ old.waiting
     → new.finals.items ≡ old.finals.items ++ (p ∷ []) → Keeps old new
 keeps_final old new p st mo wa fi = record {
   events = ap (λ t. t.events) st;
@@ -69,12 +69,12 @@ keeps_final old new p st mo wa fi = record {
   more_moves = [];
   moves = mo ∙ sym (append-nil old.moves.items);
   more_waiting = [];
-  waiting = wa ∙ sym (append-nil old.waiting.items);
+  waiting = wa ∙ sym (append-nil old.waiting);
   more_finals = p ∷ [];
   finals = fi;
 }
 
-pub keeps_end : (old new : Work) (e : End) → new.store ≡ old.store → new.moves.items ≡ old.moves.items → new.waiting.items ≡ old.waiting.items ++ (e ∷ [])
+pub keeps_end : (old new : Work) (e : End) → new.store ≡ old.store → new.moves.items ≡ old.moves.items → new.waiting ≡ old.waiting ++ (e ∷ [])
     → new.finals.items ≡ old.finals.items → Keeps old new
 keeps_end old new e st mo wa fi = record {
   events = ap (λ t. t.events) st;

@@ -12,11 +12,12 @@ use Rattle.te_trail.specs.Stores.{Holds, IsStore, labels_of_move}
 use Rattle.te_trail.specs.Trails.{with_paths, IsAtChoice, IsUnmade}
 use Rattle.te_trail.specs.States.{chosen, state_of, HasState}
 use Rattle.te_trail.proofs.MembersMove.{Handing, handing}
+use Rattle.te_pair.specs.Ends.{paths_of}
 use Rattle.te_search.specs.declared.work.Work.{Work}
-use Rattle.te_search.specs.declared.work.End.{End}
+use Rattle.te_pair.specs.declared.end.End.{End}
 use Rattle.te_search.specs.Groups.{IsFinal, Partial, IsPartial}
 use Rattle.te_search.specs.Searching.{path_at, paths_by, AreUp, NoneTwice, AllFail, MayMeet, IsSearch}
-use Rattle.te_search.specs.Works.{numbers_of, AreLow, AreEnds, told, pending_of, IsCounted, IsWork, IsWorkOn, Gains, IsNear, IsSpentAt}
+use Rattle.te_search.specs.Works.{AreLow, AreEnds, told, pending_of, IsCounted, IsWork, IsWorkOn, Gains, IsNear, IsSpentAt}
 use Rattle.te_search.proofs.ListLaws.{holds_left, holds_right, holds_which, holds_one, holds_at, place_of, once_by_places}
 use Rattle.te_search.proofs.WorkDone.{IsStep, step_done, final_cannot_choose}
 use Rattle.te_search.proofs.PartialLaws.{all_by}
@@ -61,7 +62,7 @@ at_end (y ∷ paths) x more = at_end paths x more
 
 pub gains_one : (old new : Work) (x : Path) → new.store ≡ with_paths old.store (x ∷ []) → IsStore new.store.events new.store.paths
     → new.pending.items ≡ old.pending.items ++ (length old.store.paths ∷ []) → map told new.moves.items ≡ map told old.moves.items ++ (labels_of_move x ∷ [])
-    → new.waiting.items ≡ old.waiting.items → new.finals.items ≡ old.finals.items → new.groups ≡ old.groups → AreLow old.store.paths old.pending.items → Gains old new (x ∷ [])
+    → new.waiting ≡ old.waiting → new.finals.items ≡ old.finals.items → new.groups ≡ old.groups → AreLow old.store.paths old.pending.items → Gains old new (x ∷ [])
 gains_one old new x is store pending moves waiting finals groups low = record {
   paths = ps;
   events = ap (λ t. t.events) is;
@@ -91,7 +92,7 @@ two_same a b c d e f = ap₂ (λ u v. u ∷ (v ∷ [])) e f
 pub gains_two : (old new : Work) (x y : Path) → new.store ≡ with_paths old.store (x ∷ (y ∷ [])) → IsStore new.store.events new.store.paths
     → new.pending.items ≡ old.pending.items ++ (length old.store.paths ∷ ((length old.store.paths + 1) ∷ [])) → map told new.moves.items ≡ map told old.moves.items ++
     (labels_of_move x ∷ (labels_of_move y ∷ []))
-    → new.waiting.items ≡ old.waiting.items → new.finals.items ≡ old.finals.items → new.groups ≡ old.groups → AreLow old.store.paths old.pending.items → Gains old new (x ∷ (y ∷ []))
+    → new.waiting ≡ old.waiting → new.finals.items ≡ old.finals.items → new.groups ≡ old.groups → AreLow old.store.paths old.pending.items → Gains old new (x ∷ (y ∷ []))
 gains_two old new x y is store pending moves waiting finals groups low = record {
   paths = ps;
   events = ap (λ t. t.events) is;
@@ -174,10 +175,10 @@ ups_more paths x ups up k z y e f = elim (last_or_old paths x k z e) [
 ]
 
 -- another list of kept ends over more paths
-pub ends_more : (g : List Member) (paths more : List Path) (ends : List End) → AreLow paths (numbers_of ends) → AreEnds g paths ends → AreEnds g (paths ++ more) ends
+pub ends_more : (g : List Member) (paths more : List Path) (ends : List End) → AreLow paths (paths_of ends) → AreEnds g paths ends → AreEnds g (paths ++ more) ends
 ends_more g paths more ends low are i e x ee ex = are i e x ee (old (low i e.path (number_there ends i e ee)))
   where
-    number_there : (ends : List End) (i : ℕ) (e : End) → slice_get ends i ≡ Some e → slice_get (numbers_of ends) i ≡ Some e.path
+    number_there : (ends : List End) (i : ℕ) (e : End) → slice_get ends i ≡ Some e → slice_get (paths_of ends) i ≡ Some e.path
     number_there [] i e h = cc
     number_there (d ∷ ends) zero e h = (let one : d ≡ e = cc in ap (λ q. Some q.path) one)
     number_there (d ∷ ends) (suc i) e h = number_there ends i e h
@@ -192,15 +193,15 @@ pub work_gained : (old new : Work) (p : ℕ) (x : Path) (news : List Path) → s
     → (¬ IsFinal old.store.events x)
     → ((q : Path) (l : Bool) → Holds news (branched q l) → q ≡ x) → ((q r : Path) → ¬ Holds news (sent q r)) → IsWork new
 work_gained old new p x news ex w g ups chooses meets_not final_not branches none_met = record {
-  search = subst (λ e. IsSearch e new.store.paths (pending_of new) (paths_by new.store.paths (numbers_of new.waiting.items)) (paths_by new.store.paths new.finals.items))
+  search = subst (λ e. IsSearch e new.store.paths (pending_of new) (paths_by new.store.paths (paths_of new.waiting)) (paths_by new.store.paths new.finals.items))
       (sym g.events) (search_of (step_done old.store.events old.store.paths (pending_of old) waits finals x news [] [] before step));
   pending_low = g.pending_low;
-  waits_low = subst (λ k. AreLow new.store.paths (numbers_of k)) (sym g.waiting)
-      (subst (λ q. AreLow q (numbers_of old.waiting.items)) (sym g.paths) (low_more old.store.paths news (numbers_of old.waiting.items) w.waits_low));
+  waits_low = subst (λ k. AreLow new.store.paths (paths_of k)) (sym g.waiting)
+      (subst (λ q. AreLow q (paths_of old.waiting)) (sym g.paths) (low_more old.store.paths news (paths_of old.waiting) w.waits_low));
   finals_low = subst (AreLow new.store.paths) (sym g.finals) (subst (λ q. AreLow q old.finals.items) (sym g.paths) (low_more old.store.paths news old.finals.items w.finals_low));
-  ends = subst (λ e. AreEnds e new.store.paths new.waiting.items) (sym g.events)
+  ends = subst (λ e. AreEnds e new.store.paths new.waiting) (sym g.events)
       (subst (AreEnds old.store.events new.store.paths) (sym g.waiting)
-      (subst (λ q. AreEnds old.store.events q old.waiting.items) (sym g.paths) (ends_more old.store.events old.store.paths news old.waiting.items w.waits_low w.ends)));
+      (subst (λ q. AreEnds old.store.events q old.waiting) (sym g.paths) (ends_more old.store.events old.store.paths news old.waiting w.waits_low w.ends)));
   told_are = g.moves ∙ ap (λ m. m ++ map labels_of_move news) w.told_are ∙ sym (map_both labels_of_move old.store.paths news) ∙ ap (map labels_of_move) (sym g.paths);
   counted = subst (λ e. IsCounted e new.store.paths (paths_by new.store.paths new.finals.items) new.groups) (sym g.events)
       (subst (IsCounted old.store.events new.store.paths (paths_by new.store.paths new.finals.items)) (sym g.groups)
@@ -209,13 +210,13 @@ work_gained old new p x news ex w g ups chooses meets_not final_not branches non
 }
   where
     waits : List Path
-    waits = paths_by old.store.paths (numbers_of old.waiting.items)
+    waits = paths_by old.store.paths (paths_of old.waiting)
 
     finals : List Path
     finals = paths_by old.store.paths old.finals.items
 
-    waits_same : paths_by new.store.paths (numbers_of new.waiting.items) ≡ waits
-    waits_same = ap₂ (λ q k. paths_by q (numbers_of k)) g.paths g.waiting ∙ by_more old.store.paths news (numbers_of old.waiting.items) w.waits_low
+    waits_same : paths_by new.store.paths (paths_of new.waiting) ≡ waits
+    waits_same = ap₂ (λ q k. paths_by q (paths_of k)) g.paths g.waiting ∙ by_more old.store.paths news (paths_of old.waiting) w.waits_low
 
     finals_same : paths_by new.store.paths new.finals.items ≡ finals
     finals_same = ap₂ paths_by g.paths g.finals ∙ by_more old.store.paths news old.finals.items w.finals_low
@@ -248,9 +249,9 @@ work_gained old new p x news ex w g ups chooses meets_not final_not branches non
     }
 
     search_of : IsSearch old.store.events (old.store.paths ++ news) (pending_of old ++ news) (waits ++ []) (finals ++ [])
-        → IsSearch old.store.events new.store.paths (pending_of new) (paths_by new.store.paths (numbers_of new.waiting.items)) (paths_by new.store.paths new.finals.items)
-    search_of s = subst (λ q. IsSearch old.store.events q (pending_of new) (paths_by new.store.paths (numbers_of new.waiting.items)) (paths_by new.store.paths new.finals.items)) (sym g.paths)
-        (subst (λ d. IsSearch old.store.events (old.store.paths ++ news) d (paths_by new.store.paths (numbers_of new.waiting.items)) (paths_by new.store.paths new.finals.items)) (sym g.pending)
+        → IsSearch old.store.events new.store.paths (pending_of new) (paths_by new.store.paths (paths_of new.waiting)) (paths_by new.store.paths new.finals.items)
+    search_of s = subst (λ q. IsSearch old.store.events q (pending_of new) (paths_by new.store.paths (paths_of new.waiting)) (paths_by new.store.paths new.finals.items)) (sym g.paths)
+        (subst (λ d. IsSearch old.store.events (old.store.paths ++ news) d (paths_by new.store.paths (paths_of new.waiting)) (paths_by new.store.paths new.finals.items)) (sym g.pending)
         (subst (λ a. IsSearch old.store.events (old.store.paths ++ news) (pending_of old ++ news) a (paths_by new.store.paths new.finals.items)) (append-nil waits ∙ sym waits_same)
         (subst (IsSearch old.store.events (old.store.paths ++ news) (pending_of old ++ news) (waits ++ [])) (append-nil finals ∙ sym finals_same) s)))
 

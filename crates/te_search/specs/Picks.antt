@@ -18,7 +18,7 @@ use Rattle.te_search.specs.Searching.{AreUp}
 use Rattle.te_search.specs.Assemblies.{joint, Names, Numbers, IsOfThreads, Crew, Reaches}
 use Rattle.te_search.specs.declared.certifying.Gathered.{Gathered}
 use Rattle.te_search.specs.Works.{threads_of}
-use Rattle.te_search.specs.Stacks.{has_number}
+use Rattle.te_search.specs.Plantings.{has_number}
 
 -- agreeing final paths, one for each thread of their joined past, which the numbers name
 pub record Picks (g : List steps.Member) (paths : List Path) (threads : List ℕ) (joined : List (Option ℕ)) (ps : List Path) : Type 0 where

@@ -7,12 +7,14 @@ use Rattle.te_trail.specs.declared.moves.Move.{Move}
 use Rattle.te_trail.specs.Trails.{Mark}
 use Rattle.te_trail.specs.Paths.{Path, planted}
 use Rattle.te_trail.specs.Stores.{Holds, labels_of_move}
-use Rattle.te_search.specs.declared.work.End.{End}
+use Rattle.te_pair.specs.declared.end.End.{End}
+use Rattle.te_pair.specs.Ends.{paths_of}
 use Rattle.te_search.specs.declared.work.Work.{Work}
 use Rattle.te_search.specs.declared.stack.Level.{Level}
 use Rattle.te_search.specs.declared.stack.Stack.{Stack}
 use Rattle.te_search.specs.Searching.{paths_by, IsSearch}
-use Rattle.te_search.specs.Works.{numbers_of, AreLow, AreEnds, told, IsCounted, IsWork, threads_of}
+use Rattle.te_search.specs.Plantings.{has_number}
+use Rattle.te_search.specs.Works.{AreLow, AreEnds, told, IsCounted, IsWork, threads_of}
 
 -- ---- the lists of a search
 
@@ -24,12 +26,12 @@ pub record Lists : Type 0 where
   pub finals : List ℕ
 
 abbrev pub lists_of : Work → Lists
-lists_of w = record { events = w.store.events; paths = w.store.paths; moves = w.moves.items; waiting = w.waiting.items; finals = w.finals.items }
+lists_of w = record { events = w.store.events; paths = w.store.paths; moves = w.moves.items; waiting = w.waiting; finals = w.finals.items }
 
 -- a search with nothing left to do, every event planted
 pub record IsWhole (l : Lists) (groups : ℕ) : Type 0 where
-  pub search : IsSearch l.events l.paths [] (paths_by l.paths (numbers_of l.waiting)) (paths_by l.paths l.finals)
-  pub waits_low : AreLow l.paths (numbers_of l.waiting)
+  pub search : IsSearch l.events l.paths [] (paths_by l.paths (paths_of l.waiting)) (paths_by l.paths l.finals)
+  pub waits_low : AreLow l.paths (paths_of l.waiting)
   pub finals_low : AreLow l.paths l.finals
   pub ends : AreEnds l.events l.paths l.waiting
   pub told_are : map told l.moves ≡ map labels_of_move l.paths
@@ -90,34 +92,25 @@ AreFew parked = (i : ℕ) (p : Parked) → slice_get parked i ≡ Some p → p.t
 
 -- parked events of which some are planted, over levels
 pub record HasLevels (s : Stack) : Type 0 where
-  pub rise : IsGroup (as_group s.parked.items)
-  pub threads_are : s.threads.items ≡ threads_of s.work.store.events
-  pub among : IsAmong s.work.store.events (as_group s.parked.items)
+  pub rise : IsGroup (as_group s.parked)
+  pub threads_are : s.threads ≡ threads_of s.work.store.events
+  pub among : IsAmong s.work.store.events (as_group s.parked)
   pub levels : AreLevels (lists_of s.work) s.levels.items s.work.store.marks
 
 -- and nothing is left to do on those that are planted
 pub record IsStack (s : Stack) : Type 0 where
   pub levels : HasLevels s
-  pub as_many : length s.levels.items ≡ length s.threads.items
-  pub fewer : length s.threads.items ≤ length s.work.store.paths
+  pub as_many : length s.levels.items ≡ length s.threads
+  pub fewer : length s.threads ≤ length s.work.store.paths
   pub whole : IsWhole (lists_of s.work) s.work.groups
   pub idle : s.work.pending.items ≡ []
 
 -- ---- what is planted
 
-abbrev pub has_number : List ℕ → ℕ → Bool
-has_number [] t = false
-has_number (s ∷ ss) t = nat_eq s t || has_number ss t
-
 -- how many events aren't planted yet
 abbrev pub count_left : List ℕ → List Parked → ℕ
 count_left threads [] = 0
 count_left threads (p ∷ ps) = cond (has_number threads p.thread) (count_left threads ps) (suc (count_left threads ps))
-
--- the first place of the number
-abbrev pub IsPlaceOf : List ℕ → ℕ → Option ℕ → Type 0
-IsPlaceOf ns t None = has_number ns t ≡ false
-IsPlaceOf ns t (Some i) = (slice_get ns i ≡ Some t) × (has_number (take i ns) t ≡ false)
 
 -- a place whose event isn't planted
 abbrev pub IsLeft : List ℕ → List Parked → Option ℕ → Type 0
@@ -136,24 +129,24 @@ IsLow parked best = MatchOption best (Unit {0}) (λ b. b < length parked)
 -- a level has begun, and its event isn't put yet
 pub record IsReady (s : Stack) : Type 0 where
   pub levels : HasLevels s
-  pub one_more : length s.levels.items ≡ length s.threads.items + 1
-  pub fewer : length s.threads.items ≤ length s.work.store.paths
+  pub one_more : length s.levels.items ≡ length s.threads + 1
+  pub fewer : length s.threads ≤ length s.work.store.paths
   pub whole : IsWhole (lists_of s.work) s.work.groups
   pub idle : s.work.pending.items ≡ []
 
 -- a level more, and nothing else is new
 pub record IsBegun (old new : Stack) : Type 0 where
   pub ready : IsReady new
-  pub threads : new.threads.items ≡ old.threads.items
+  pub threads : new.threads ≡ old.threads
   pub paths : new.work.store.paths ≡ old.work.store.paths
   pub groups : new.work.groups ≡ old.work.groups
 
 -- the event of the top level is planted, and all work that is left is on its paths
 pub record IsExploring (s : Stack) : Type 0 where
   pub levels : HasLevels s
-  pub as_many : length s.levels.items ≡ length s.threads.items
+  pub as_many : length s.levels.items ≡ length s.threads
   pub some_level : 0 < length s.levels.items
-  pub fewer : length s.threads.items ≤ length s.work.store.paths
+  pub fewer : length s.threads ≤ length s.work.store.paths
   pub work : IsWork s.work
   pub planted_all : (t : ℕ) (e : Member) → member_of t s.work.store.events ≡ Some e → Holds s.work.store.paths (planted t)
 
@@ -162,7 +155,7 @@ pub record IsOpened (old new : Stack) : Type 0 where
   pub exploring : IsExploring new
   pub paths : length new.work.store.paths ≡ length old.work.store.paths + 1
   pub groups : new.work.groups ≡ old.work.groups
-  pub left : count_left new.threads.items new.parked.items < count_left old.threads.items old.parked.items
+  pub left : count_left new.threads new.parked < count_left old.threads old.parked
 
 -- ---- the list
 
@@ -181,7 +174,7 @@ pub record IsPlaceWith (parked : List Parked) (t i : ℕ) : Type 0 where
 
 abbrev pub parked_of : Option Stack → List Parked
 parked_of None = []
-parked_of (Some s) = s.parked.items
+parked_of (Some s) = s.parked
 
 abbrev pub IsKept : Option Stack → Type 0
 IsKept stack = MatchOption stack (Unit {0}) IsStack

@@ -1,5 +1,5 @@
 -- How a search keeps its work. No public clause cites this module.
-use Rattle.std.specs.Prelude.{◌≡◌, ◌≢◌, ◌⊎◌, ◌≤◌, ◌<◌, ◌+◌, ℕ, List, [], ◌∷◌, ◌++◌, map, length, Bool, true, false, Option, Some, None, slice_get, MatchBool, MatchOption}
+use Rattle.std.specs.Prelude.{◌≡◌, ◌⊎◌, ◌≤◌, ◌<◌, ◌+◌, ℕ, List, [], ◌∷◌, ◌++◌, map, length, Bool, true, false, not, Option, Some, None, slice_get, MatchBool, MatchOption}
 use Rattle.std.proofs.Common.{Vec, Global}
 use Rattle.std.specs.List.{AllByRecursion}
 use Rattle.te_terms.specs.Steps.{Member}
@@ -11,17 +11,12 @@ use Rattle.te_trail.specs.Paths.{Path, sent, got}
 use Rattle.te_trail.specs.Clocks.{Agree}
 use Rattle.te_trail.specs.States.{state_of}
 use Rattle.te_trail.specs.Stores.{Holds, IsStore, labels_of_move}
-use Rattle.te_search.specs.declared.work.End.{End}
+use Rattle.te_pair.specs.declared.end.End.{End}
+use Rattle.te_pair.specs.Ends.{paths_of, paths_at}
 use Rattle.te_search.specs.declared.work.Work.{Work}
 use Rattle.te_search.specs.Groups.{IsFinal, Partial, AreTried}
 use Rattle.te_search.specs.Assemblies.{Stand, IsFound}
 use Rattle.te_search.specs.Searching.{path_at, paths_by, AreUp, IsSearch}
-
-abbrev pub path_of_end : End → ℕ
-path_of_end e = e.path
-
-abbrev pub numbers_of : List End → List ℕ
-numbers_of ends = map path_of_end ends
 
 -- the numbers are those of paths
 abbrev pub AreLow : List Path → List ℕ → Type 0
@@ -50,11 +45,11 @@ pub record IsCounted (g : List Member) (paths finals : List Path) (count : ℕ) 
 
 -- the paths that are still to be worked on are these, and perhaps others in hand
 pub record IsWorkOf (w : Work) (pending : List Path) : Type 0 where
-  pub search : IsSearch w.store.events w.store.paths pending (paths_by w.store.paths (numbers_of w.waiting.items)) (paths_by w.store.paths w.finals.items)
+  pub search : IsSearch w.store.events w.store.paths pending (paths_by w.store.paths (paths_of w.waiting)) (paths_by w.store.paths w.finals.items)
   pub pending_low : AreLow w.store.paths w.pending.items
-  pub waits_low : AreLow w.store.paths (numbers_of w.waiting.items)
+  pub waits_low : AreLow w.store.paths (paths_of w.waiting)
   pub finals_low : AreLow w.store.paths w.finals.items
-  pub ends : AreEnds w.store.events w.store.paths w.waiting.items
+  pub ends : AreEnds w.store.events w.store.paths w.waiting
   pub told_are : map told w.moves.items ≡ map labels_of_move w.store.paths
   pub counted : IsCounted w.store.events w.store.paths (paths_by w.store.paths w.finals.items) w.groups
 
@@ -76,7 +71,7 @@ pub record Gains (old new : Work) (news : List Path) : Type 0 where
   pub pending : pending_of new ≡ pending_of old ++ news
   pub pending_low : AreLow new.store.paths new.pending.items
   pub moves : map told new.moves.items ≡ map told old.moves.items ++ map labels_of_move news
-  pub waiting : new.waiting.items ≡ old.waiting.items
+  pub waiting : new.waiting ≡ old.waiting
   pub finals : new.finals.items ≡ old.finals.items
   pub groups : new.groups ≡ old.groups
 
@@ -95,28 +90,30 @@ pub record CanMeet (store : Trail) (p q : ℕ) : Type 0 where
   pub agree : AreAgreeing store p q
   pub unmet : AreUnmet store p q
 
--- a kept end of the other direction on the channel, whose path agrees
-abbrev pub IsPartner : Path → Path → ℕ → Bool → End → Type 0
-IsPartner x y channel sends e = (e.channel ≡ channel) × (e.sends ≢ sends) × Agree x y
+-- where the two agree they can meet
+abbrev pub IsReadyFor : Work → ℕ → ℕ → Bool → Type 0
+IsReadyFor w p q sends = (x y : Path) → slice_get w.store.paths p ≡ Some x → slice_get w.store.paths q ≡ Some y → Agree x y → MatchBool sends (CanMeet w.store p q) (CanMeet w.store q p)
 
--- where the kept end is a partner the two can meet
-abbrev pub IsReadyFor : Work → ℕ → End → ℕ → Bool → Type 0
-IsReadyFor w p e channel sends = (x y : Path) → slice_get w.store.paths p ≡ Some x → slice_get w.store.paths e.path ≡ Some y → IsPartner x y channel sends e
-    → MatchBool sends (CanMeet w.store p e.path) (CanMeet w.store e.path p)
+-- the two have met where they agree, and else nothing is new
+abbrev pub MeetsOne : Work → Work → Path → Path → Bool → Type 0
+MeetsOne old new x y sends = (Agree x y × Gains old new (met_paths sends x y)) ⊎ ((¬ Agree x y) × (new ≡ old))
 
--- they have met where it is a partner, and else nothing is new
-abbrev pub MeetsEnd : Work → Work → Path → Path → ℕ → Bool → End → Type 0
-MeetsEnd old new x y channel sends e = (IsPartner x y channel sends e × Gains old new (met_paths sends x y)) ⊎ ((¬ IsPartner x y channel sends e) × (new ≡ old))
+-- the kept paths of the other direction on the channel
+abbrev pub others_of : Work → ℕ → Bool → List ℕ
+others_of w channel sends = paths_at channel (not sends) w.waiting
 
--- the path has met the partners among the first n kept ends, and nothing else is new
-pub record IsMeeting (old new : Work) (x : Path) (channel : ℕ) (sends : Bool) (n : ℕ) : Type 0 where
+-- the path has met those among the first n of the others that agree, and nothing else is new
+pub record IsMeeting (old new : Work) (x : Path) (sends : Bool) (others : List ℕ) (n : ℕ) : Type 0 where
   pub news : List Path
   pub gains : Gains old new news
   pub ups : AreUp new.store.paths
-  pub made : (j : ℕ) (e : End) (y : Path) → j < n → slice_get old.waiting.items j ≡ Some e → slice_get old.store.paths e.path ≡ Some y → IsPartner x y channel sends e → (z : Path)
-      → Holds (met_paths sends x y) z → Holds news z
-  pub from : (z : Path) → Holds news z → (j : ℕ) × (e : End) × (y : Path) × (j < n) × (slice_get old.waiting.items j ≡ Some e) ×
-      (slice_get old.store.paths e.path ≡ Some y) × IsPartner x y channel sends e × Holds (met_paths sends x y) z
+  pub made : (j q : ℕ) (y : Path) → j < n → slice_get others j ≡ Some q → slice_get old.store.paths q ≡ Some y → Agree x y → (z : Path) → Holds (met_paths sends x y) z → Holds news z
+  pub from : (z : Path) → Holds news z → (j : ℕ) × (q : ℕ) × (y : Path) × (j < n) × (slice_get others j ≡ Some q) × (slice_get old.store.paths q ≡ Some y) × Agree x y
+      × Holds (met_paths sends x y) z
+
+-- it has met all that it can
+abbrev pub HasMet : Work → Work → Path → ℕ → Bool → Type 0
+HasMet old new x channel sends = IsMeeting old new x sends (others_of old channel sends) (length (others_of old channel sends))
 
 -- paths and partial groups are at most the budget
 abbrev pub IsWithin : Work → ℕ → Type 0
@@ -165,6 +162,6 @@ pub record Keeps (old new : Work) : Type 0 where
   pub more_moves : List (Option Move)
   pub moves : new.moves.items ≡ old.moves.items ++ more_moves
   pub more_waiting : List End
-  pub waiting : new.waiting.items ≡ old.waiting.items ++ more_waiting
+  pub waiting : new.waiting ≡ old.waiting ++ more_waiting
   pub more_finals : List ℕ
   pub finals : new.finals.items ≡ old.finals.items ++ more_finals

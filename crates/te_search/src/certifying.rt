@@ -12,11 +12,13 @@ ghost use Rattle.te_trail.specs.Trails.{label_of};
 ghost use Rattle.te_search.specs.Groups.{IsFinal};
 ghost use Rattle.te_search.specs.Assemblies.{AreNumbers, IsOpenAt};
 ghost use Rattle.te_search.specs.Works.{told, IsHit};
-ghost use Rattle.te_search.specs.Stacks.{has_number, IsAmong};
+ghost use Rattle.te_search.specs.Stacks.{IsAmong};
+ghost use Rattle.te_search.specs.Plantings.{has_number};
 ghost use Rattle.te_search.specs.Picks.{TellsNamed, IsAmongNumbers, TellsHad, IsJointTrail, AreMeetingsOf, TakesMember, AreGathered, NumbersRise, IsPlaceAmong, AreMeets, TellsLetter, TellsMeeting};
 ghost use Rattle.te_search.specs.Findings.{IsGroupOf};
 
-use crate::stack::place_of;
+use crate::listed::ParkedList;
+use crate::planted::{PlantedThreads, place_of};
 use crate::work::Work;
 use std::alloc::Global;
 use te_cert::{Cert, Meeting, Member};
@@ -32,19 +34,19 @@ pub(crate) struct Group {
 }
 
 // The number that a joined past names for a thread.
-fn named(threads: &[u32], joined: &[Option<u32>], thread: u32) -> Option<u32>
+fn named(threads: &PlantedThreads, joined: &[Option<u32>], thread: u32) -> Option<u32>
     requires wide { length joined.now ≡ length threads.now }
     ensures told { TellsNamed threads.now joined.now thread result }
     ensures there { IsAmongNumbers joined.now result }
 {
-    match place_of(threads, thread) {
+    match threads.place(thread) {
         Some(i) => joined[i],
         None => None,
     }
 }
 
 // Whether a joined past has the move that made path `k`.
-fn has_move(store: &TrailStore, threads: &[u32], joined: &[Option<u32>], k: u32) -> bool
+fn has_move(store: &TrailStore, threads: &PlantedThreads, joined: &[Option<u32>], k: u32) -> bool
     requires path { k < length store.now.paths }
     requires wide { length joined.now ≡ length threads.now }
     requires numbers { AreNumbers store.now.paths joined.now }
@@ -61,7 +63,7 @@ fn joint_trail(
     alloc: Global,
     store: &TrailStore,
     moves: &[Option<Move>],
-    threads: &[u32],
+    threads: &PlantedThreads,
     joined: &[Option<u32>],
 ) -> Result<Vec<Move>, NoMemory>
     requires told { map told moves.now ≡ map labels_of_move store.now.paths }
@@ -181,7 +183,7 @@ fn take_in(
     gathered: &mut Gathered,
     store: &TrailStore,
     parked: &Parked,
-    threads: &[u32],
+    threads: &PlantedThreads,
     joined: &[Option<u32>],
     word: &[Move],
 ) -> Result<(), NoMemory>
@@ -209,8 +211,8 @@ fn take_in(
 fn gather(
     alloc: Global,
     store: &TrailStore,
-    parked: &[Parked],
-    threads: &[u32],
+    parked: &ParkedList,
+    threads: &PlantedThreads,
     joined: &[Option<u32>],
     word: &[Move],
 ) -> Result<Gathered, NoMemory>
@@ -229,7 +231,7 @@ fn gather(
             alloc,
             &mut gathered,
             store,
-            &parked[i],
+            parked.at(i),
             threads,
             joined,
             word,
@@ -241,9 +243,9 @@ fn gather(
 /// The group of a joined past that was found.
 pub(crate) fn certify(
     alloc: Global,
-    parked: &[Parked],
+    parked: &ParkedList,
     work: &Work,
-    threads: &[u32],
+    threads: &PlantedThreads,
     joined: &[Option<u32>],
 ) -> Result<Group, NoMemory>
     requires hit { IsHit work.now threads.now joined.now }

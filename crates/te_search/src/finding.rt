@@ -18,7 +18,7 @@ use te_cert::Cert;
 use te_terms::{NoMemory, Parked};
 use te_trail::TrailStore;
 
-/// What a search finds: a certificate of a group, or nothing.
+/// What a search of parked events finds: the certificate of a group, or nothing.
 #[derive(Drop)]
 pub enum Found {
     /// These members reduce together, and can't be split into two parts with no meeting between them.
@@ -30,10 +30,10 @@ pub enum Found {
 /// Why a search was refused.
 #[derive(Clone, Copy, Debug, PartialEq, Eq)]
 pub enum SearchFault {
-    /// The next step would pass the budget: so many paths were made and so many partial groups tried, together the
-    /// budget or one less.
+    /// The next step would make paths and partial groups more than the budget: so many paths were made and so many partial
+    /// groups tried, together the budget or one less.
     Spent { paths: u64, groups: u64 },
-    /// There was no memory.
+    /// Want of memory.
     Memory,
 }
 
@@ -82,11 +82,11 @@ impl Stack {
     ) -> Result<Option<Group>, SearchFault>
         requires levels { HasLevels self.old }
         requires low { level < length self.old.levels.items }
-        requires hit { IsHit self.old.work self.old.threads.items joined.now }
+        requires hit { IsHit self.old.work self.old.threads joined.now }
         ensures stack { IsStack self.new }
         ensures parked { self.new.parked ≡ self.old.parked }
         ensures some { result ≡ Ok None → ⊥ }
-        ensures group { IfOk result (λ found. IfSome found (λ group. IsGroupOf self.old.parked.items group.cert group.outcomes)) }
+        ensures group { IfOk result (λ found. IfSome found (λ group. IsGroupOf self.old.parked group.cert group.outcomes)) }
         ensures spent { (paths groups : ℕ) → result ≡ Err (faults.Spent paths groups) → ⊥ }
     {
         let group = certify(alloc, &self.parked, &self.work, &self.threads, joined);
@@ -106,11 +106,11 @@ impl Stack {
         ensures stack { IsStack self.new }
         ensures parked { self.new.parked ≡ self.old.parked }
         ensures none { result ≡ Ok None → (self.new.threads ≡ self.old.threads) × IsWithin self.new.work budget }
-        ensures group { IfOk result (λ found. IfSome found (λ group. IsGroupOf self.old.parked.items group.cert group.outcomes)) }
-        ensures spent { (paths groups : ℕ) → result ≡ Err (faults.Spent paths groups) → IsUsedUp self.old.parked.items budget paths groups }
+        ensures group { IfOk result (λ found. IfSome found (λ group. IsGroupOf self.old.parked group.cert group.outcomes)) }
+        ensures spent { (paths groups : ℕ) → result ≡ Err (faults.Spent paths groups) → IsUsedUp self.old.parked budget paths groups }
     {
         let top = self.levels.len() - 1;
-        match self.work.settle(alloc, &self.threads, budget) {
+        match self.work.settle(alloc, self.threads.as_slice(), budget) {
             Ok(None) => Ok(None),
             Ok(Some(joined)) => self.take(alloc, top, &joined),
             Err(Refused::Spent) => {
@@ -133,14 +133,14 @@ impl Stack {
         budget: u64,
     ) -> Result<Option<Group>, SearchFault>
         requires stack { IsStack self.old }
-        requires left { IsLeft self.old.threads.items self.old.parked.items (Some place) }
+        requires left { IsLeft self.old.threads self.old.parked (Some place) }
         requires within { IsWithin self.old.work budget }
         requires budget { IsBudget budget }
         ensures stack { IsStack self.new }
         ensures parked { self.new.parked ≡ self.old.parked }
-        ensures none { result ≡ Ok None → (count_left self.new.threads.items self.new.parked.items < count_left self.old.threads.items self.old.parked.items) × IsWithin self.new.work budget }
-        ensures group { IfOk result (λ found. IfSome found (λ group. IsGroupOf self.old.parked.items group.cert group.outcomes)) }
-        ensures spent { (paths groups : ℕ) → result ≡ Err (faults.Spent paths groups) → IsUsedUp self.old.parked.items budget paths groups }
+        ensures none { result ≡ Ok None → (count_left self.new.threads self.new.parked < count_left self.old.threads self.old.parked) × IsWithin self.new.work budget }
+        ensures group { IfOk result (λ found. IfSome found (λ group. IsGroupOf self.old.parked group.cert group.outcomes)) }
+        ensures spent { (paths groups : ℕ) → result ≡ Err (faults.Spent paths groups) → IsUsedUp self.old.parked budget paths groups }
     {
         if self.work.left(budget) == 0 {
             return Err(self.spent());
@@ -162,9 +162,9 @@ impl Stack {
         requires budget { IsBudget budget }
         ensures stack { IsStack self.new }
         ensures parked { self.new.parked ≡ self.old.parked }
-        ensures group { IfOk result (λ found. IfSome found (λ group. IsGroupOf self.old.parked.items group.cert group.outcomes)) }
-        ensures blocked { result ≡ Ok None → ¬ CanCommit self.old.parked.items }
-        ensures spent { (paths groups : ℕ) → result ≡ Err (faults.Spent paths groups) → IsUsedUp self.old.parked.items budget paths groups }
+        ensures group { IfOk result (λ found. IfSome found (λ group. IsGroupOf self.old.parked group.cert group.outcomes)) }
+        ensures blocked { result ≡ Ok None → ¬ CanCommit self.old.parked }
+        ensures spent { (paths groups : ℕ) → result ≡ Err (faults.Spent paths groups) → IsUsedUp self.old.parked budget paths groups }
     {
         self.cut_within(budget);
         'events: while let Some(place) = self.next() {

@@ -6,36 +6,40 @@ ghost use Rattle.te_terms.specs.Joint.{IsGroup, as_group, CanCommit};
 ghost use Rattle.te_terms.specs.Limits.{most_threads};
 ghost use Rattle.te_cert.specs.Certificates.{Certificate};
 ghost use Rattle.te_search.specs.Findings.{IsGroupOf, IsUsedUp, IsBudget, HasThread, put_in, without};
-ghost use Rattle.te_search.specs.Stacks.{IsStack, IsPlaceFor, IsPlaceWith, has_number};
+ghost use Rattle.te_search.specs.Stacks.{IsStack};
+ghost use Rattle.te_search.specs.Plantings.{has_number};
 ghost use Rattle.te_search.specs.declared.finding.SearchFault.TheVariants as faults;
 ghost use Rattle.te_search.specs.declared.kept.KeptFound.TheVariants as answers;
 ghost use Rattle.te_search.specs.declared.finding.Found.TheVariants as finds;
 
 use crate::finding::{Found, SearchFault};
-use crate::stack::{Stack, place_of};
+use crate::listed::ParkedList;
+use crate::planted::PlantedThreads;
+use crate::stack::Stack;
 use crate::work::Work;
 use std::alloc::Global;
 use std::marker::Model;
 use te_cert::Cert;
+use te_pair::Waiting;
 use te_terms::{Event, NoMemory, Outcome, Parked, Rows};
 use te_trail::TrailStore;
 
 // A stack of these events, of which none is planted.
-fn stack_of(alloc: Global, parked: Vec<Parked>) -> Result<Stack, NoMemory>
-    requires rise { IsGroup (as_group parked.items) }
+fn stack_of(alloc: Global, parked: ParkedList) -> Result<Stack, NoMemory>
+    requires rise { IsGroup (as_group parked) }
     ensures stack { IfOk result (λ s. IsStack s) }
     ensures parked { IfOk result (λ s. s.parked ≡ parked) }
 {
     let store = TrailStore::new(alloc, &[])?;
     Ok(Stack {
         parked,
-        threads: Vec::new(alloc),
+        threads: PlantedThreads::new(alloc),
         levels: Vec::new(alloc),
         work: Work {
             store,
             moves: Vec::new(alloc),
             pending: Vec::new(alloc),
-            waiting: Vec::new(alloc),
+            waiting: Waiting::new(alloc),
             finals: Vec::new(alloc),
             groups: 0,
         },
@@ -43,26 +47,42 @@ fn stack_of(alloc: Global, parked: Vec<Parked>) -> Result<Stack, NoMemory>
 }
 
 // The same events once more.
-fn copies_of(alloc: Global, parked: &[Parked]) -> Result<Vec<Parked>, NoMemory>
-    ensures { IfOk result (λ copies. copies.items ≡ parked.now) }
+fn copies_of(alloc: Global, parked: &[Parked]) -> Result<ParkedList, NoMemory>
+    ensures { IfOk result (λ copies. copies ≡ parked.now) }
 {
-    let mut copies = Vec::new(alloc);
+    let mut copies = ParkedList::new(alloc);
     'parked: for i in 0..parked.len() {
         let one = &parked[i];
         let event = one.event.copy()?;
-        copies.push(Parked {
-            thread: one.thread,
-            ticket: one.ticket,
-            event,
-        })?;
+        copies.insert(
+            i,
+            Parked {
+                thread: one.thread,
+                ticket: one.ticket,
+                event,
+            },
+        )?;
     }
     Ok(copies)
 }
 
-/// A group among parked events, or nothing. It takes a search that tries every combination of choices and meetings,
-/// path by path; planting and branching make one path, a meeting two, and a partial group is a final path with a joined
-/// past of agreeing final paths, none tried twice. Conditions: threads rise strictly, and the budget is 1 to 1,000,000.
-/// The events are shared with the list and stay as they are.
+/// Searches parked events for a group: some of them that reduce together, and can't be split into two parts with no
+/// meeting between them.
+///
+/// `Group` has a certificate that `check` accepts on the events of its members, which are parked in the list under their
+/// threads and tickets. `Blocked` comes only where no part of the list reduces together. Which of several groups is found
+/// isn't said.
+///
+/// Conditions: threads rise strictly, and the budget is 1 to 1,000,000. It is counted in paths and partial groups: to plant
+/// an event or to take a branch of a choice makes one path, a meeting makes two; a partial group is a final path with the
+/// joined past of agreeing final paths, itself among them, and none is tried twice.
+///
+/// The refusals: `Spent` where the next step would make paths and partial groups more than the budget, with how many
+/// there were, together the budget or one less; `Memory` is want of memory. Whatever the answer, the list and its events,
+/// which are shared, are as they were, and nothing of the search is left.
+///
+/// Groups and choices are those of Donnelly and Fluet, Transactional Events, JFP 18(5-6), 2008; paths, assembly and budgets
+/// are this project's own.
 pub fn find(alloc: Global, parked: &[Parked], budget: u64) -> Result<Found, SearchFault>
     requires rising { IsGroup (as_group parked.now) }
     requires budget { IsBudget budget }
@@ -84,40 +104,15 @@ pub fn find(alloc: Global, parked: &[Parked], budget: u64) -> Result<Found, Sear
 }
 
 impl Stack {
-    // The place of a new thread.
-    fn place_for(&self, thread: u32) -> usize
-        ensures { IsPlaceFor self.now.parked.items thread result }
-    {
-        'places: for i in 0..self.parked.len() {
-            if thread < self.parked[i].thread {
-                return i;
-            }
-        }
-        self.parked.len()
-    }
-
-    // The place of a thread that has an event.
-    fn place_with(&self, thread: u32) -> usize
-        requires { HasThread self.now.parked.items thread }
-        ensures { IsPlaceWith self.now.parked.items thread result }
-    {
-        'places: for i in 0..self.parked.len() {
-            if self.parked[i].thread == thread {
-                return i;
-            }
-        }
-        unreachable!()
-    }
-
     // Puts one more event into the list. It isn't planted yet.
     fn post(&mut self, parked: Parked) -> Result<(), NoMemory>
         requires stack { IsStack self.old }
-        requires none { ¬ HasThread self.old.parked.items parked.thread }
+        requires none { ¬ HasThread self.old.parked parked.thread }
         ensures stack { IsStack self.new }
-        ensures ok { OnOk result (self.new.parked.items ≡ put_in parked self.old.parked.items) }
-        ensures err { OnErr result (self.new.parked.items ≡ self.old.parked.items) }
+        ensures ok { OnOk result (self.new.parked ≡ put_in parked self.old.parked) }
+        ensures err { OnErr result (self.new.parked ≡ self.old.parked) }
     {
-        let place = self.place_for(parked.thread);
+        let place = self.parked.place_for(parked.thread);
         self.parked.insert(place, parked)?;
         Ok(())
     }
@@ -127,9 +122,9 @@ impl Stack {
         requires stack { IsStack self.old }
         ensures stack { IsStack self.new }
         ensures parked { self.new.parked ≡ self.old.parked }
-        ensures gone { has_number self.new.threads.items thread ≡ false }
+        ensures gone { has_number self.new.threads thread ≡ false }
     {
-        let Some(i) = place_of(&self.threads, thread) else {
+        let Some(i) = self.threads.place(thread) else {
             return;
         };
         self.cut(i);
@@ -138,17 +133,20 @@ impl Stack {
     // Takes an event out of the list, and goes back to before it was planted.
     fn remove(&mut self, thread: u32)
         requires stack { IsStack self.old }
-        requires there { HasThread self.old.parked.items thread }
+        requires there { HasThread self.old.parked thread }
         ensures stack { IsStack self.new }
-        ensures parked { self.new.parked.items ≡ without thread self.old.parked.items }
+        ensures parked { self.new.parked ≡ without thread self.old.parked }
     {
         self.uproot(thread);
-        let place = self.place_with(thread);
-        let _gone = self.parked.remove(place);
+        match self.parked.place(thread) {
+            Some(place) => self.parked.remove(place),
+            None => unreachable!(),
+        }
     }
 }
 
 /// What a kept search finds: the certificate of a group with the outcomes of its members, in their order, or nothing.
+#[doc(hidden)]
 #[derive(Drop)]
 pub enum KeptFound {
     /// These members reduce together to these outcomes, and can't be split into two parts with no meeting between them.
@@ -159,7 +157,9 @@ pub enum KeptFound {
 
 /// A search that is kept while its list changes, for rounds of commits and posts. It is seen as a list of parked events
 /// with threads rising. Inside it plants one event after the other, each only where nothing is left to do on those
-/// before: so it can go back to how all stood before any event that is removed. This is the project's own.
+/// before: so it can go back to how all stood before any event that is removed. This is the project's own, and public for
+/// the crates above alone.
+#[doc(hidden)]
 #[derive(Drop)]
 pub struct KeptSearch {
     stack: Option<Stack>,
@@ -187,14 +187,14 @@ impl KeptSearch {
     pub fn new(alloc: Global) -> KeptSearch
         ensures { result ≡ [] }
     {
-        match stack_of(alloc, Vec::new(alloc)) {
+        match stack_of(alloc, ParkedList::new(alloc)) {
             Ok(stack) => KeptSearch { stack: Some(stack) },
             Err(_) => KeptSearch { stack: None },
         }
     }
 
     /// Parks an event, which is shared, for a thread under a ticket. Conditions: the thread is below 64 and has none. The
-    /// one refusal is want of memory, and leaves the list as it was.
+    /// one refusal is want of memory, and leaves the list as it was. What was searched before stands.
     pub fn post(&mut self, thread: u32, ticket: u32, event: &Event) -> Result<(), NoMemory>
         requires few { thread < most_threads }
         requires none { ¬ HasThread self.old thread }
@@ -223,9 +223,13 @@ impl KeptSearch {
         }
     }
 
-    /// A group among the parked events with its outcomes, or nothing; see `find`. Whatever the answer, the list is as
-    /// before. Condition: the budget is 1 to 1,000,000. What was found before on events that are still parked counts for
-    /// the budget, and isn't done again; where that is more than the budget, the search goes back until it isn't.
+    /// Searches the parked events for a group, as `find` does: its answers, its refusals and its budget mean the same. A
+    /// group comes with the outcomes that the play of its certificate gives, in the order of its members. Whatever the
+    /// answer, the list is as before.
+    ///
+    /// Condition: the budget is 1 to 1,000,000. The paths and partial groups that stand from earlier calls count for it.
+    /// Where they are more, the search first goes back until they aren't. After a group and after a refusal it goes back by
+    /// one event, whose work the next call does anew.
     pub fn find(&mut self, alloc: Global, budget: u64) -> Result<KeptFound, SearchFault>
         requires { IsBudget budget }
         ensures same { self.new ≡ self.old }

@@ -5,6 +5,8 @@ mod assembly;
 mod certifying;
 mod finding;
 mod kept;
+mod listed;
+mod planted;
 mod stack;
 mod work;
 

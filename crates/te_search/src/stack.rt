@@ -2,11 +2,13 @@
 
 ghost use Rattle.std.specs.Prelude.{◌≡◌, ◌≤◌, ◌<◌, ◌+◌, ◌↔◌, length, take, suc, ◌++◌, ◌∷◌, [], slice_get, Some, OnOk, OnErr, IfOk, IsTrue, false};
 ghost use Rattle.te_terms.specs.declared.event.Parked.{Parked};
-ghost use Rattle.te_search.specs.Stacks.{HasLevels, IsStack, IsPlaceOf, IsLeft, TellsBetter, IsReady, IsBegun, IsOpened, IsLow, has_number};
+ghost use Rattle.te_search.specs.Stacks.{HasLevels, IsStack, IsLeft, TellsBetter, IsReady, IsBegun, IsOpened, IsLow};
 ghost use Rattle.te_search.specs.Works.{IsWithin};
 
+use crate::listed::ParkedList;
+use crate::planted::PlantedThreads;
 use crate::work::Work;
-use te_terms::{NoMemory, Parked};
+use te_terms::NoMemory;
 
 /// How all stood when an event was planted: the lengths of the work's lists, and how many partial groups were tried.
 #[derive(Clone, Copy)]
@@ -22,32 +24,10 @@ pub(crate) struct Level {
 /// nothing left to do, and going back to it takes no memory.
 #[derive(Drop)]
 pub(crate) struct Stack {
-    pub(crate) parked: Vec<Parked>,
-    pub(crate) threads: Vec<u32>,
+    pub(crate) parked: ParkedList,
+    pub(crate) threads: PlantedThreads,
     pub(crate) levels: Vec<Level>,
     pub(crate) work: Work,
-}
-
-/// The first place of a thread.
-pub(crate) fn place_of(threads: &[u32], thread: u32) -> Option<usize>
-    ensures { IsPlaceOf threads.now thread result }
-{
-    'threads: for i in 0..threads.len() {
-        if threads[i] == thread {
-            return Some(i);
-        }
-    }
-    None
-}
-
-// Whether there is such a thread.
-fn has_thread(threads: &[u32], thread: u32) -> bool
-    ensures { result ≡ has_number threads.now thread }
-{
-    match place_of(threads, thread) {
-        Some(_) => true,
-        None => false,
-    }
 }
 
 impl Stack {
@@ -57,24 +37,24 @@ impl Stack {
         requires low { i < length self.old.levels.items }
         ensures stack { IsStack self.new }
         ensures parked { self.new.parked ≡ self.old.parked }
-        ensures threads { self.new.threads.items ≡ take i self.old.threads.items }
+        ensures threads { self.new.threads ≡ take i self.old.threads }
         ensures fewer { length self.new.levels.items ≡ i }
     {
         let level = self.levels[i];
         self.work.store.cut(i);
         self.work.moves.truncate(level.moves);
-        self.work.waiting.truncate(level.waiting);
+        self.work.waiting.cut(level.waiting);
         self.work.finals.truncate(level.finals);
         self.work.pending.clear();
         self.work.groups = level.groups;
-        self.threads.truncate(i);
+        self.threads.cut(i);
         self.levels.truncate(i);
     }
 
     /// A place whose event isn't planted, of those the one with the lowest ticket: who has been parked for long is
     /// mostly left alone by what commits, and so stands on a low level.
     pub(crate) fn next(&self) -> Option<usize>
-        ensures { IsLeft self.now.threads.items self.now.parked.items result }
+        ensures { IsLeft self.now.threads self.now.parked result }
     {
         let mut best: Option<usize> = None;
         'places: for i in 0..self.parked.len() {
@@ -87,18 +67,16 @@ impl Stack {
 
     // Whether the event at a place isn't planted, and has a lower ticket than the best so far.
     fn is_better(&self, i: usize, best: Option<usize>) -> bool
-        requires place { i < length self.now.parked.items }
-        requires best { IsLow self.now.parked.items best }
-        ensures { TellsBetter self.now.threads.items self.now.parked.items i best result }
+        requires place { i < length self.now.parked }
+        requires best { IsLow self.now.parked best }
+        ensures { TellsBetter self.now.threads self.now.parked i best result }
     {
-        let parked = &self.parked[i];
-        if has_thread(&self.threads, parked.thread) {
-            return false;
-        }
-        match best {
-            Some(b) => parked.ticket < self.parked[b].ticket,
+        let parked = self.parked.at(i);
+        let earlier = match best {
+            Some(b) => parked.ticket < self.parked.at(b).ticket,
             None => true,
-        }
+        };
+        earlier && !self.threads.has(parked.thread)
     }
 
     // Marks how all stands, where nothing is left to do.
@@ -112,7 +90,7 @@ impl Stack {
         self.work.store.mark()?;
         self.levels.push_reserved(Level {
             moves: self.work.moves.len(),
-            waiting: self.work.waiting.len(),
+            waiting: self.work.waiting.mark(),
             finals: self.work.finals.len(),
             groups: self.work.groups,
         });
@@ -122,20 +100,23 @@ impl Stack {
     // Puts and plants the event at a place, where a level has just begun.
     fn plant(&mut self, place: usize) -> Result<(), NoMemory>
         requires begun { IsReady self.old }
-        requires left { IsLeft self.old.threads.items self.old.parked.items (Some place) }
+        requires left { IsLeft self.old.threads self.old.parked (Some place) }
         requires room { length self.old.work.store.paths < 2147483648 }
         ensures ok { OnOk result (IsOpened self.old self.new) }
         ensures err { OnErr result (HasLevels self.new) }
         ensures parked { self.new.parked ≡ self.old.parked }
         ensures levels { self.new.levels.items ≡ self.old.levels.items }
     {
-        self.threads.reserve(1)?;
         self.work.moves.reserve(1)?;
         self.work.pending.reserve(1)?;
-        let thread = self.parked[place].thread;
-        let i = self.threads.len() as u32;
-        self.work.store.put(&self.parked[place])?;
-        self.threads.push_reserved(thread);
+        let parked = self.parked.at(place);
+        let count = self.threads.len();
+        self.threads.push(parked.thread)?;
+        let Ok(()) = self.work.store.put(parked) else {
+            self.threads.cut(count);
+            return Err(NoMemory);
+        };
+        let i = count as u32;
         let p = self.work.store.plant(i)?;
         let _made = self.work.store.len();
         self.work.moves.push_reserved(None);
@@ -146,7 +127,7 @@ impl Stack {
     /// Plants the event at a place on a level of its own. After a refusal, for want of memory, nothing is left to do.
     pub(crate) fn open(&mut self, place: usize) -> Result<(), NoMemory>
         requires stack { IsStack self.old }
-        requires left { IsLeft self.old.threads.items self.old.parked.items (Some place) }
+        requires left { IsLeft self.old.threads self.old.parked (Some place) }
         requires room { length self.old.work.store.paths < 2147483648 }
         ensures ok { OnOk result (IsOpened self.old self.new) }
         ensures err { OnErr result (IsStack self.new) }

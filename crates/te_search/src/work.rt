@@ -4,22 +4,15 @@ ghost use Rattle.std.specs.Prelude.{◌≡◌, ◌≤◌, ◌<◌, ◌+◌, leng
 ghost use Rattle.te_trail.specs.Paths.{Path, branched, sent, got};
 ghost use Rattle.te_search.specs.declared.assembly.Refused.TheVariants as refusals;
 ghost use Rattle.te_search.specs.Works.{AreLow, IsWork, IsWorkOn, IsWithin, IsNear, IsSpentAt};
-ghost use Rattle.te_search.specs.Works.{Gains, CanMeet, met_paths, StandsAs, IsReadyFor, MeetsEnd, IsMeeting, EndsSo, threads_of, Grows, SettlesSo, Keeps};
+ghost use Rattle.te_search.specs.Works.{Gains, CanMeet, met_paths, StandsAs, IsReadyFor, MeetsOne, HasMet, EndsSo, threads_of, Grows, SettlesSo, Keeps};
 ghost use Rattle.te_search.specs.Groups.{IsFinal};
 ghost use Rattle.te_trail.specs.Trails.{IsAtChoice, IsUnmade, AreEnds, AreAgreeing, AreUnmet};
 
 use crate::assembly::{Refused, assemble, past_of};
 use std::alloc::Global;
+use te_pair::Waiting;
 use te_path::Stop;
 use te_trail::{Move, TrailStore};
-
-/// A path that waits at a channel, to send or to receive.
-#[derive(Clone, Copy)]
-pub(crate) struct End {
-    pub(crate) path: u32,
-    pub(crate) channel: u32,
-    pub(crate) sends: bool,
-}
 
 /// A search of the events of its store: the paths made so far and their moves (told by the first end of a meeting
 /// alone), those that are still to be worked on, those that wait, those that are final in the order of assembling, and
@@ -29,7 +22,7 @@ pub(crate) struct Work {
     pub(crate) store: TrailStore,
     pub(crate) moves: Vec<Option<Move>>,
     pub(crate) pending: Vec<u32>,
-    pub(crate) waiting: Vec<End>,
+    pub(crate) waiting: Waiting,
     pub(crate) finals: Vec<u32>,
     pub(crate) groups: u64,
 }
@@ -152,53 +145,51 @@ impl Work {
         }
     }
 
-    // Meets a kept end, where it is of the other direction on the channel and agrees with the path in hand.
-    fn meet_end(
+    // Meets a kept path that stands on the other side of the channel, where it agrees with the path in hand.
+    fn meet_other(&mut self, p: u32, q: u32, sends: bool, budget: u64) -> Result<(), Refused>
+        requires within { IsWithin self.old budget }
+        requires few { budget ≤ 1000000 }
+        requires own { p < length self.old.store.paths }
+        requires other { q < length self.old.store.paths }
+        requires ready { IsReadyFor self.old p q sends }
+        requires low { AreLow self.old.store.paths self.old.pending.items }
+        ensures keeps { Keeps self.old self.new }
+        ensures ok { OnOk result ((x y : Path) → slice_get self.old.store.paths p ≡ Some x → slice_get self.old.store.paths q ≡ Some y → MeetsOne self.old self.new x y sends) }
+        ensures within { OnOk result (IsWithin self.new budget) }
+        ensures spent { result ≡ Err refusals.Spent → (self.new ≡ self.old) × IsNear (length self.old.store.paths + self.old.groups) budget }
+    {
+        if !self.store.agree(p, q) {
+            return Ok(());
+        }
+        self.meet_with(p, q, sends, budget)
+    }
+
+    // Meets every kept path of the other direction on the channel that agrees with the path in hand. Their numbers are
+    // taken out first, since the work changes while they are met.
+    fn meet_all(
         &mut self,
+        alloc: Global,
         p: u32,
-        end: End,
         channel: u32,
         sends: bool,
         budget: u64,
     ) -> Result<(), Refused>
-        requires within { IsWithin self.old budget }
-        requires few { budget ≤ 1000000 }
-        requires own { p < length self.old.store.paths }
-        requires other { end.path < length self.old.store.paths }
-        requires ready { IsReadyFor self.old p end channel sends }
-        requires low { AreLow self.old.store.paths self.old.pending.items }
-        ensures keeps { Keeps self.old self.new }
-        ensures ok { OnOk result ((x y : Path) → slice_get self.old.store.paths p ≡ Some x → slice_get self.old.store.paths end.path ≡ Some y → MeetsEnd self.old self.new x y channel sends end) }
-        ensures within { OnOk result (IsWithin self.new budget) }
-        ensures spent { result ≡ Err refusals.Spent → (self.new ≡ self.old) × IsNear (length self.old.store.paths + self.old.groups) budget }
-    {
-        if end.channel != channel {
-            return Ok(());
-        }
-        if end.sends == sends {
-            return Ok(());
-        }
-        if !self.store.agree(p, end.path) {
-            return Ok(());
-        }
-        self.meet_with(p, end.path, sends, budget)
-    }
-
-    // Meets every kept end of the other direction on the channel that agrees with the path in hand.
-    fn meet_all(&mut self, p: u32, channel: u32, sends: bool, budget: u64) -> Result<(), Refused>
         requires work { IsWorkOn self.old p }
         requires within { IsWithin self.old budget }
         requires few { budget ≤ 1000000 }
         requires path { p < length self.old.store.paths }
         requires stands { (x : Path) → slice_get self.old.store.paths p ≡ Some x → StandsAs self.old.store.events x channel sends }
         ensures keeps { Keeps self.old self.new }
-        ensures ok { OnOk result ((x : Path) → slice_get self.old.store.paths p ≡ Some x → IsMeeting self.old self.new x channel sends (length self.old.waiting.items)) }
+        ensures ok { OnOk result ((x : Path) → slice_get self.old.store.paths p ≡ Some x → HasMet self.old self.new x channel sends) }
         ensures within { OnOk result (IsWithin self.new budget) }
         ensures spent { result ≡ Err refusals.Spent → IsSpentAt self.new self.old.store.events budget }
     {
-        'ends: for i in 0..self.waiting.len() {
-            let end = self.waiting[i];
-            if let Err(refused) = self.meet_end(p, end, channel, sends, budget) {
+        let Ok(others) = Vec::from_slice(alloc, self.waiting.ends(channel, !sends)) else {
+            return Err(Refused::Memory);
+        };
+        'others: for i in 0..others.len() {
+            let q = others[i];
+            if let Err(refused) = self.meet_other(p, q, sends, budget) {
                 return Err(refused);
             }
         }
@@ -206,7 +197,14 @@ impl Work {
     }
 
     // Keeps the path in hand as a waiting end, once it has met its partners.
-    fn wait(&mut self, p: u32, channel: u32, sends: bool, budget: u64) -> Result<(), Refused>
+    fn wait(
+        &mut self,
+        alloc: Global,
+        p: u32,
+        channel: u32,
+        sends: bool,
+        budget: u64,
+    ) -> Result<(), Refused>
         requires work { IsWorkOn self.old p }
         requires within { IsWithin self.old budget }
         requires few { budget ≤ 1000000 }
@@ -219,15 +217,10 @@ impl Work {
         ensures within { OnOk result (IsWithin self.new budget) }
         ensures spent { result ≡ Err refusals.Spent → IsSpentAt self.new self.old.store.events budget }
     {
-        if let Err(refused) = self.meet_all(p, channel, sends, budget) {
+        if let Err(refused) = self.meet_all(alloc, p, channel, sends, budget) {
             return Err(refused);
         }
-        let Ok(()) = self.waiting.push(End {
-            path: p,
-            channel,
-            sends,
-        })
-        else {
+        let Ok(()) = self.waiting.keep_at(p, channel, sends) else {
             return Err(Refused::Memory);
         };
         Ok(())
@@ -299,11 +292,11 @@ impl Work {
         match self.store.stop(p) {
             Stop::Done(_) => self.end(alloc, threads, p, budget),
             Stop::Raised(_) => self.end(alloc, threads, p, budget),
-            Stop::Send(channel, _) => match self.wait(p, channel, true, budget) {
+            Stop::Send(channel, _) => match self.wait(alloc, p, channel, true, budget) {
                 Ok(()) => Ok(None),
                 Err(refused) => Err(refused),
             },
-            Stop::Recv(channel) => match self.wait(p, channel, false, budget) {
+            Stop::Recv(channel) => match self.wait(alloc, p, channel, false, budget) {
                 Ok(()) => Ok(None),
                 Err(refused) => Err(refused),
             },

@@ -2,13 +2,13 @@ use Rattle.std.proofs.Common.{arith, ◌≡◌, ap, sym, subst, ◌∙◌, lengt
 use Rattle.te_trail.specs.Trails.{label_of}
 use Rattle.te_trail.proofs.RecordsRead.{take_all}
 use Rattle.te_search.specs.Picks.{AreGathered}
-use Rattle.te_search.proofs.NumbersListed.{take_one, got_here}
+use Rattle.te_search.proofs.NumbersListed.{take_one}
 use Rattle.te_search.proofs.certifying.gather.Goals as goal
 
 pub parked-preserved : goal.parked-preserved
 parked-preserved c = subst (λ l. AreGathered c.args.store.now.events c.args.store.now.paths c.args.threads.now c.args.joined.now
     (map label_of c.args.word.now) l c.take_in.new.gathered)
-    (sym (take_one c.args.parked.now c.parked.i c.index-parked-i.result (got_here c.args.parked.now c.parked.i c.index-parked-i.result c.parked-test.true c.index-parked-i.is)))
+    (sym (take_one c.args.parked.now c.parked.i c.at.result.now c.at.ensures))
     (c.in_ok-take_in.ensures (take c.parked.i c.args.parked.now) c.parked.invariant)
 
 pub returns : goal.returns

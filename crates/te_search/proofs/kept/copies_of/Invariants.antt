@@ -2,4 +2,4 @@ use Rattle.std.proofs.Common.{◌≡◌, take}
 use Rattle.te_search.proofs.kept.copies_of.Given as goal
 
 abbrev pub invariant-parked : goal.invariant-parked
-invariant-parked l = l.copies.items ≡ take l.i l.parked
+invariant-parked l = l.copies ≡ take l.i l.parked

@@ -9,8 +9,8 @@ use Rattle.te_search.proofs.stack.Stack.explore.Goals as goal
 
 pub returns-in-Ok-None-clause-stack : goal.returns-in-Ok-None-clause-stack
 returns-in-Ok-None-clause-stack c = settled_stack c.args.self.now _ c.requires.exploring refl refl refl c.in-Ok-None.ensures.keeps
-    (subst (SettlesSo c.settle.new.self c.deref.result.now) c.in-Ok-None.field-0-is c.in-Ok-None.ensures.ok).0
-    (subst (SettlesSo c.settle.new.self c.deref.result.now) c.in-Ok-None.field-0-is c.in-Ok-None.ensures.ok).1
+    (subst (SettlesSo c.settle.new.self c.as_slice.result.now) c.in-Ok-None.field-0-is c.in-Ok-None.ensures.ok).0
+    (subst (SettlesSo c.settle.new.self c.as_slice.result.now) c.in-Ok-None.field-0-is c.in-Ok-None.ensures.ok).1
 
 pub take-requires-clause-levels : goal.take-requires-clause-levels
 take-requires-clause-levels c = keeps_levels c.args.self.now _ c.requires.exploring.levels refl refl refl c.in-Ok-Some.ensures.keeps
@@ -24,7 +24,7 @@ cut-requires-in-Err-Memory-clause-levels c = keeps_levels c.args.self.now _ c.re
 pub returns-in-Err-Spent-clause-spent : goal.returns-in-Err-Spent-clause-spent
 returns-in-Err-Spent-clause-spent c paths groups e =
     let k = c.in-Err-Spent.ensures.keeps in
-    spent_same c.args.self.now.parked.items c.args.budget _ _ paths groups (let f : c.spent-spent.result ≡ faults.Spent paths groups = cc in sym c.spent-spent.ensures ∙ f)
-    (used_up c.args.self.now.parked.items c.settle.new.self c.args.budget
-    (subst (λ g. IsAmong g (as_group c.args.self.now.parked.items)) (sym k.events) c.requires.exploring.levels.among)
+    spent_same c.args.self.now.parked c.args.budget _ _ paths groups (let f : c.spent-spent.result ≡ faults.Spent paths groups = cc in sym c.spent-spent.ensures ∙ f)
+    (used_up c.args.self.now.parked c.settle.new.self c.args.budget
+    (subst (λ g. IsAmong g (as_group c.args.self.now.parked)) (sym k.events) c.requires.exploring.levels.among)
     (subst (λ g. IsSpentAt c.settle.new.self g c.args.budget) (sym k.events) (c.in-Err-Spent.ensures.spent (ap Err c.in-Err-Spent.field-0-is))))

@@ -7,4 +7,4 @@ abbrev pub invariant-events : goal.invariant-events
 invariant-events l = IsStack l.self × (l.self.parked ≡ l.fn.self.parked) × IsWithin l.self.work l.budget
 
 abbrev pub decreases-events : goal.decreases-events
-decreases-events l = count_left l.self.threads.items l.self.parked.items
+decreases-events l = count_left l.self.threads l.self.parked
