@@ -28,3 +28,8 @@ pub mod NumbersListed
 pub mod WordsTold
 pub mod PastsJoined
 pub mod StacksMove
+pub mod NodesRunOut
+pub mod DigitsTell
+pub mod DigitsCounted
+pub mod NamesCounted
+pub mod NamesAreFew

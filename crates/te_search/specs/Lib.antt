@@ -6,3 +6,4 @@ pub mod Findings
 pub mod Plantings
 pub mod Stacks
 pub mod Picks
+pub mod Bounds

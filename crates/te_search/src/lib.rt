@@ -2,6 +2,7 @@
 #![tactic(auto)]
 
 mod assembly;
+mod bound;
 mod certifying;
 mod finding;
 mod kept;
@@ -10,6 +11,7 @@ mod planted;
 mod stack;
 mod work;
 
+pub use bound::names_are_few;
 pub use finding::{Found, SearchFault};
 pub use kept::{KeptFound, KeptSearch, find};
 
