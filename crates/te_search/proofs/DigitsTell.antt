@@ -303,7 +303,7 @@ module _ (g : List Member) (c d : Standing g) (like : AreAlike g c d) where
           let nq : receives q ≡ receives r = ap (λ z. z.before) pair in
           let kq : Receives g q = (sends_at g d (thread_of s) s q (rests (sent s q) h)).1 in
           let uq : IsAbove q (d.path (thread_of r)) = subst (λ k. IsAbove q (d.path k)) tq
-              (top g d (thread_of s) q (above_rests (sent s q) (d.path (thread_of s)) (move_of q) h (inr (inr (rests_move q))))) in
+          (top g d (thread_of s) q (above_rests (sent s q) (d.path (thread_of s)) (move_of q) h (inr (inr (rests_move q))))) in
           let one : q ≡ r = elim (above_line q r (d.path (thread_of r)) uq lr) [ inl a ↦ one_receive (thread_of r) q r kq lr a nq | inr a ↦ sym (one_receive (thread_of r) r q here.1 uq a (sym nq)) ] in
           subst (λ z. IsAbove (sent s z) (d.path (thread_of s))) one h
 
@@ -317,7 +317,7 @@ module _ (g : List Member) (c d : Standing g) (like : AreAlike g c d) where
   follows (got s r) up =
       let first : IsAbove (sent s r) (c.path (thread_of s)) = top g c (thread_of r) (sent s r) (above_rests (got s r) (c.path (thread_of r)) (sent s r) up (inl refl)) in
       let then_too : IsAbove (sent s r) (d.path (thread_of s)) = by_target s r first (follows s (above_trans s (sent s r) (c.path (thread_of s)) (inr (above_self s)) first))
-          (follows r (top g c (thread_of s) r (above_rests (sent s r) (c.path (thread_of s)) (move_of r) first (inr (inr (rests_move r)))))) in
+      (follows r (top g c (thread_of s) r (above_rests (sent s r) (c.path (thread_of s)) (move_of r) first (inr (inr (rests_move r)))))) in
       top g d (thread_of s) (got s r) (above_rests (sent s r) (d.path (thread_of s)) (sent s r) then_too (inl refl))
 
   stands_in : (t : ℕ) → IsAbove (c.path t) (d.path t)

@@ -33,3 +33,4 @@ pub mod DigitsTell
 pub mod DigitsCounted
 pub mod NamesCounted
 pub mod NamesAreFew
+pub mod CappedCounts

@@ -11,7 +11,7 @@ use Rattle.te_trail.specs.Paths.{Path, planted, thread_of, own_labels}
 use Rattle.te_trail.specs.States.{state_of, HasState}
 use Rattle.te_trail.specs.Views.{Chain, view_of, Name, name_of, IsPathName, IsGroupName}
 use Rattle.te_trail.proofs.MembersMove.{found_thread}
-use Rattle.te_search.specs.Bounds.{AreDistinct, over_all, views_most, paths_most}
+use Rattle.te_search.specs.Bounds.{AreDistinct, over_all, views_most, paths_most, enough_for}
 use Rattle.te_search.proofs.EveryChainCovered.{Full, Covers, covers}
 use Rattle.te_search.proofs.Trying.{state_member}
 use Rattle.te_search.proofs.NodesRunOut.{moves_fit}
@@ -205,8 +205,8 @@ number_tells_name g rise x y k a b =
     let la = letters_fit g rise a.at in
     let lb = letters_fit g rise b.at in
     let parts = both_same (spread (letter_digits a.at.path) g) (spread (letter_digits b.at.path) g) (spread (target_digits g a.at.path) g) (spread (target_digits g b.at.path) g)
-        (fit_length (spread letter_bases g) (spread (letter_digits a.at.path) g) (spread_fits letter_bases (letter_digits a.at.path) g la)
-        ∙ sym (fit_length (spread letter_bases g) (spread (letter_digits b.at.path) g) (spread_fits letter_bases (letter_digits b.at.path) g lb))) rest in
+    (fit_length (spread letter_bases g) (spread (letter_digits a.at.path) g) (spread_fits letter_bases (letter_digits a.at.path) g la)
+    ∙ sym (fit_length (spread letter_bases g) (spread (letter_digits b.at.path) g) (spread_fits letter_bases (letter_digits b.at.path) g lb))) rest in
     let ls = same_letters g rise a.at b.at (spread_tells letter_bases (letter_digits a.at.path) (letter_digits b.at.path) g la lb parts.0) in
     let ts = same_targets g rise a.at b.at (spread_tells (target_bases g) (target_digits g a.at.path) (target_digits g b.at.path) g (targets_fit g rise a.at) (targets_fit g rise b.at) parts.1) in
     let alike : AreAlike g a.at b.at = record { letters_are = everywhere letters g a.at b.at ls; targets_are = everywhere targets g a.at b.at ts } in
@@ -217,8 +217,7 @@ numbered : (g : List Member) → IsGroup g → (name : Name) (word : List Label)
     → (k : ℕ) × (k < paths_most g) × HasNumber g name k
 numbered g rise name word chain m at e =
     let c : Covers g Any chain.end word = standing g word chain in
-    let s : Standing g = as_standing g chain.end word c in
-    (
+    let s : Standing g = as_standing g chain.end word c in (
       number (bases g) (digits g name.thread s.path),
       subst (λ n. number (bases g) (digits g name.thread s.path) < n) (bases_product g) (number_low (bases g) (digits g name.thread s.path) (digits_fit g rise s name.thread m at)),
       record {
@@ -251,3 +250,8 @@ path_names_few g names rise d a = counted (HasNumber g) (paths_most g) (number_t
 pub group_names_few : (g : List Member) (names : List Name) → IsGroup g → AreDistinct names → AllByRecursion (IsGroupName g) names → length names ≤ paths_most g
 group_names_few g names rise d a = counted (HasNumber g) (paths_most g) (number_tells_name g rise) names
     (all_with (IsGroupName g) (λ n. (k : ℕ) × (k < paths_most g) × HasNumber g n k) names (group_numbered g rise) a) (apart_alike names d)
+
+-- so both together are at most what is enough
+pub names_fit : (g : List Member) (paths groups : List Name) → IsGroup g → AreDistinct paths → AllByRecursion (IsPathName g) paths → AreDistinct groups → AllByRecursion (IsGroupName g) groups
+    → length paths + length groups ≤ enough_for g
+names_fit g paths groups rise dp ap dg ag = omega (arith, path_names_few g paths rise dp ap, group_names_few g groups rise dg ag)

@@ -106,7 +106,7 @@ moves_fit c s r g (sent a b) m n at e =
     let h : Handing x.0 x.1 x.2 = handing x.0 x.1 x.2 x.5 in
     let less : total (weighing c s r) x.0.term + moves_weigh c s r a ≤ total (weighing c s r) m.term = moves_fit c s r g a m x.0 at x.3 in
     let sends : total (weighing c s r) x.2.sender.term + s ≤ total (weighing c s r) x.0.term =
-        subst (λ y. total (weighing c s r) y.term + s ≤ total (weighing c s r) x.0.term) (sym h.sender) (send_less c s r x.0.term h.message _ h.sends) in
+    subst (λ y. total (weighing c s r) y.term + s ≤ total (weighing c s r) x.0.term) (sym h.sender) (send_less c s r x.0.term h.message _ h.sends) in
     subst (λ y. total (weighing c s r) y.term + (moves_weigh c s r a + s) ≤ total (weighing c s r) m.term) (ends_as (λ p. settled p.sender) g a b x.0 x.1 x.2 n x.3 x.4 x.5 e)
     (omega (arith, settled_no_more c s r x.2.sender, sends, less))
 moves_fit c s r g (got a b) m n at e =
@@ -114,6 +114,6 @@ moves_fit c s r g (got a b) m n at e =
     let h : Handing x.0 x.1 x.2 = handing x.0 x.1 x.2 x.5 in
     let less : total (weighing c s r) x.1.term + moves_weigh c s r b ≤ total (weighing c s r) m.term = moves_fit c s r g b m x.1 at x.4 in
     let gets : total (weighing c s r) x.2.receiver.term + r ≤ total (weighing c s r) x.1.term =
-        subst (λ y. total (weighing c s r) y.term + r ≤ total (weighing c s r) x.1.term) (sym h.receiver) (receive_less c s r x.1.term h.channel _ h.receives) in
+    subst (λ y. total (weighing c s r) y.term + r ≤ total (weighing c s r) x.1.term) (sym h.receiver) (receive_less c s r x.1.term h.channel _ h.receives) in
     subst (λ y. total (weighing c s r) y.term + (moves_weigh c s r b + r) ≤ total (weighing c s r) m.term) (ends_as (λ p. settled p.receiver) g a b x.0 x.1 x.2 n x.3 x.4 x.5 e)
     (omega (arith, settled_no_more c s r x.2.receiver, gets, less))

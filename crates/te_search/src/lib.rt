@@ -11,7 +11,7 @@ mod planted;
 mod stack;
 mod work;
 
-pub use bound::names_are_few;
+pub use bound::{enough, names_are_few};
 pub use finding::{Found, SearchFault};
 pub use kept::{KeptFound, KeptSearch, find};
 

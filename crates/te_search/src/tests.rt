@@ -190,3 +190,66 @@ fn a_search_keeps_to_its_budget(rt: HostRuntime) -> Result<(), Fail> {
     assert_eq!(rt; shape(&kept.find(alloc, 12)), Some((3, 3)));
     Ok(())
 }
+
+// The budget that is enough for these events, of threads 0, 1 and 2.
+fn enough_for_three(
+    alloc: Global,
+    a: &[Node],
+    b: &[Node],
+    c: &[Node],
+) -> Result<Option<u64>, Fail> {
+    let parked = [
+        Parked {
+            thread: 0,
+            ticket: 0,
+            event: event(alloc, a)?,
+        },
+        Parked {
+            thread: 1,
+            ticket: 0,
+            event: event(alloc, b)?,
+        },
+        Parked {
+            thread: 2,
+            ticket: 0,
+            event: event(alloc, c)?,
+        },
+    ];
+    Ok(enough(&parked))
+}
+
+#[test]
+fn enough_is_counted_by_nodes(rt: HostRuntime) -> Result<(), Fail> {
+    let alloc = rt.alloc();
+    let pair = [
+        Parked {
+            thread: 0,
+            ticket: 0,
+            event: event(alloc, &[sends(0)])?,
+        },
+        Parked {
+            thread: 1,
+            ticket: 0,
+            event: event(alloc, &[receives(0)])?,
+        },
+    ];
+    assert_eq!(rt; enough(&[]), Some(0));
+    assert_eq!(rt; enough(&pair), Some(8));
+    assert_eq!(rt;
+        enough_for_three(alloc, &ring_first(), &ring_second(), &ring_third())?,
+        Some(384)
+    );
+    assert_eq!(rt;
+        enough_for_three(alloc, &sends_after(), &receives_twice(), &chooses())?,
+        Some(1152)
+    );
+    let mut sends_often = [sends(0); 19];
+    for i in 0..9 {
+        sends_often[10 + i] = Node::Then(if i == 0 { 0 } else { 9 + i as u32 }, 1 + i as u32);
+    }
+    assert_eq!(rt;
+        enough_for_three(alloc, &receives_twice(), &receives_twice(), &sends_often)?,
+        None
+    );
+    Ok(())
+}
