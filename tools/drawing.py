@@ -75,7 +75,7 @@ def rules(colours: Dict[str, str]) -> str:
 
 
 STYLE = (
-    f"text{{font:13px {FONT};white-space:pre}}"
+    f"text{{font:13px {FONT}}}"
     ".name text{font-weight:bold}.name.ended rect{stroke-dasharray:2 3}"
     ".idle,.waiting,.given,.across,.rest,.withdraw{fill:none}"
     ".band{fill-opacity:.85}.idle{stroke-width:1}.waiting{stroke-width:7}.given{stroke-width:3;stroke-dasharray:3 3}"

@@ -97,7 +97,7 @@ def wrapped(words: Iterable[str], most: int) -> List[str]:
             lines[-1] += " " + word
             continue
         while len(word) > most:
-            place = word.rfind(",", most // 2, most) + 1 or word.rfind("_", most // 2, most) + 1 or most
+            place = word.rfind(",", 0, most) + 1 or word.rfind("_", most // 2, most) + 1 or most
             lines.append(word[:place])
             word = word[place:]
         lines.append(word)

@@ -294,6 +294,17 @@ class Sizes(unittest.TestCase):
         self.assertEqual(figures[3].find(SVG + "title").text, "3 " + entries[2])
         self.assertTrue(said_in(figures[6]).endswith(f"and {20 - layout.EMITTED_AT_MOST} more"))
 
+    def test_labels_are_parted_where_they_may_be(self):
+        for words, most, lines in (
+            (["4", "take", "=(7)"], 12, ["4 take =(7)"]),
+            (["44", "take", "=(7,8)"], 12, ["44 take", "=(7,8)"]),
+            (["3", "=(-1,9223372036854775807)"], 24, ["3", "=(-1,", "9223372036854775807)"]),
+            (["=(1,2,30000000000000)"], 12, ["=(1,2,", "300000000000", "00)"]),
+            (["worker_of_the_north"], 12, ["worker_of_", "the_north"]),
+            (["x_aaaaaaaaaaaaa"], 12, ["x_aaaaaaaaaa", "aaa"]),
+        ):
+            self.assertEqual(layout.wrapped(words, most), lines)
+
     def test_the_work_for_an_entry_does_not_grow(self):
         def calls(rounds: int) -> Tuple[int, int]:
             data, count = pairs(64, rounds), 0

@@ -120,7 +120,10 @@ def rules_of_vim() -> List[Rule]:
 
 class Highlighted(unittest.TestCase):
     def test_the_language_has_its_words_and_signs(self):
-        self.assertEqual((len(WORDS), len(SIGNS)), (17, 14))
+        for spelled, function in ((WORDS, "word_spelling"), (SIGNS, "sign_spelling")):
+            clauses = [line for line in text_of(TOKENS).split("\n") if line.startswith(f"{function} ")]
+            self.assertEqual(len(set(spelled)), len(clauses))
+            self.assertGreater(len(clauses), 1)
         told = re.search(r"words\s+`([a-z ]+)`\s+are no names", text_of(os.path.join(TOP, "docs", "SCRIPT.md")))
         self.assertEqual(sorted(told[1].split()), sorted(WORDS))
 

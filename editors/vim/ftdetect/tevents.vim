@@ -1,2 +1,2 @@
 " Scripts of tevents end in .te.
-autocmd BufRead,BufNewFile *.te setfiletype tevents
+autocmd BufRead,BufNewFile *.te set filetype=tevents
