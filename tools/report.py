@@ -14,6 +14,7 @@ from typing import Dict, List, NamedTuple, Optional, Tuple, Union
 ENTRIES_AT_MOST = 200_000
 THREADS_AT_MOST = 64
 TICKETS = 2**32
+SITES = 2**32
 COUNTS = 2**64
 FRESH_TICKETS = 2**18
 FRESH_COUNTS = 16
@@ -137,7 +138,7 @@ class Report(NamedTuple):
 _ENTRY = re.compile(f"({NUMBER}) ([a-z]+) (.*)")
 _THREAD = re.compile(NAME)
 _TICKETED = re.compile(f"({NAME}) ({NUMBER})")
-_POST_OF_2 = re.compile(rf"({NAME}) ({NUMBER}) at (({NUMBER})\.({NUMBER}))")
+_SITED = re.compile(rf"({NAME}) ({NUMBER}) at (({NUMBER})\.({NUMBER}))")
 _TAKE = re.compile(f"({NAME}) ({NUMBER}) ({OUTCOME})")
 _MEMBER = re.compile(rf"({NAME})\.({NUMBER})\[([LR]*)\]({OUTCOME})")
 _MEETING = re.compile(f"({NAME})>({NAME})")
@@ -186,13 +187,15 @@ def _value(text: str) -> str:
     return text
 
 
-def _read_post(line: str, number: int, rest: str, version: int) -> Post:
-    if version == 1:
-        thread, ticket = _match(_TICKETED, rest).groups()
-        return Post(line, number, thread, _number(ticket, TICKETS), None)
-    thread, ticket, site, statement, repeated = _match(_POST_OF_2, rest).groups()
-    _number(statement, TICKETS)
-    _number(repeated, TICKETS)
+def _read_post_of_version_1(line: str, number: int, rest: str) -> Post:
+    thread, ticket = _match(_TICKETED, rest).groups()
+    return Post(line, number, thread, _number(ticket, TICKETS), None)
+
+
+def _read_post_of_version_2(line: str, number: int, rest: str) -> Post:
+    thread, ticket, site, statement, repeated = _match(_SITED, rest).groups()
+    _number(statement, SITES)
+    _number(repeated, SITES)
     return Post(line, number, thread, _number(ticket, TICKETS), site)
 
 
@@ -201,7 +204,7 @@ def _read_member(text: str) -> Member:
     return Member(thread, _number(ticket, TICKETS), choices, _value(outcome))
 
 
-def _read_commit(line: str, number: int, rest: str, version: int) -> Commit:
+def _read_commit(line: str, number: int, rest: str) -> Commit:
     thread, _, group = rest.partition(": ")
     _match(_THREAD, thread)
     members_text, semicolon, meetings_text = group.partition(";")
@@ -215,32 +218,32 @@ def _read_commit(line: str, number: int, rest: str, version: int) -> Commit:
     return Commit(line, number, thread, members, meetings)
 
 
-def _read_withdraw(line: str, number: int, rest: str, version: int) -> Withdraw:
+def _read_withdraw(line: str, number: int, rest: str) -> Withdraw:
     thread, ticket = _match(_TICKETED, rest).groups()
     return Withdraw(line, number, thread, _number(ticket, TICKETS))
 
 
-def _read_take(line: str, number: int, rest: str, version: int) -> Take:
+def _read_take(line: str, number: int, rest: str) -> Take:
     thread, ticket, outcome = _match(_TAKE, rest).groups()
     return Take(line, number, thread, _number(ticket, TICKETS), _value(outcome))
 
 
-def _read_rest(line: str, number: int, rest: str, version: int) -> Rest:
+def _read_rest(line: str, number: int, rest: str) -> Rest:
     return Rest(line, number, _match(_THREAD, rest)[0])
 
 
-def _read_stuck(line: str, number: int, rest: str, version: int) -> Stuck:
+def _read_stuck(line: str, number: int, rest: str) -> Stuck:
     return Stuck(line, number, _match(_THREAD, rest)[0])
 
 
-def _read_end(line: str, number: int, rest: str, version: int) -> End:
+def _read_end(line: str, number: int, rest: str) -> End:
     thread, done, emitted, raised, value, stuck = _match(_END, rest).groups()
     values = tuple(_value(text) for text in (emitted or value or "").split(" ")[1:])
     return End(line, number, thread, done or raised or stuck, values)
 
 
+_POST_READERS = {1: _read_post_of_version_1, 2: _read_post_of_version_2}
 _READERS = {
-    "post": _read_post,
     "commit": _read_commit,
     "withdraw": _read_withdraw,
     "take": _read_take,
@@ -252,9 +255,10 @@ _READERS = {
 
 def _read_entry(line: str, number: int, version: int) -> Entry:
     written, word, rest = _match(_ENTRY, line).groups()
-    if written != str(number) or number > ENTRIES_AT_MOST or word not in _READERS:
+    reader = _POST_READERS[version] if word == "post" else _READERS.get(word)
+    if written != str(number) or number > ENTRIES_AT_MOST or reader is None:
         raise _NoEntry
-    return _READERS[word](line, number, rest, version)
+    return reader(line, number, rest)
 
 
 # ---- what follows from the lines before
