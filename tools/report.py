@@ -9,7 +9,7 @@ from __future__ import annotations
 import re
 from enum import Enum
 from functools import lru_cache
-from typing import Dict, List, NamedTuple, Optional, Tuple, Union
+from typing import Dict, List, NamedTuple, Optional, Set, Tuple, Union
 
 ENTRIES_AT_MOST = 200_000
 THREADS_AT_MOST = 64
@@ -123,14 +123,20 @@ class Report(NamedTuple):
     last: str
 
     def threads(self) -> List[str]:
-        """The threads, in the order in which the entries first name them."""
-        found: Dict[str, None] = {}
+        """The threads, in the script's order as far as the members of commits tell it, and else by their first entries."""
+        found: Dict[str, Set[str]] = {}
         for entry in self.entries:
             if isinstance(entry, Commit):
-                found.update(dict.fromkeys(member.thread for member in entry.members))
+                for before, after in zip(entry.members, entry.members[1:]):
+                    found[after.thread].add(before.thread)
             else:
-                found[entry.thread] = None
-        return list(found)
+                found.setdefault(entry.thread, set())
+        ordered: List[str] = []
+        while found:
+            first = next((thread for thread, before in found.items() if before.isdisjoint(found)), next(iter(found)))
+            ordered.append(first)
+            del found[first]
+        return ordered
 
 
 # ---- the form of a line

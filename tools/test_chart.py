@@ -198,7 +198,9 @@ class Drawn(unittest.TestCase):
         self.assertEqual(waiting, sorted(expected))
         expected = [(a, outcomes[a], height(9)), (b, outcomes[b], height(11)), (a, raised_at, height(13))]
         self.assertEqual(given, sorted(expected))
-        self.assertEqual(max(end for _, _, end in spans_of(svg, "idle")), height(14))
+        idle = spans_of(svg, "idle")
+        self.assertEqual(max(end for x, _, end in idle if x == a), height(15))
+        self.assertEqual(max(end for x, _, end in idle if x == b), height(14))
 
     def test_no_two_texts_meet_and_none_leaves_its_column(self):
         for report, svg in charts():

@@ -67,10 +67,16 @@ class Reading(unittest.TestCase):
         self.assertEqual(kinds, {Post, Commit, Withdraw, Take, Rest, Stuck, End})
         self.assertEqual({report.version for report in reports}, {1, 2})
 
-    def test_threads_come_in_the_order_of_their_first_entries(self):
+    def test_threads_come_in_the_order_of_members_and_else_of_their_first_entries(self):
         self.assertEqual(read(pairs(64, 1)).threads(), [f"t{place}" for place in range(64)])
         resting = report_of(["post b 0 at 1.0", "rest a", "post c 0 at 1.0"], "full")
         self.assertEqual(read(resting).threads(), ["b", "a", "c"])
+        entries = [f"post {thread} 0 at 1.0" for thread in "dcxba"]
+        entries += ["commit d: c.0[]=() d.0[]=();", "commit b: a.0[]=() b.0[]=() x.0[]=();"]
+        self.assertEqual(read(report_of(entries, "full")).threads(), ["c", "d", "a", "b", "x"])
+        entries = [f"post {thread} 0 at 1.0" for thread in "ba"] + ["commit a: a.0[]=() b.0[]=();"]
+        entries += ["take a 0 =()", "take b 0 =()", "post a 1 at 1.0", "post b 1 at 1.0", "commit a: b.1[]=() a.1[]=();"]
+        self.assertEqual(read(report_of(entries, "full")).threads(), ["b", "a"])
 
     def test_any_last_line_is_read(self):
         for last in ("closed 7", "full 7", "spent 7 front 3 paths 18446744073709551615 groups 0"):
