@@ -1,0 +1,7 @@
+pub mod Rings
+pub mod Keeping
+pub mod Forms
+pub mod Privacy
+pub mod Guards
+pub mod Handing
+pub mod Reading
