@@ -56,9 +56,9 @@ where_at (n ∷ ns) s (suc i) t e = elim (where_at ns s i t e) [ inl a ↦ inl (
 once_more : (ns : List ℕ) (table : List Bool) (s : ℕ) → IsTabled ns table → has_number ns s ≡ false → (i t : ℕ) → slice_get (ns ++ (s ∷ [])) i ≡ Some t
     → has_number (take i (ns ++ (s ∷ []))) t ≡ false
 once_more ns table s h new i t e = elim (where_at ns s i t e) [
-    | inl a ↦ ap (λ k. has_number (take k (ns ++ (s ∷ []))) t) a.0 ∙ ap (λ l. has_number l t) (taken_whole ns s) ∙ ap (has_number ns) (sym a.1) ∙ new
-    | inr b ↦ ap (λ l. has_number l t) (taken_part ns s i b.0) ∙ h.once i t b.1
-  ]
+  | inl a ↦ ap (λ k. has_number (take k (ns ++ (s ∷ []))) t) a.0 ∙ ap (λ l. has_number l t) (taken_whole ns s) ∙ ap (has_number ns) (sym a.1) ∙ new
+  | inr b ↦ ap (λ l. has_number l t) (taken_part ns s i b.0) ∙ h.once i t b.1
+]
 
 set_told : (ns : List ℕ) (table : List Bool) (s t : ℕ) → s < 64 → t < 64 → IsTabled ns table → (o : Bool) → nat_eq s t ≡ o → slice_get (slice_set table s true) t ≡ Some (has_number ns t || o)
 set_told ns table s t ls l h true w = ap (slice_get (slice_set table s true)) (sym (eqb-true s t w)) ∙ set_here table s (has_number ns s) true (h.told s ls) ∙ ap Some (go (has_number ns t))

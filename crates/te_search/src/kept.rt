@@ -79,8 +79,9 @@ fn copies_of(alloc: Global, parked: &[Parked]) -> Result<ParkedList, NoMemory>
 /// joined past of agreeing final paths, itself among them, and none is tried twice.
 ///
 /// The refusals: `Spent` where the next step would make paths and partial groups more than the budget, with how many
-/// there were, together the budget or one less; `Memory` is want of memory. Whatever the answer, the list and its events,
-/// which are shared, are as they were, and nothing of the search is left.
+/// there were, together the budget or one less: the list has so many path names and group names, and has more than the
+/// budget. So it never comes where the budget is at least `enough` of the list. `Memory` is want of memory. Whatever the
+/// answer, the list and its events, which are shared, are as they were, and nothing of the search is left.
 ///
 /// Groups and choices are those of Donnelly and Fluet, Transactional Events, JFP 18(5-6), 2008; paths, assembly and budgets
 /// are this project's own.

@@ -35,14 +35,16 @@ returns-clause-within c =
 pub returns-then-left-eq0-clause-spent : goal.returns-then-left-eq0-clause-spent
 returns-then-left-eq0-clause-spent c h =
     let x = get_some c.args.self.now.store.paths c.args.p c.requires.path in
-    let sum : length c.args.self.now.store.paths + c.args.self.now.groups ≡ c.args.budget = omega (arith, c.left.ensures.left, c.if-left-eq0.true) in
-    (refl, record {
-      near = inl sum;
-      more = branched x.0 c.args.left ∷ [];
-      store = branch_grows c.args.self.now.store.events c.args.self.now.store.paths x.0 c.args.left c.left.ensures.store (holds_at c.args.self.now.store.paths c.args.p x.0 x.1)
-          (c.requires.unmade x.0 x.1) (λ m e. c.requires.stands x.0 m x.1 e);
-      beyond = (let more : c.args.budget < length c.args.self.now.store.paths + 1 + c.args.self.now.groups = omega (arith, sum) in more);
-    })
+    let sum : length c.args.self.now.store.paths + c.args.self.now.groups ≡ c.args.budget = omega (arith, c.left.ensures.left, c.if-left-eq0.true) in (
+      refl,
+      record {
+        near = inl sum;
+        more = branched x.0 c.args.left ∷ [];
+        store = branch_grows c.args.self.now.store.events c.args.self.now.store.paths x.0 c.args.left c.left.ensures.store (holds_at c.args.self.now.store.paths c.args.p x.0 x.1)
+            (c.requires.unmade x.0 x.1) (λ m e. c.requires.stands x.0 m x.1 e);
+        beyond = (let more : c.args.budget < length c.args.self.now.store.paths + 1 + c.args.self.now.groups = omega (arith, sum) in more);
+      },
+    )
 
 pub returns-then-left-eq0-clause-keeps : goal.returns-then-left-eq0-clause-keeps
 returns-then-left-eq0-clause-keeps c = keeps_same _ _ refl refl refl refl

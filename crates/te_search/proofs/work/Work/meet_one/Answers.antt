@@ -45,15 +45,17 @@ returns-clause-within c =
 pub returns-then-left-lt2-clause-spent : goal.returns-then-left-lt2-clause-spent
 returns-then-left-lt2-clause-spent c h =
     let x = get_some c.args.self.now.store.paths c.args.p c.requires.sender in
-    let y = get_some c.args.self.now.store.paths c.args.q c.requires.receiver in
-    (refl, record {
-      near = near_by c.left.result (length c.args.self.now.store.paths + c.args.self.now.groups) c.args.budget c.left.ensures.left c.if-left-lt2.true;
-      more = sent x.0 y.0 ∷ (got x.0 y.0 ∷ []);
-      store = meet_grows c.args.self.now.store.events c.args.self.now.store.paths x.0 y.0 c.left.ensures.store (holds_at c.args.self.now.store.paths c.args.p x.0 x.1)
-          (holds_at c.args.self.now.store.paths c.args.q y.0 y.1) (c.requires.unmet x.0 y.0 x.1 y.1) (c.requires.agree x.0 y.0 x.1 y.1)
-          (λ a b ea eb. c.requires.stand x.0 y.0 a b x.1 y.1 ea eb);
-      beyond = (let more : c.args.budget < length c.args.self.now.store.paths + 2 + c.args.self.now.groups = omega (arith, c.left.ensures.left, c.if-left-lt2.true) in more);
-    })
+    let y = get_some c.args.self.now.store.paths c.args.q c.requires.receiver in (
+      refl,
+      record {
+        near = near_by c.left.result (length c.args.self.now.store.paths + c.args.self.now.groups) c.args.budget c.left.ensures.left c.if-left-lt2.true;
+        more = sent x.0 y.0 ∷ (got x.0 y.0 ∷ []);
+        store = meet_grows c.args.self.now.store.events c.args.self.now.store.paths x.0 y.0 c.left.ensures.store (holds_at c.args.self.now.store.paths c.args.p x.0 x.1)
+            (holds_at c.args.self.now.store.paths c.args.q y.0 y.1) (c.requires.unmet x.0 y.0 x.1 y.1) (c.requires.agree x.0 y.0 x.1 y.1)
+            (λ a b ea eb. c.requires.stand x.0 y.0 a b x.1 y.1 ea eb);
+        beyond = (let more : c.args.budget < length c.args.self.now.store.paths + 2 + c.args.self.now.groups = omega (arith, c.left.ensures.left, c.if-left-lt2.true) in more);
+      },
+    )
 
 pub returns-then-left-lt2-clause-keeps : goal.returns-then-left-lt2-clause-keeps
 returns-then-left-lt2-clause-keeps c = keeps_same _ _ refl refl refl refl
