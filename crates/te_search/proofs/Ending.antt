@@ -23,7 +23,7 @@ use Rattle.te_search.specs.declared.work.Work.{Work}
 use Rattle.te_search.specs.Groups.{IsFinal, Partial, IsPartial}
 use Rattle.te_search.specs.Searching.{path_at, paths_by, AreUp, NoneTwice, AllFail, MayMeet, IsSearch}
 use Rattle.te_search.specs.Works.{AreLow, AreEnds, told, pending_of, IsCounted, IsWork, IsWorkOn}
-use Rattle.te_search.specs.Works.{Gains, IsSpentAt, StandsAs}
+use Rattle.te_search.specs.Works.{Gains, IsPassed, IsSpentAt, StandsAs}
 use Rattle.te_search.proofs.ListLaws.{once_both, holds_left, holds_right, holds_which, holds_one, holds_at, once_by_places}
 use Rattle.te_search.proofs.WorkDone.{IsStep, step_done, final_cannot_choose}
 use Rattle.te_search.proofs.PartialLaws.{all_by}
@@ -46,7 +46,7 @@ use Rattle.std.proofs.Common.{Vec, Global}
 use Rattle.te_search.specs.Works.{IsHit, EndsSo, threads_of}
 use Rattle.te_search.proofs.GroupsSound.{grown_from}
 use Rattle.te_search.proofs.WorkDone.{parent_made, final_cannot_meet, final_is_last}
-use Rattle.te_search.proofs.PartialLaws.{all_both, tried_more}
+use Rattle.te_search.proofs.PartialLaws.{all_both, tries_zero, tries_less, tried_more}
 
 -- ---- a store is closed
 
@@ -57,7 +57,7 @@ both_made g paths pending waits finals w s r h =
     let k = w.met_from s r h in
     (w.meetings s r m.0 m.1 m.2 k.0 k.1 (w.store.sound (sent s r) h).2 m.3 m.4 m.5).1
 
-sent_made : (g : List Member) (paths : List Path) → IsStore g paths → (s r : Path) → Holds paths (got s r) → Holds paths (sent s r)
+pub sent_made : (g : List Member) (paths : List Path) → IsStore g paths → (s r : Path) → Holds paths (got s r) → Holds paths (sent s r)
 sent_made g paths store s r h = elim (grown_from paths [] (sent s r) (grown_has paths [] (got s r) store.made h)) [ inl n ↦ absurd n | inr k ↦ k ]
 
 pub past_made : (g : List Member) (paths pending waits finals : List Path) → IsSearch g paths pending waits finals → (y z : Path) → Holds paths y → RestsOn (move_of z) y → Holds paths z
@@ -251,17 +251,36 @@ end_found old new p x threads out ex w f e st mo fi found = record {
   told_are = ap (map told) mo ∙ w.told_are ∙ ap (λ t. map labels_of_move t.paths) (sym st);
 }
 
+-- so many partial groups of the paths pass the budget
+passed_by : (g : List Member) (paths finals : List Path) (groups budget : ℕ) → IsStore g paths → IsCounted g paths finals groups → budget < length paths + groups → IsPassed g budget
+passed_by g paths finals groups budget store c more = record { made = paths; store = store; tried = c.tried; are = c.are; beyond = omega (arith, more, c.count_is) }
+
+-- spent before a final path is assembled from
+pub end_short : (old : Work) (p : ℕ) (x : Path) (threads : List ℕ) (budget : ℕ) → IsWorkOn old p → Ending old p x threads → length old.store.paths + old.groups ≡ budget
+    → IsSpentAt old old.store.events budget
+end_short old p x threads budget w e sum = record {
+  same = refl;
+  store = w.search.store;
+  finals = paths_by old.store.paths old.finals.items;
+  counted = w.counted;
+  sum = inl sum;
+  passed = passed_by old.store.events old.store.paths (paths_by old.store.paths (old.finals.items ++ (p ∷ []))) (old.groups + 1) budget w.search.store
+      (ending_counted old p x threads 0 (old.groups + 1) w e (tries_zero old.store.events old.store.paths x (x ∷ [])) refl) (omega (arith, sum));
+}
+
 -- spent in assembling
 pub end_spent : (old new : Work) (p : ℕ) (x : Path) (threads : List ℕ) (count budget : ℕ) → IsWorkOn old p → Ending old p x threads → new.store ≡ old.store
-    → new.groups ≡ old.groups + suc count → Tries old.store.events old.store.paths x (x ∷ []) count → length old.store.paths + new.groups ≡ budget
+    → new.groups ≡ old.groups + suc count → Tries old.store.events old.store.paths x (x ∷ []) (count + 1) → length old.store.paths + new.groups ≡ budget
     → IsSpentAt new old.store.events budget
 end_spent old new p x threads count budget w e st gr tries sum = record {
   same = ap (λ t. t.events) st;
   store = subst (λ t. IsStore old.store.events t.paths) (sym st) w.search.store;
   finals = paths_by old.store.paths (old.finals.items ++ (p ∷ []));
   counted = subst (λ t. IsCounted old.store.events t.paths (paths_by old.store.paths (old.finals.items ++ (p ∷ []))) new.groups) (sym st)
-      (ending_counted old p x threads count new.groups w e tries gr);
+      (ending_counted old p x threads count new.groups w e (tries_less old.store.events old.store.paths x (x ∷ []) count tries) gr);
   sum = inl (ap (λ t. length t.paths + new.groups) st ∙ sum);
+  passed = passed_by old.store.events old.store.paths (paths_by old.store.paths (old.finals.items ++ (p ∷ []))) (old.groups + suc (count + 1)) budget w.search.store
+      (ending_counted old p x threads (count + 1) (old.groups + suc (count + 1)) w e tries refl) (omega (arith, sum, gr));
 }
 
 pub end_ends : (old new : Work) (p : ℕ) (x : Path) (threads : List ℕ) (joined : List (Option ℕ)) (count : ℕ) (found : Option (Vec (Option ℕ) Global))

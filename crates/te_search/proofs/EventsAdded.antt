@@ -59,7 +59,7 @@ store_more g h paths among s = record {
 meet_less : (g h : List Member) → IsAmong g h → (x : Path) → HasState g x → MayMeet h x → MayMeet g x
 meet_less g h among x s m = record { own = m.own; other = m.other; ends = m.ends; state = state_less g h among x s m.own m.state; meets = m.meets }
 
-partial_more : (g h : List Member) (paths : List Path) → IsAmong g h → (q : Partial) → IsPartial g paths q → IsPartial h paths q
+pub partial_more : (g h : List Member) (paths : List Path) → IsAmong g h → (q : Partial) → IsPartial g paths q → IsPartial h paths q
 partial_more g h paths among q p = record { starts = p.starts; made = p.made; finals = λ x k. final_more g h among x (p.finals x k); agree = p.agree }
 
 pub counted_more : (g h : List Member) (paths finals : List Path) (n : ℕ) → IsAmong g h → IsCounted g paths finals n → IsCounted h paths finals n

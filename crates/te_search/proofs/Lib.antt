@@ -34,3 +34,5 @@ pub mod DigitsCounted
 pub mod NamesCounted
 pub mod NamesAreFew
 pub mod CappedCounts
+pub mod StoresGrow
+pub mod GroupsNamed

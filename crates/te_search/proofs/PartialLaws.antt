@@ -1,8 +1,8 @@
 -- Lists of partial groups, none of which is another.
-use Rattle.std.proofs.Common.{◌≡◌, ◌<◌, inl, inr, ℕ, suc, ◌+◌, List, [], ◌∷◌, ◌++◌, Bool, true, false, ◌||◌, Some, slice_get, refl, ap, ap₂, sym, ◌∙◌, subst, arith, length-append, true≢false}
+use Rattle.std.proofs.Common.{◌≡◌, ◌<◌, inl, inr, ℕ, suc, ◌+◌, List, [], ◌∷◌, ◌++◌, Bool, true, false, ◌||◌, Some, slice_get, refl, ap, ap₂, sym, ◌∙◌, subst, arith, length, length-append, true≢false}
 use Rattle.std.specs.List.{AllByRecursion}
 use Rattle.te_terms.specs.Steps.{Member}
-use Rattle.te_trail.specs.Paths.{Path, thread_of, move_of}
+use Rattle.te_trail.specs.Paths.{Path, thread_of, parent_of, move_of}
 use Rattle.te_trail.specs.Stores.{Holds, IsStore, rests_on, any_rests_on}
 use Rattle.te_trail.proofs.Lines.{rests_move}
 use Rattle.te_trail.proofs.ClockLaws.{agrees_by}
@@ -83,6 +83,14 @@ tries_all g paths start ps finals t n count r = record { more = r.more; count_is
 pub tries_zero : (g : List Member) (paths : List Path) (start : Path) (ps : List Path) → Tries g paths start ps 0
 tries_zero g paths start ps = record { more = []; count_is = refl; are = tt; once = tt }
 
+-- all but one of them
+pub tries_less : (g : List Member) (paths : List Path) (start : Path) (ps : List Path) (count : ℕ) → Tries g paths start ps (count + 1) → Tries g paths start ps count
+tries_less g paths start ps count t = go t.more t.count_is t.are t.once
+  where
+    go : (more : List Partial) → length more ≡ count + 1 → AllByRecursion (IsMore g paths start ps) more → AreApart more → Tries g paths start ps count
+    go [] e a o = absurd (omega (arith, e))
+    go (q ∷ qs) e a o = record { more = qs; count_is = omega (arith, e); are = a.1; once = o.1 }
+
 -- what one more final path adds
 pub record Adding (g : List Member) (paths : List Path) (start : Path) (ps finals : List Path) (t n : ℕ) (f : Path) : Type 0 where
   pub store : IsStore g paths
@@ -92,6 +100,8 @@ pub record Adding (g : List Member) (paths : List Path) (start : Path) (ps final
   pub at : slice_get finals n ≡ Some f
   pub thread : thread_of f ≡ t
   pub crew : IsPartial g paths (record { start = start; members = f ∷ ps })
+  pub before : Path
+  pub goes_on : parent_of f ≡ Some before
   pub lacked : any_rests_on ps (move_of f) ≡ false
 
 -- with the partial group of the final path, and all that is tried beyond it
@@ -113,7 +123,16 @@ tries_more g paths start ps finals t n count more f a r s = record {
     own = record { start = start; members = f ∷ ps }
 
     own_more : IsMore g paths start ps own
-    own_more = record { partial = a.crew; start_is = refl; wider = past_more f ps; new = move_of f; has_new = past_own f ps; lacked = a.lacked }
+    own_more = record {
+      partial = a.crew;
+      start_is = refl;
+      wider = past_more f ps;
+      new = f;
+      before = a.before;
+      goes_on = a.goes_on;
+      has_new = past_own f ps;
+      lacked = a.lacked;
+    }
 
     narrower : (q : Partial) → IsMore g paths start (f ∷ ps) q → IsMore g paths start ps q
     narrower q h = record {
@@ -121,9 +140,10 @@ tries_more g paths start ps finals t n count more f a r s = record {
       start_is = h.start_is;
       wider = λ m e. h.wider m (past_more f ps m e);
       new = h.new;
+      before = h.before;
+      goes_on = h.goes_on;
       has_new = h.has_new;
-      lacked = less
-          (rests_on f h.new) (any_rests_on ps h.new) h.lacked;
+      lacked = less (rests_on f (move_of h.new)) (any_rests_on ps (move_of h.new)) h.lacked;
     }
       where
         less : (x y : Bool) → x || y ≡ false → y ≡ false
@@ -134,7 +154,7 @@ tries_more g paths start ps finals t n count more f a r s = record {
     by_f q e = record { place = n; early = (let z : n < n + 1 = omega arith in z); by = f; is = a.at; thread = a.thread; has = e }
 
     beyond : (q : Partial) → IsMore g paths start (f ∷ ps) q → ¬ AreOne own q
-    beyond q h one = true≢false (sym h.has_new ∙ sym (one.past h.new) ∙ h.lacked)
+    beyond q h one = true≢false (sym h.has_new ∙ sym (one.past h.new h.before h.goes_on) ∙ h.lacked)
 
     together : (xs : List Partial) → AllByRecursion (IsPartial g paths) xs → AllByRecursion (IsThrough finals t n) xs → AllByRecursion (λ q. IsPartial g paths q × IsThrough finals t n q) xs
     together [] x y = tt
@@ -142,7 +162,7 @@ tries_more g paths start ps finals t n count more f a r s = record {
 
     apart : (x y : Partial) → IsPartial g paths x × IsThrough finals t n x → any_rests_on y.members (move_of f) ≡ true → ¬ AreOne x y
     apart x y (part, h) e one =
-        let here : any_rests_on x.members (move_of f) ≡ true = one.past (move_of f) ∙ e in
+        let here : any_rests_on x.members (move_of f) ≡ true = one.past f a.before a.goes_on ∙ e in
         let hb : Holds finals h.by = holds_at finals h.place h.by h.is in
         let hf : Holds finals f = holds_at finals n f a.at in
         let same : h.by ≡ f = one_final g paths x a.store part h.by f (a.final_made h.by hb) (a.final_made f hf) (a.finals_are h.by hb) (a.finals_are f hf) (h.thread ∙ sym a.thread) h.has here in
@@ -166,4 +186,4 @@ tried_more g paths finals p tried more t starts new part s = record {
     own = record { start = p; members = p ∷ [] }
 
     beyond : (q : Partial) → IsMore g paths p (p ∷ []) q → ¬ AreOne own q
-    beyond q h one = true≢false (sym h.has_new ∙ sym (one.past h.new) ∙ h.lacked)
+    beyond q h one = true≢false (sym h.has_new ∙ sym (one.past h.new h.before h.goes_on) ∙ h.lacked)

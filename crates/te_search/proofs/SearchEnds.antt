@@ -1,25 +1,35 @@
 -- What a search of some of the parked events says of all of them.
-use Rattle.std.proofs.Common.{◌≡◌, ◌≢◌, inl, ℕ, zero, suc, ◌+◌, List, [], ◌∷◌, map, length, Bool}
-use Rattle.std.proofs.Common.{true, false, cond, Option, Some, None, slice_get, refl, ap, sym, ◌∙◌, subst, subst₂, nat_eq, eq-eqb}
+use Rattle.std.proofs.Common.{◌≡◌, ◌≢◌, ◌≤◌, ◌<◌, inl, ℕ, zero, suc, ◌+◌, List, [], ◌∷◌, ◌++◌, map, length, Bool}
+use Rattle.std.proofs.Common.{true, false, cond, Option, Some, None, slice_get, refl, ap, sym, ◌∙◌, subst, subst₂, arith, nat_eq, eq-eqb, length-append}
 use Rattle.te_terms.specs.declared.event.Outcome.{Outcome}
 use Rattle.te_terms.specs.declared.event.Parked.{Parked}
 use Rattle.te_terms.specs.Steps.{Member, outcome_of}
-use Rattle.te_terms.specs.Joint.{member_of, as_group, part, outcomes_of, and_outcome, CanCommit}
-use Rattle.te_trail.specs.Paths.{planted}
-use Rattle.te_trail.specs.Stores.{Holds}
+use Rattle.te_terms.specs.Joint.{IsGroup, member_of, as_group, as_member, part, outcomes_of, and_outcome, CanCommit}
+use Rattle.te_trail.specs.Paths.{Path, planted}
+use Rattle.te_trail.specs.Stores.{Holds, IsStore}
 use Rattle.te_pair.specs.Ends.{paths_of}
 use Rattle.te_search.specs.declared.work.Work.{Work}
 use Rattle.te_search.specs.declared.stack.Stack.{Stack}
 use Rattle.te_search.specs.declared.finding.SearchFault.TheVariants as faults
 use Rattle.te_search.specs.Searching.{paths_by}
-use Rattle.te_search.specs.Works.{threads_of, IsCounted, IsSpentAt}
-use Rattle.te_search.specs.Findings.{IsUsedUp}
-use Rattle.te_search.specs.Stacks.{IsAmong, IsStack}
+use Rattle.te_search.specs.Groups.{Partial, IsPartial, AreTried}
+use Rattle.te_search.specs.Works.{threads_of, IsCounted, IsNear, IsPassed, IsSpentAt}
+use Rattle.te_search.specs.Findings.{HasNames, IsUsedUp}
+use Rattle.te_search.specs.Bounds.{enough_for}
+use Rattle.te_search.specs.Stacks.{IsAmong, IsStack, IsLeft}
 use Rattle.te_search.specs.Plantings.{has_number}
 use Rattle.te_search.proofs.AssemblyFinds.{Commits}
 use Rattle.te_search.proofs.WorkDone.{nothing_commits}
 use Rattle.te_search.proofs.Trying.{member_place}
-use Rattle.te_search.proofs.EventsAdded.{store_more, search_more, counted_more}
+use Rattle.te_search.proofs.Working as working
+use Rattle.te_search.proofs.EventsAdded.{store_more, search_more, partial_more, counted_more}
+use Rattle.te_search.proofs.EventsPlanted.{unplanted_yet}
+use Rattle.te_search.proofs.PartialLaws.{all_by}
+use Rattle.te_search.proofs.NumbersListed.{parked_found}
+use Rattle.te_search.proofs.StacksMove.{not_put}
+use Rattle.te_search.proofs.StoresGrow.{plant_grows}
+use Rattle.te_search.proofs.GroupsNamed.{have_names}
+use Rattle.te_search.proofs.NamesAreFew.{names_fit}
 use Rattle.te_search.proofs.MembersPicked.{number_member}
 
 -- ---- what reduces commits
@@ -78,23 +88,69 @@ blocked s w all c = nothing_commits (as_group s.parked) s.work.store.paths (path
 
 -- ---- the budget
 
-pub used_up : (parked : List Parked) (w : Work) (budget : ℕ) → IsAmong w.store.events (as_group parked) → IsSpentAt w w.store.events budget → IsUsedUp parked budget (length w.store.paths) w.groups
-used_up parked w budget among s = record {
-  made = w.store.paths;
-  store = store_more w.store.events (as_group parked) w.store.paths among s.store;
-  tried = c.tried;
-  are = c.are;
-  paths_are = refl;
-  groups_are = c.count_is;
-  sum = s.sum;
+-- what a search made and tried of some of the events tells names of the list
+used_by : (parked : List Parked) (budget : ℕ) (made : List Path) (tried : List Partial) → IsGroup (as_group parked) → IsStore (as_group parked) made → AreTried (as_group parked) made tried
+    → IsNear (length made + length tried) budget → IsPassed (as_group parked) budget → IsUsedUp parked budget (length made) (length tried)
+used_by parked budget made tried rise store are near more = record {
+  names = have_names parked made tried store are;
+  sum = near;
+  more_paths = length more.made;
+  more_groups = length more.tried;
+  more = names;
+  beyond = more.beyond;
+  short = omega (arith, fit, more.beyond, names.paths_are, names.groups_are);
 }
+  where
+    names : HasNames parked (length more.made) (length more.tried)
+    names = have_names parked more.made more.tried more.store more.are
+
+    fit : length names.path_names + length names.group_names ≤ enough_for (as_group parked)
+    fit = names_fit (as_group parked) names.path_names names.group_names rise names.paths_distinct names.are_of_paths names.groups_distinct names.are_of_groups
+
+passed_more : (g h : List Member) (budget : ℕ) → IsAmong g h → IsPassed g budget → IsPassed h budget
+passed_more g h budget among p = record {
+  made = p.made;
+  store = store_more g h p.made among p.store;
+  tried = p.tried;
+  are = record { partial = all_by (IsPartial g p.made) (IsPartial h p.made) p.tried (partial_more g h p.made among) p.are.partial; once = p.are.once };
+  beyond = p.beyond;
+}
+
+pub used_up : (parked : List Parked) (w : Work) (budget : ℕ) → IsGroup (as_group parked) → IsAmong w.store.events (as_group parked) → IsSpentAt w w.store.events budget → IsUsedUp parked budget (length w.store.paths) w.groups
+used_up parked w budget rise among s = subst (IsUsedUp parked budget (length w.store.paths)) c.count_is
+    (used_by parked budget w.store.paths c.tried rise (store_more w.store.events (as_group parked) w.store.paths among s.store) c.are
+    (subst (λ n. IsNear (length w.store.paths + n) budget) (sym c.count_is) s.sum) (passed_more w.store.events (as_group parked) budget among s.passed))
   where
     c : IsCounted (as_group parked) w.store.paths s.finals w.groups
     c = counted_more w.store.events (as_group parked) w.store.paths s.finals w.groups among s.counted
 
-pub whole_used_up : (s : Stack) (budget : ℕ) → IsStack s → length s.work.store.paths + s.work.groups ≡ budget → IsUsedUp s.parked budget (length s.work.store.paths) s.work.groups
-whole_used_up s budget w sum = used_up s.parked s.work budget w.levels.among
-    (record { same = refl; store = w.whole.search.store; finals = paths_by s.work.store.paths s.work.finals.items; counted = w.whole.counted; sum = inl sum })
+-- nothing is left of the budget for one more event
+pub whole_used_up : (s : Stack) (place budget : ℕ) → IsStack s → IsLeft s.threads s.parked (Some place) → length s.work.store.paths + s.work.groups ≡ budget
+    → IsUsedUp s.parked budget (length s.work.store.paths) s.work.groups
+whole_used_up s place budget w left sum = subst (IsUsedUp s.parked budget (length s.work.store.paths)) c.count_is
+    (used_by s.parked budget s.work.store.paths c.tried w.levels.rise store c.are (inl (ap (λ n. length s.work.store.paths + n) c.count_is ∙ sum)) (record {
+      made = s.work.store.paths ++ own;
+      store = plant_grows (as_group s.parked) s.work.store.paths left.0.thread (as_member left.0) store (parked_found s.parked place left.0 w.levels.rise left.1)
+          (unplanted_yet s.work.store.events s.work.store.paths left.0.thread w.whole.search.store (not_put s left.0.thread w.levels left.2));
+      tried = more.tried;
+      are = more.are;
+      beyond = (let l : length (s.work.store.paths ++ own) ≡ length s.work.store.paths + 1 = length-append s.work.store.paths own in omega (arith, sum, more.count_is, l));
+    }))
+  where
+    own : List Path
+    own = planted left.0.thread ∷ []
+
+    finals : List Path
+    finals = paths_by s.work.store.paths s.work.finals.items
+
+    store : IsStore (as_group s.parked) s.work.store.paths
+    store = store_more s.work.store.events (as_group s.parked) s.work.store.paths w.levels.among w.whole.search.store
+
+    c : IsCounted (as_group s.parked) s.work.store.paths finals s.work.groups
+    c = counted_more s.work.store.events (as_group s.parked) s.work.store.paths finals s.work.groups w.levels.among w.whole.counted
+
+    more : IsCounted (as_group s.parked) (s.work.store.paths ++ own) finals s.work.groups
+    more = working.counted_more (as_group s.parked) s.work.store.paths own finals s.work.groups c
 
 pub spent_same : (parked : List Parked) (budget p g paths groups : ℕ) → faults.Spent p g ≡ faults.Spent paths groups → IsUsedUp parked budget p g → IsUsedUp parked budget paths groups
 spent_same parked budget p g paths groups e u = (let one : p ≡ paths = cc in let two : g ≡ groups = cc in subst₂ (IsUsedUp parked budget) one two u)

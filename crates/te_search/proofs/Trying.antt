@@ -7,7 +7,7 @@ use Rattle.std.specs.Option.{option_map}
 use Rattle.te_terms.specs.Steps.{Member}
 use Rattle.te_terms.specs.Settling.{settled}
 use Rattle.te_terms.specs.Joint.{member_of}
-use Rattle.te_trail.specs.Paths.{Path, planted, branched, sent, got, thread_of, depth_of, move_of, RestsOn, IsAbove, OnOneLine}
+use Rattle.te_trail.specs.Paths.{Path, planted, branched, sent, got, thread_of, parent_of, depth_of, move_of, RestsOn, IsAbove, OnOneLine}
 use Rattle.te_trail.specs.Clocks.{deeper, clock_of}
 use Rattle.te_trail.specs.States.{chosen, Ends, met, state_of, HasState}
 use Rattle.te_trail.specs.Stores.{Holds, any_rests_on}
@@ -342,20 +342,31 @@ open_named : (g : List Member) (paths : List Path) (threads finals : List ℕ) (
     → Names paths threads (joint ps) joined → IsOpenAt g paths joined (Some i) → (x : Path) × (joint ps t ≡ Some x) × (¬ IsFinal g x)
 open_named g paths threads finals joined ps i t et nm (m, e, f) = let o : (c : Path) × (slice_get paths m ≡ Some c) × (joint ps t ≡ Some c) = nm.each i t (Some m) et e in (o.0, o.2, f o.0 o.1)
 
--- one more final path taken in
-pub record Onward (g : List Member) (paths : List Path) (threads finals : List ℕ) (start : Path) (ps : List Path) (n : ℕ) (x : Path) (t : ℕ) (out : List (Option ℕ)) : Type 0 where
+-- a path is planted, or goes on from one before
+root_or_later : (x : Path) → (x ≡ planted (thread_of x)) ⊎ ((y : Path) × (parent_of x ≡ Some y))
+root_or_later (planted t) = inl refl
+root_or_later (branched p l) = inr (p, refl)
+root_or_later (sent s r) = inr (s, refl)
+root_or_later (got s r) = inr (r, refl)
+
+root_above : (x : Path) → IsAbove (planted (thread_of x)) x
+root_above (planted t) = refl
+root_above (branched p l) = inr (root_above p)
+root_above (sent s r) = inr (root_above s)
+root_above (got s r) = inr (root_above r)
+
+-- one more final path may be taken in
+pub record Onward (g : List Member) (paths : List Path) (threads finals : List ℕ) (start : Path) (ps : List Path) (n : ℕ) (x : Path) (t : ℕ) : Type 0 where
   pub crew : Crew g (Holds paths) (IsFinal g) (x ∷ ps)
-  pub names : Names paths threads (joint (x ∷ ps)) out
   pub reached : Reaches start ps → Reaches start (x ∷ ps)
   pub adds : Adding g paths start ps (paths_by paths finals) t n x
 
-pub onward : (g : List Member) (paths : List Path) (threads finals : List ℕ) (joined out : List (Option ℕ)) (start : Path) (ps : List Path) (i t n p : ℕ) (x : Path)
+pub onward : (g : List Member) (paths : List Path) (threads finals : List ℕ) (joined : List (Option ℕ)) (start : Path) (ps : List Path) (i t n p : ℕ) (x : Path)
     → Stand g paths threads finals → Crew g (Holds paths) (IsFinal g) ps → Holds ps start → Names paths threads (joint ps) joined
     → slice_get threads i ≡ Some t → IsOpenAt g paths joined (Some i) → slice_get finals n ≡ Some p → slice_get paths p ≡ Some x → thread_of x ≡ t → IsLined x (joint ps)
-    → TakesIn paths threads p joined out → Onward g paths threads finals start ps n x t out
-onward g paths threads finals joined out start ps i t n p x st crew hs nm et op ep ex tx line taken = record {
+    → Onward g paths threads finals start ps n x t
+onward g paths threads finals joined start ps i t n p x st crew hs nm et op ep ex tx line = record {
   crew = more;
-  names = taken x (joint ps) ex nm line;
   reached = λ r. (let q : (any_rests_on ps (move_of w.0) ≡ true) × (thread_of w.0 ≡ t) = joint_past g ps crew.team t w.0 w.1 in takes start ps x w.0 r (q.1 ∙ sym tx) q.0);
   adds = record {
     store = st.store;
@@ -370,6 +381,8 @@ onward g paths threads finals joined out start ps i t n p x st crew hs nm et op 
       finals = more.fins;
       agree = λ y z h k. elim (more.team.agrees y z h k) [ inl e ↦ inl e | inr a ↦ inr (agree_by y z a) ];
     };
+    before = later.0;
+    goes_on = later.1;
     lacked = lacks (any_rests_on ps (move_of x)) refl;
   };
 }
@@ -391,6 +404,17 @@ onward g paths threads finals joined out start ps i t n p x st crew hs nm et op 
 
     more : Crew g (Holds paths) (IsFinal g) (x ∷ ps)
     more = crew_more g (Holds paths) (IsFinal g) ps crew x fx hx (st.store.sound x hx) (stands_top g paths threads finals st x fx) (st.store.state x hx) line free
+
+    -- were the path planted, then the named one would go on from it
+    later : (y : Path) × (parent_of x ≡ Some y)
+    later = elim (root_or_later x) [ inl e ↦ absurd (w.2 (subst (IsFinal g) (sym (last e)) fx)) | inr y ↦ y ]
+      where
+        last : x ≡ planted (thread_of x) → w.0 ≡ x
+        last e =
+            let y : (y : Path) × Holds ps y × (clock_of y t ≡ Some w.0) = joint_in ps t w.0 w.1 in
+            let made : Holds paths w.0 = stands_made g paths threads finals st y.0 t w.0 (crew.made_all y.0 y.1) y.2 in
+            let same : thread_of w.0 ≡ thread_of x = (joint_past g ps crew.team t w.0 w.1).1 ∙ sym tx in
+            final_is_last g x w.0 fx (st.store.state w.0 made) (subst (λ q. IsAbove q w.0) (ap planted same ∙ sym e) (root_above w.0))
 
     -- were the path in the joined past, then it would be the named one
     lacks : (o : Bool) → any_rests_on ps (move_of x) ≡ o → any_rests_on ps (move_of x) ≡ false
@@ -427,8 +451,8 @@ tried_fails g paths threads finals joined out i t n p count more total st et op 
     → IsLined x (joint ps) → Fails (Holds (paths_by paths finals)) (x ∷ ps)) = tried start ps crew hs nm in
     let x : (x : Path) × (slice_get paths p ≡ Some x) = get_some paths p (st.finals_low n p ep) in
     let line : IsLined x.0 (joint ps) = (lined x.0 (joint ps) x.1 nm (joined_threads g paths threads finals ps st crew)).0 refl in
-    let o : Onward g paths threads finals start ps n x.0 t out = onward g paths threads finals joined out start ps i t n p x.0 st crew hs nm et op ep x.1 (th x.0 x.1) line taken in
-    let s : Tries g paths start (x.0 ∷ ps) more × Fails (Holds (paths_by paths finals)) (x.0 ∷ ps) = fails start (x.0 ∷ ps) o.crew (inr hs) o.names in (
+    let o : Onward g paths threads finals start ps n x.0 t = onward g paths threads finals joined start ps i t n p x.0 st crew hs nm et op ep x.1 (th x.0 x.1) line in
+    let s : Tries g paths start (x.0 ∷ ps) more × Fails (Holds (paths_by paths finals)) (x.0 ∷ ps) = fails start (x.0 ∷ ps) o.crew (inr hs) (taken x.0 (joint ps) x.1 nm line) in (
       subst (TriesBy g paths start ps (paths_by paths finals) t (n + 1)) (sym is) (tries_more g paths start ps (paths_by paths finals) t n count more x.0 o.adds r.0 s.0),
       λ j q y h ej ey ty ly. elim (eq-or-lt_of_le (let k : j ≤ n = omega (arith, h) in k)) [
         | inl e ↦ (let same : p ≡ q = (let f : slice_get finals n ≡ Some q = subst (λ i. slice_get finals i ≡ Some q) e ej in cc) in let one : x.0 ≡ y =
@@ -451,10 +475,16 @@ tried_all g paths threads finals joined i t count st et op tried start ps crew h
           (get_low finals l.1 l.0 l.2) l.2 l.3 tf line)),
     )
 
--- what was tried so far, where there is nothing left to spend
-pub tried_spent : (g : List Member) (paths : List Path) (threads finals : List ℕ) (joined : List (Option ℕ)) (t n count : ℕ) → TriedTo g paths threads finals joined t n count
-    → TriesOnly g paths threads joined count
-tried_spent g paths threads finals joined t n count tried start ps crew hs nm = tries_all g paths start ps (paths_by paths finals) t n count (tried start ps crew hs nm).0
+-- what was tried so far and the one to be taken in now, where there is nothing left to spend
+pub tried_spent : (g : List Member) (paths : List Path) (threads finals : List ℕ) (joined : List (Option ℕ)) (i t n p count total : ℕ) → Stand g paths threads finals
+    → slice_get threads i ≡ Some t → IsOpenAt g paths joined (Some i) → slice_get finals n ≡ Some p → IsThread paths p t → TellsLined paths threads p joined true
+    → total ≡ count + 1 → TriedTo g paths threads finals joined t n count → TriesOnly g paths threads joined total
+tried_spent g paths threads finals joined i t n p count total st et op ep th lined is tried start ps crew hs nm =
+    let x : (x : Path) × (slice_get paths p ≡ Some x) = get_some paths p (st.finals_low n p ep) in
+    let line : IsLined x.0 (joint ps) = (lined x.0 (joint ps) x.1 nm (joined_threads g paths threads finals ps st crew)).0 refl in
+    let o : Onward g paths threads finals start ps n x.0 t = onward g paths threads finals joined start ps i t n p x.0 st crew hs nm et op ep x.1 (th x.0 x.1) line in
+    subst (Tries g paths start ps) (sym is) (tries_all g paths start ps (paths_by paths finals) t (n + 1) (count + 1)
+    (tries_more g paths start ps (paths_by paths finals) t n count 0 x.0 o.adds (tried start ps crew hs nm).0 (tries_zero g paths start (x.0 ∷ ps))))
 
 -- and beyond the last that was taken in
 pub tried_beyond : (g : List Member) (paths : List Path) (threads finals : List ℕ) (joined out : List (Option ℕ)) (i t n p count more total : ℕ) → Stand g paths threads finals
@@ -464,9 +494,9 @@ pub tried_beyond : (g : List Member) (paths : List Path) (threads finals : List 
 tried_beyond g paths threads finals joined out i t n p count more total st et op ep th lined taken tries is tried start ps crew hs nm =
     let x : (x : Path) × (slice_get paths p ≡ Some x) = get_some paths p (st.finals_low n p ep) in
     let line : IsLined x.0 (joint ps) = (lined x.0 (joint ps) x.1 nm (joined_threads g paths threads finals ps st crew)).0 refl in
-    let o : Onward g paths threads finals start ps n x.0 t out = onward g paths threads finals joined out start ps i t n p x.0 st crew hs nm et op ep x.1 (th x.0 x.1) line taken in
+    let o : Onward g paths threads finals start ps n x.0 t = onward g paths threads finals joined start ps i t n p x.0 st crew hs nm et op ep x.1 (th x.0 x.1) line in
     subst (Tries g paths start ps) (sym is) (tries_all g paths start ps (paths_by paths finals) t (n + 1) (count + suc more)
-    (tries_more g paths start ps (paths_by paths finals) t n count more x.0 o.adds (tried start ps crew hs nm).0 (tries start (x.0 ∷ ps) o.crew (inr hs) o.names)))
+    (tries_more g paths start ps (paths_by paths finals) t n count more x.0 o.adds (tried start ps crew hs nm).0 (tries start (x.0 ∷ ps) o.crew (inr hs) (taken x.0 (joint ps) x.1 nm line))))
 
 -- the final path is taken in, and from there a group is found
 pub tried_found : (g : List Member) (paths : List Path) (threads finals : List ℕ) (joined out : List (Option ℕ)) (i t n p count more total : ℕ) (v : Vec (Option ℕ) Global)
@@ -476,8 +506,8 @@ pub tried_found : (g : List Member) (paths : List Path) (threads finals : List �
 tried_found g paths threads finals joined out i t n p count more total v st et op ep th lined taken found is tried start ps crew hs nm =
     let x : (x : Path) × (slice_get paths p ≡ Some x) = get_some paths p (st.finals_low n p ep) in
     let line : IsLined x.0 (joint ps) = (lined x.0 (joint ps) x.1 nm (joined_threads g paths threads finals ps st crew)).0 refl in
-    let o : Onward g paths threads finals start ps n x.0 t out = onward g paths threads finals joined out start ps i t n p x.0 st crew hs nm et op ep x.1 (th x.0 x.1) line taken in
-    let s : Tries g paths start (x.0 ∷ ps) more × IsFound g paths threads start (x.0 ∷ ps) v.items = found start (x.0 ∷ ps) o.crew (inr hs) o.names in (
+    let o : Onward g paths threads finals start ps n x.0 t = onward g paths threads finals joined start ps i t n p x.0 st crew hs nm et op ep x.1 (th x.0 x.1) line in
+    let s : Tries g paths start (x.0 ∷ ps) more × IsFound g paths threads start (x.0 ∷ ps) v.items = found start (x.0 ∷ ps) o.crew (inr hs) (taken x.0 (joint ps) x.1 nm line) in (
       subst (Tries g paths start ps) (sym is) (tries_all g paths start ps (paths_by paths finals) t (n + 1) (count + suc more)
           (tries_more g paths start ps (paths_by paths finals) t n count more x.0 o.adds (tried start ps crew hs nm).0 s.0)),
       record { members = s.1.members; crew = s.1.crew; names = s.1.names; reached = λ r. s.1.reached (o.reached r); all = s.1.all },

@@ -17,7 +17,7 @@ use Rattle.te_search.specs.declared.work.Work.{Work}
 use Rattle.te_pair.specs.declared.end.End.{End}
 use Rattle.te_search.specs.Groups.{IsFinal, Partial, IsPartial}
 use Rattle.te_search.specs.Searching.{path_at, paths_by, AreUp, NoneTwice, AllFail, MayMeet, IsSearch}
-use Rattle.te_search.specs.Works.{AreLow, AreEnds, told, pending_of, IsCounted, IsWork, IsWorkOn, Gains, IsNear, IsSpentAt}
+use Rattle.te_search.specs.Works.{AreLow, AreEnds, told, pending_of, IsCounted, IsWork, IsWorkOn, Gains, IsShort, IsSpentAt}
 use Rattle.te_search.proofs.ListLaws.{holds_left, holds_right, holds_which, holds_one, holds_at, place_of, once_by_places}
 use Rattle.te_search.proofs.WorkDone.{IsStep, step_done, final_cannot_choose}
 use Rattle.te_search.proofs.PartialLaws.{all_by}
@@ -340,21 +340,37 @@ choice_stays old mid p news low at a x m ex st =
     let same : y.0 ≡ x = (let k : Some y.0 ≡ Some x = sym there ∙ ex in cc) in
     at x m (y.1 ∙ ap Some same) (ap (λ e. state_of e x) (sym a.events) ∙ st)
 
--- spent after a gain
-pub spent_gained : (old mid : Work) (p : ℕ) (news : List Path) (budget : ℕ) → IsWorkOn old p → Gains old mid news → IsNear (length mid.store.paths + mid.groups) budget
-    → IsSpentAt mid old.store.events budget
-spent_gained old mid p news budget w a sum = record {
-  same = a.events;
-  store = subst (λ e. IsStore e mid.store.paths) a.events a.store;
-  finals = paths_by old.store.paths old.finals.items;
-  counted = subst (IsCounted old.store.events mid.store.paths (paths_by old.store.paths old.finals.items)) (sym a.groups)
-      (subst (λ q. IsCounted old.store.events q (paths_by old.store.paths old.finals.items) old.groups) (sym a.paths)
-      (counted_more old.store.events old.store.paths news (paths_by old.store.paths old.finals.items) old.groups w.counted));
-  sum = sum;
+-- spent, where the budget is short for the next paths
+spent_short : (w : Work) (events : List Member) (finals : List Path) (budget : ℕ) → w.store.events ≡ events → IsStore events w.store.paths → IsCounted events w.store.paths finals w.groups
+    → IsShort w budget → IsSpentAt w events budget
+spent_short w events finals budget same store c s = record {
+  same = same;
+  store = store;
+  finals = finals;
+  counted = c;
+  sum = s.near;
+  passed = record {
+    made = w.store.paths ++ s.more;
+    store = subst (λ e. IsStore e (w.store.paths ++ s.more)) same s.store;
+    tried = more.tried;
+    are = more.are;
+    beyond = omega (arith, s.beyond, more.count_is, length-append w.store.paths s.more);
+  };
 }
+  where
+    more : IsCounted events (w.store.paths ++ s.more) finals w.groups
+    more = counted_more events w.store.paths s.more finals w.groups c
 
-pub spent_here : (old : Work) (p : ℕ) (budget : ℕ) → IsWorkOn old p → IsNear (length old.store.paths + old.groups) budget → IsSpentAt old old.store.events budget
-spent_here old p budget w sum = record { same = refl; store = w.search.store; finals = paths_by old.store.paths old.finals.items; counted = w.counted; sum = sum }
+-- spent after a gain
+pub spent_gained : (old mid : Work) (p : ℕ) (news : List Path) (budget : ℕ) → IsWorkOn old p → Gains old mid news → IsShort mid budget → IsSpentAt mid old.store.events budget
+spent_gained old mid p news budget w a s = spent_short mid old.store.events (paths_by old.store.paths old.finals.items) budget a.events
+    (subst (λ e. IsStore e mid.store.paths) a.events a.store)
+    (subst (IsCounted old.store.events mid.store.paths (paths_by old.store.paths old.finals.items)) (sym a.groups)
+    (subst (λ q. IsCounted old.store.events q (paths_by old.store.paths old.finals.items) old.groups) (sym a.paths)
+    (counted_more old.store.events old.store.paths news (paths_by old.store.paths old.finals.items) old.groups w.counted))) s
+
+pub spent_here : (old : Work) (p : ℕ) (budget : ℕ) → IsWorkOn old p → IsShort old budget → IsSpentAt old old.store.events budget
+spent_here old p budget w s = spent_short old old.store.events (paths_by old.store.paths old.finals.items) budget refl w.search.store w.counted s
 
 pub on_ok : {A E : Type 0} (P Q : Type 0) (r : Result A E) → (P → Q) → OnOk r P → OnOk r Q
 on_ok P Q (Ok a) f h = f h

@@ -3,7 +3,7 @@ use Rattle.std.specs.Prelude.{◌≡◌, ◌<◌, ◌↔◌, ℕ, List, [], ◌�
 use Rattle.std.proofs.Common.{Vec, Global}
 use Rattle.std.specs.List.{AllByRecursion}
 use Rattle.te_terms.specs.Steps.{Member}
-use Rattle.te_trail.specs.Paths.{Path, thread_of, move_of, RestsOn, IsAbove, OnOneLine}
+use Rattle.te_trail.specs.Paths.{Path, thread_of, parent_of, move_of, RestsOn, IsAbove, OnOneLine}
 use Rattle.te_trail.specs.Clocks.{deeper, clock_of}
 use Rattle.te_trail.specs.Stores.{Holds, IsStore, any_rests_on}
 use Rattle.te_trail.proofs.PastsChain.{Agreeing}
@@ -12,14 +12,16 @@ use Rattle.te_search.specs.Searching.{Fails, AreUp, NoneTwice, paths_by}
 
 -- ---- what is tried
 
--- a partial group of the start whose joined past has that of these paths, and something besides
+-- a partial group of the start whose joined past has that of these paths, and a choice or a meeting besides
 pub record IsMore (g : List Member) (paths : List Path) (start : Path) (ps : List Path) (q : Partial) : Type 0 where
   pub partial : IsPartial g paths q
   pub start_is : q.start ≡ start
   pub wider : (m : Path) → any_rests_on ps m ≡ true → any_rests_on q.members m ≡ true
   pub new : Path
-  pub has_new : any_rests_on q.members new ≡ true
-  pub lacked : any_rests_on ps new ≡ false
+  pub before : Path
+  pub goes_on : parent_of new ≡ Some before
+  pub has_new : any_rests_on q.members (move_of new) ≡ true
+  pub lacked : any_rests_on ps (move_of new) ≡ false
 
 -- so many partial groups, none twice
 pub record Tries (g : List Member) (paths : List Path) (start : Path) (ps : List Path) (count : ℕ) : Type 0 where

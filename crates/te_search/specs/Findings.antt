@@ -1,5 +1,6 @@
 -- What a search of parked events finds. Groups and choices are those of Donnelly and Fluet, Transactional Events, JFP 18(5-6), 2008; budgets and their counts are this project's own.
-use Rattle.std.specs.Prelude.{◌≡◌, ◌≢◌, ◌⊎◌, ◌+◌, ◌≤◌, ℕ, List, [], ◌∷◌, length, cond, ltb, nat_eq}
+use Rattle.std.specs.Prelude.{◌≡◌, ◌≢◌, ◌⊎◌, ◌+◌, ◌≤◌, ◌<◌, ℕ, List, [], ◌∷◌, length, cond, ltb, nat_eq}
+use Rattle.std.specs.List.{AllByRecursion}
 use Rattle.te_terms.specs.declared.event.Outcome.{Outcome}
 use Rattle.te_terms.specs.declared.event.Parked.{Parked}
 use Rattle.te_terms.specs.Terms.{Term}
@@ -8,9 +9,8 @@ use Rattle.te_cert.specs.declared.cert.Member.{Member}
 use Rattle.te_cert.specs.Certificates.{Certificate}
 use Rattle.te_cert.specs.Certs.{IsTight}
 use Rattle.te_cert.specs.Checks.{ThreadsRise, Gives}
-use Rattle.te_trail.specs.Paths.{Path}
-use Rattle.te_trail.specs.Stores.{IsStore}
-use Rattle.te_search.specs.Groups.{Partial, AreTried}
+use Rattle.te_trail.specs.Views.{Name, IsPathName, IsGroupName}
+use Rattle.te_search.specs.Bounds.{AreDistinct, enough_for}
 
 -- ---- a group
 
@@ -36,15 +36,26 @@ pub record IsGroupOf (parked : List Parked) (cert : Certificate) (outcomes : Lis
 
 -- ---- a budget that is used up
 
--- there are so many paths of the list's events and so many partial groups of them, none twice, together the budget or one less
+-- there are so many path names of the list and so many group names of it, none twice
+pub record HasNames (parked : List Parked) (paths groups : ℕ) : Type 0 where
+  pub path_names : List Name
+  pub are_of_paths : AllByRecursion (IsPathName (as_group parked)) path_names
+  pub paths_distinct : AreDistinct path_names
+  pub paths_are : length path_names ≡ paths
+  pub group_names : List Name
+  pub are_of_groups : AllByRecursion (IsGroupName (as_group parked)) group_names
+  pub groups_distinct : AreDistinct group_names
+  pub groups_are : length group_names ≡ groups
+
+-- so many path names and group names are together the budget or one less, the list has more than the budget, and the budget is less than what is enough for the list
 pub record IsUsedUp (parked : List Parked) (budget paths groups : ℕ) : Type 0 where
-  pub made : List Path
-  pub store : IsStore (as_group parked) made
-  pub tried : List Partial
-  pub are : AreTried (as_group parked) made tried
-  pub paths_are : length made ≡ paths
-  pub groups_are : length tried ≡ groups
+  pub names : HasNames parked paths groups
   pub sum : (paths + groups ≡ budget) ⊎ (paths + groups + 1 ≡ budget)
+  pub more_paths : ℕ
+  pub more_groups : ℕ
+  pub more : HasNames parked more_paths more_groups
+  pub beyond : budget < more_paths + more_groups
+  pub short : budget < enough_for (as_group parked)
 
 -- a budget that a search takes
 abbrev pub IsBudget : ℕ → Type 0

@@ -3,7 +3,7 @@ use Rattle.std.specs.Prelude.{◌≡◌, ◌⊎◌, List, [], ◌∷◌, Some}
 use Rattle.std.specs.List.{AllByRecursion}
 use Rattle.te_terms.specs.declared.event.Outcome.{Outcome}
 use Rattle.te_terms.specs.Steps.{Member, outcome_of}
-use Rattle.te_trail.specs.Paths.{Path}
+use Rattle.te_trail.specs.Paths.{Path, parent_of, move_of}
 use Rattle.te_trail.specs.Clocks.{Agree}
 use Rattle.te_trail.specs.States.{state_of}
 use Rattle.te_trail.specs.Stores.{Holds, any_rests_on}
@@ -29,10 +29,10 @@ pub record IsPartial (g : List Member) (paths : List Path) (p : Partial) : Type 
   pub finals : (x : Path) → Holds p.members x → IsFinal g x
   pub agree : (x y : Path) → Holds p.members x → Holds p.members y → (x ≡ y) ⊎ Agree x y
 
--- one start, and one joined past: the members of one rest on a move where those of the other do
+-- one start, and one joined past: the members of the one rest on a choice or a meeting where those of the other do
 pub record AreOne (p q : Partial) : Type 0 where
   pub start : p.start ≡ q.start
-  pub past : (m : Path) → any_rests_on p.members m ≡ any_rests_on q.members m
+  pub past : (x y : Path) → parent_of x ≡ Some y → any_rests_on p.members (move_of x) ≡ any_rests_on q.members (move_of x)
 
 -- none of them is another
 abbrev pub AreApart : List Partial → Type 0

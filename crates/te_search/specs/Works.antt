@@ -123,6 +123,21 @@ IsWithin w budget = length w.store.paths + w.groups ≤ budget
 abbrev pub IsNear : ℕ → ℕ → Type 0
 IsNear used budget = (used ≡ budget) ⊎ (used + 1 ≡ budget)
 
+-- paths of these events and partial groups of them, none twice, together more than the budget
+pub record IsPassed (g : List Member) (budget : ℕ) : Type 0 where
+  pub made : List Path
+  pub store : IsStore g made
+  pub tried : List Partial
+  pub are : AreTried g made tried
+  pub beyond : budget < length made + length tried
+
+-- the budget is used, or all but one, and the store with these paths more would pass it
+pub record IsShort (w : Work) (budget : ℕ) : Type 0 where
+  pub near : IsNear (length w.store.paths + w.groups) budget
+  pub more : List Path
+  pub store : IsStore w.store.events (w.store.paths ++ more)
+  pub beyond : budget < length w.store.paths + length more + w.groups
+
 -- the next step of a search of these events would pass the budget
 pub record IsSpentAt (w : Work) (events : List Member) (budget : ℕ) : Type 0 where
   pub same : w.store.events ≡ events
@@ -130,6 +145,7 @@ pub record IsSpentAt (w : Work) (events : List Member) (budget : ℕ) : Type 0 w
   pub finals : List Path
   pub counted : IsCounted events w.store.paths finals w.groups
   pub sum : IsNear (length w.store.paths + w.groups) budget
+  pub passed : IsPassed events budget
 
 -- a group was found: final paths that agree, whose joined past names only final paths
 pub record IsHit (w : Work) (threads : List ℕ) (out : List (Option ℕ)) : Type 0 where

@@ -1,6 +1,6 @@
 // From a final path to a group.
 
-ghost use Rattle.std.specs.Prelude.{◌≡◌, ◌≤◌, ◌<◌, ◌-◌, length, ◌∷◌, [], slice_get, Some, Err, IfOk};
+ghost use Rattle.std.specs.Prelude.{◌≡◌, ◌≤◌, ◌<◌, ◌+◌, ◌-◌, length, ◌∷◌, [], slice_get, Some, Err, IfOk};
 ghost use Rattle.te_search.specs.Assemblies.{Stand, TellsFinal, AreNumbers, IsOpenAt, TellsLined, TakesIn, Assembles, TriesOnly, Names, joint, AreNone, later_number};
 ghost use Rattle.te_trail.specs.Paths.{Path};
 ghost use Rattle.te_search.specs.Searching.{AreUp};
@@ -141,7 +141,7 @@ pub(crate) fn past_of(
 
 /// The joined past of a group, where the joined past of some final paths can be completed to one: an open thread is
 /// one whose path isn't final, and each final path of it is tried that agrees with the others. Each that is taken in
-/// takes one from `left`.
+/// takes one from `left`. Where none is left there is one more to be taken in.
 pub(crate) fn assemble(
     alloc: Global,
     store: &TrailStore,
@@ -156,7 +156,7 @@ pub(crate) fn assemble(
     ensures falls { left.new ≤ left.old }
     ensures ok { IfOk result (Assembles store.now.events store.now.paths threads.now finals.now joined.now (left.old - left.new)) }
     ensures spent { result ≡ Err refusals.Spent → left.new ≡ 0 }
-    ensures tried { result ≡ Err refusals.Spent → TriesOnly store.now.events store.now.paths threads.now joined.now (left.old - left.new) }
+    ensures tried { result ≡ Err refusals.Spent → TriesOnly store.now.events store.now.paths threads.now joined.now (left.old - left.new + 1) }
 {
     let Some(place) = open_place(store, joined) else {
         return match Vec::from_slice(alloc, joined) {

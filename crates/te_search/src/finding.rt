@@ -1,8 +1,9 @@
 // A search for a group among parked events, event by event.
 
-ghost use Rattle.std.specs.Prelude.{◌≡◌, ◌≤◌, ◌<◌, ◌↔◌, ◌+◌, ℕ, length, Ok, Err, Some, None, IfOk, IfSome, IsTrue};
+ghost use Rattle.std.specs.Prelude.{◌≡◌, ◌≢◌, ◌≤◌, ◌<◌, ◌↔◌, ◌+◌, ℕ, length, Ok, Err, Some, None, IfOk, IfSome, IsTrue};
 ghost use Rattle.te_cert.specs.Certificates.{Certificate};
 ghost use Rattle.te_terms.specs.Joint.{IsGroup, as_group, CanCommit};
+ghost use Rattle.te_search.specs.Bounds.{enough_for};
 ghost use Rattle.te_search.specs.Findings.{IsGroupOf, IsUsedUp, IsBudget};
 ghost use Rattle.te_search.specs.Stacks.{HasLevels, IsStack, IsLeft, IsOpened, IsExploring, count_left};
 ghost use Rattle.te_search.specs.Works.{IsWithin, IsHit};
@@ -165,6 +166,7 @@ impl Stack {
         ensures group { IfOk result (λ found. IfSome found (λ group. IsGroupOf self.old.parked group.cert group.outcomes)) }
         ensures blocked { result ≡ Ok None → ¬ CanCommit self.old.parked }
         ensures spent { (paths groups : ℕ) → result ≡ Err (faults.Spent paths groups) → IsUsedUp self.old.parked budget paths groups }
+        ensures enough { enough_for (as_group self.old.parked) ≤ budget → (paths groups : ℕ) → result ≢ Err (faults.Spent paths groups) }
     {
         self.cut_within(budget);
         'events: while let Some(place) = self.next() {

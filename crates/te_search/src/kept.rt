@@ -1,10 +1,11 @@
 // A search that is kept while its list changes.
 
-ghost use Rattle.std.specs.Prelude.{◌≡◌, ◌<◌, ◌≤◌, ℕ, List, length, [], Ok, Err, OnOk, OnErr, IfOk, Some, take, false};
+ghost use Rattle.std.specs.Prelude.{◌≡◌, ◌≢◌, ◌<◌, ◌≤◌, ℕ, List, length, [], Ok, Err, OnOk, OnErr, IfOk, Some, take, false};
 ghost use Rattle.te_terms.specs.declared.event.Outcome.{Outcome};
 ghost use Rattle.te_terms.specs.Joint.{IsGroup, as_group, CanCommit};
 ghost use Rattle.te_terms.specs.Limits.{most_threads};
 ghost use Rattle.te_cert.specs.Certificates.{Certificate};
+ghost use Rattle.te_search.specs.Bounds.{enough_for};
 ghost use Rattle.te_search.specs.Findings.{IsGroupOf, IsUsedUp, IsBudget, HasThread, put_in, without};
 ghost use Rattle.te_search.specs.Stacks.{IsStack};
 ghost use Rattle.te_search.specs.Plantings.{has_number};
@@ -78,8 +79,9 @@ fn copies_of(alloc: Global, parked: &[Parked]) -> Result<ParkedList, NoMemory>
 /// joined past of agreeing final paths, itself among them, and none is tried twice.
 ///
 /// The refusals: `Spent` where the next step would make paths and partial groups more than the budget, with how many
-/// there were, together the budget or one less; `Memory` is want of memory. Whatever the answer, the list and its events,
-/// which are shared, are as they were, and nothing of the search is left.
+/// there were, together the budget or one less: the list has so many path names and group names, and has more than the
+/// budget. So it never comes where the budget is at least `enough` of the list. `Memory` is want of memory. Whatever the
+/// answer, the list and its events, which are shared, are as they were, and nothing of the search is left.
 ///
 /// Groups and choices are those of Donnelly and Fluet, Transactional Events, JFP 18(5-6), 2008; paths, assembly and budgets
 /// are this project's own.
@@ -89,6 +91,7 @@ pub fn find(alloc: Global, parked: &[Parked], budget: u64) -> Result<Found, Sear
     ensures group { (cert : Certificate) → result ≡ Ok (finds.Group cert) → (outcomes : List Outcome) × IsGroupOf parked.now cert outcomes }
     ensures blocked { result ≡ Ok finds.Blocked → ¬ CanCommit parked.now }
     ensures spent { (paths groups : ℕ) → result ≡ Err (faults.Spent paths groups) → IsUsedUp parked.now budget paths groups }
+    ensures enough { enough_for (as_group parked.now) ≤ budget → (paths groups : ℕ) → result ≢ Err (faults.Spent paths groups) }
 {
     let Ok(copies) = copies_of(alloc, parked) else {
         return Err(SearchFault::Memory);
@@ -236,6 +239,7 @@ impl KeptSearch {
         ensures group { (cert : Certificate) (outcomes : List Outcome) → result ≡ Ok (answers.Group cert outcomes) → IsGroupOf self.old cert outcomes }
         ensures blocked { result ≡ Ok answers.Blocked → ¬ CanCommit self.old }
         ensures spent { (paths groups : ℕ) → result ≡ Err (faults.Spent paths groups) → IsUsedUp self.old budget paths groups }
+        ensures enough { enough_for (as_group self.old) ≤ budget → (paths groups : ℕ) → result ≢ Err (faults.Spent paths groups) }
     {
         match &mut self.stack {
             Some(stack) => match stack.search(alloc, budget) {

@@ -3,9 +3,10 @@
 ghost use Rattle.std.specs.Prelude.{◌≡◌, ◌≤◌, ◌<◌, ◌+◌, length, ◌∷◌, [], Err, OnOk, slice_get, Some, MatchBool, IfOk, IsOk};
 ghost use Rattle.te_trail.specs.Paths.{Path, branched, sent, got};
 ghost use Rattle.te_search.specs.declared.assembly.Refused.TheVariants as refusals;
-ghost use Rattle.te_search.specs.Works.{AreLow, IsWork, IsWorkOn, IsWithin, IsNear, IsSpentAt};
+ghost use Rattle.te_search.specs.Works.{AreLow, IsWork, IsWorkOn, IsWithin, IsShort, IsSpentAt};
 ghost use Rattle.te_search.specs.Works.{Gains, CanMeet, met_paths, StandsAs, IsReadyFor, MeetsOne, HasMet, EndsSo, threads_of, Grows, SettlesSo, Keeps};
 ghost use Rattle.te_search.specs.Groups.{IsFinal};
+ghost use Rattle.te_trail.specs.Stores.{IsStore};
 ghost use Rattle.te_trail.specs.Trails.{IsAtChoice, IsUnmade, AreEnds, AreAgreeing, AreUnmet};
 
 use crate::assembly::{Refused, assemble, past_of};
@@ -31,7 +32,8 @@ impl Work {
     // What is left of the budget.
     pub(crate) fn left(&self, budget: u64) -> u64
         requires { IsWithin self.now budget }
-        ensures { result + (length self.now.store.paths + self.now.groups) ≡ budget }
+        ensures left { result + (length self.now.store.paths + self.now.groups) ≡ budget }
+        ensures store { IsStore self.now.store.events self.now.store.paths }
     {
         budget - (self.store.len() as u64 + self.groups)
     }
@@ -47,7 +49,7 @@ impl Work {
         ensures keeps { Keeps self.old self.new }
         ensures ok { OnOk result ((x : Path) → slice_get self.old.store.paths p ≡ Some x → Gains self.old self.new (branched x left ∷ [])) }
         ensures within { OnOk result (IsWithin self.new budget) }
-        ensures spent { result ≡ Err refusals.Spent → (self.new ≡ self.old) × (length self.old.store.paths + self.old.groups ≡ budget) }
+        ensures spent { result ≡ Err refusals.Spent → (self.new ≡ self.old) × IsShort self.old budget }
     {
         if self.left(budget) == 0 {
             return Err(Refused::Spent);
@@ -100,7 +102,7 @@ impl Work {
         ensures keeps { Keeps self.old self.new }
         ensures ok { OnOk result ((x y : Path) → slice_get self.old.store.paths p ≡ Some x → slice_get self.old.store.paths q ≡ Some y → Gains self.old self.new (sent x y ∷ (got x y ∷ []))) }
         ensures within { OnOk result (IsWithin self.new budget) }
-        ensures spent { result ≡ Err refusals.Spent → (self.new ≡ self.old) × IsNear (length self.old.store.paths + self.old.groups) budget }
+        ensures spent { result ≡ Err refusals.Spent → (self.new ≡ self.old) × IsShort self.old budget }
     {
         if self.left(budget) < 2 {
             return Err(Refused::Spent);
@@ -136,7 +138,7 @@ impl Work {
         ensures keeps { Keeps self.old self.new }
         ensures ok { OnOk result ((x y : Path) → slice_get self.old.store.paths p ≡ Some x → slice_get self.old.store.paths q ≡ Some y → Gains self.old self.new (met_paths sends x y)) }
         ensures within { OnOk result (IsWithin self.new budget) }
-        ensures spent { result ≡ Err refusals.Spent → (self.new ≡ self.old) × IsNear (length self.old.store.paths + self.old.groups) budget }
+        ensures spent { result ≡ Err refusals.Spent → (self.new ≡ self.old) × IsShort self.old budget }
     {
         if sends {
             self.meet_one(p, q, budget)
@@ -156,7 +158,7 @@ impl Work {
         ensures keeps { Keeps self.old self.new }
         ensures ok { OnOk result ((x y : Path) → slice_get self.old.store.paths p ≡ Some x → slice_get self.old.store.paths q ≡ Some y → MeetsOne self.old self.new x y sends) }
         ensures within { OnOk result (IsWithin self.new budget) }
-        ensures spent { result ≡ Err refusals.Spent → (self.new ≡ self.old) × IsNear (length self.old.store.paths + self.old.groups) budget }
+        ensures spent { result ≡ Err refusals.Spent → (self.new ≡ self.old) × IsShort self.old budget }
     {
         if !self.store.agree(p, q) {
             return Ok(());

@@ -1,7 +1,7 @@
-use Rattle.std.proofs.Common.{arith, ◌≡◌, ◌<◌, ◌+◌, ◌-◌, suc, subst, Some, None, length, get_or}
+use Rattle.std.proofs.Common.{arith, ◌≡◌, ◌<◌, ◌+◌, ◌-◌, suc, refl, subst, Some, None, length, get_or}
 use Rattle.te_trail.specs.Trails.{IsThread}
 use Rattle.te_search.specs.Assemblies.{TellsLined, Assembles, TriesOnly}
-use Rattle.te_search.proofs.Trying.{got_or, TriedTo, open_low, tried_thread, tried_off, tried_fails, tried_all, tried_beyond, tried_found}
+use Rattle.te_search.proofs.Trying.{got_or, TriedTo, open_low, tried_thread, tried_off, tried_fails, tried_all, tried_spent, tried_beyond, tried_found}
 use Rattle.te_search.proofs.assembly.+assemble.Goals as goal
 
 pub tries-preserved-then-thread : goal.tries-preserved-then-thread
@@ -25,19 +25,28 @@ tries-preserved-then-not-is_lined t c = (
 pub take_in-requires-clause-path : goal.take_in-requires-clause-path
 take_in-requires-clause-path t c = c.requires.stand.finals_low c.tries.f-index _ (got_or c.args.finals.now c.tries.f-index 0 c.tries-test.true)
 
+pub returns-then-left-eq0-clause-tried : goal.returns-then-left-eq0-clause-tried
+returns-then-left-eq0-clause-tried t c h =
+    tried_spent c.args.store.now.events c.args.store.now.paths c.args.threads.now c.args.finals.now c.args.joined.now c.in-Some.place _
+    c.tries.f-index _ (c.args.left.now - c.tries.left) (c.args.left.now - c.tries.left + 1) c.requires.stand
+    (got_or c.args.threads.now c.in-Some.place 0 (open_low c.args.store.now.events c.args.store.now.paths c.args.threads.now c.args.joined.now c.in-Some.place c.requires.wide
+    c.in-Some.ensures)) c.in-Some.ensures
+    (got_or c.args.finals.now c.tries.f-index 0 c.tries-test.true) (subst (IsThread c.args.store.now.paths _) c.if-thread.false c.thread.ensures)
+    (subst (TellsLined c.args.store.now.paths c.args.threads.now _ c.args.joined.now) c.if-not-is_lined.false c.is_lined.ensures) refl c.tries.invariant.1
+
 pub returns-in-Err-assemble-clause-tried : goal.returns-in-Err-assemble-clause-tried
 returns-in-Err-assemble-clause-tried t c h =
     let low : 0 < c.tries.left = omega (arith, c.if-left-eq0.false) in
-    let is : c.args.left.now - c.assemble.new.left ≡ (c.args.left.now - c.tries.left) + suc ((c.tries.left - 1) - c.assemble.new.left) = omega
+    let is : c.args.left.now - c.assemble.new.left + 1 ≡ (c.args.left.now - c.tries.left) + suc ((c.tries.left - 1) - c.assemble.new.left + 1) = omega
     (arith, low, c.tries.invariant.0, c.in-Err-assemble.ensures.falls) in
     tried_beyond c.args.store.now.events c.args.store.now.paths c.args.threads.now c.args.finals.now c.args.joined.now c.in-Ok-take_in.more.items c.in-Some.place _
-    c.tries.f-index _ (c.args.left.now - c.tries.left) ((c.tries.left - 1) - c.assemble.new.left) (c.args.left.now - c.assemble.new.left) c.requires.stand
+    c.tries.f-index _ (c.args.left.now - c.tries.left) ((c.tries.left - 1) - c.assemble.new.left + 1) (c.args.left.now - c.assemble.new.left + 1) c.requires.stand
     (got_or c.args.threads.now c.in-Some.place 0 (open_low c.args.store.now.events c.args.store.now.paths c.args.threads.now c.args.joined.now c.in-Some.place c.requires.wide
     c.in-Some.ensures)) c.in-Some.ensures
     (got_or c.args.finals.now c.tries.f-index 0 c.tries-test.true) (subst (IsThread c.args.store.now.paths _) c.if-thread.false c.thread.ensures)
     (subst (TellsLined c.args.store.now.paths c.args.threads.now _ c.args.joined.now) c.if-not-is_lined.false c.is_lined.ensures)
     c.in-Ok-take_in.ensures.taken (subst (λ l. TriesOnly c.args.store.now.events c.args.store.now.paths c.args.threads.now l
-    ((c.tries.left - 1) - c.assemble.new.left)) c.deref.ensures.value (c.in-Err-assemble.ensures.tried h)) is c.tries.invariant.1
+    ((c.tries.left - 1) - c.assemble.new.left + 1)) c.deref.ensures.value (c.in-Err-assemble.ensures.tried h)) is c.tries.invariant.1
 
 pub returns-in-Ok-Some-clause-ok : goal.returns-in-Ok-Some-clause-ok
 returns-in-Ok-Some-clause-ok t c =

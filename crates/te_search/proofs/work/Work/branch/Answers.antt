@@ -1,8 +1,11 @@
-use Rattle.std.proofs.Common.{◌≡◌, ◌∷◌, [], ◌∙◌, ap, sym, subst, inl, true, false, slice_get}
+use Rattle.std.proofs.Common.{◌≡◌, ◌∷◌, [], ◌∙◌, ap, sym, subst, true, false, Result, Err, slice_get}
+use Rattle.std.proofs.lemmas.Result.{err_from_is_err_and}
 use Rattle.te_trail.specs.Paths.{branched}
+use Rattle.te_search.specs.declared.assembly.Refused.{Refused}
+use Rattle.te_search.specs.declared.assembly.Refused.TheVariants as refusals
 use Rattle.te_search.specs.Works.{IsSpentAt, IsWork, Grows}
 use Rattle.te_search.proofs.Trying.{get_some, get_low}
-use Rattle.te_search.proofs.Working.{get_more, branch_done, branch_unmade, branch_left, choice_stays, spent_gained, on_ok, gains_both}
+use Rattle.te_search.proofs.Working.{get_more, branch_done, branch_unmade, branch_left, choice_stays, spent_gained, spent_here, on_ok, gains_both}
 use Rattle.te_search.proofs.Ending.{gains_grow}
 use Rattle.te_search.proofs.WorkKept.{keeps_both}
 use Rattle.te_search.proofs.work.Work.branch.Goals as goal
@@ -29,12 +32,21 @@ branch_one-requires-2-clause-unmade c =
 pub branch_one-requires-2-clause-low : goal.branch_one-requires-2-clause-low
 branch_one-requires-2-clause-low c = let x = get_some c.args.self.now.store.paths c.args.p c.requires.path in (c.in_ok-branch_one.ensures.ok x.0 x.1).pending_low
 
+is_spent : {A : Type 0} (r : Result A Refused) (e fault : Refused) → r ≡ Err e → e ≡ fault → r ≡ Err refusals.Spent → fault ≡ refusals.Spent
+is_spent r e fault a b h = cc
+
+pub returns-in_err-branch_one-clause-spent : goal.returns-in_err-branch_one-clause-spent
+returns-in_err-branch_one-clause-spent c h =
+    let p = err_from_is_err_and c.from_residual.result c.from_residual.ensures.1 in
+    let s = c.in_err-branch_one.ensures.spent (ap Err (is_spent c.from_residual.result p.0 c.in_err-branch_one.field-0.0 p.1 p.2 h)) in
+    subst (λ w. IsSpentAt w c.args.self.now.store.events c.args.budget) (sym s.0) (spent_here c.args.self.now c.args.p c.args.budget c.requires.work s.1)
+
 pub returns-clause-spent : goal.returns-clause-spent
 returns-clause-spent c h =
     let x = get_some c.args.self.now.store.paths c.args.p c.requires.path in
     let s = c.branch_one-2.ensures.spent h in
     subst (λ w. IsSpentAt w c.args.self.now.store.events c.args.budget) (sym s.0)
-    (spent_gained c.args.self.now c.branch_one.new.self c.args.p (branched x.0 true ∷ []) c.args.budget c.requires.work (c.in_ok-branch_one.ensures.ok x.0 x.1) (inl s.1))
+    (spent_gained c.args.self.now c.branch_one.new.self c.args.p (branched x.0 true ∷ []) c.args.budget c.requires.work (c.in_ok-branch_one.ensures.ok x.0 x.1) s.1)
 
 pub returns-clause-ok : goal.returns-clause-ok
 returns-clause-ok c =

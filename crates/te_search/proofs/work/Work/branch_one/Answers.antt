@@ -1,8 +1,10 @@
-use Rattle.std.proofs.Common.{arith, ◌≡◌, ◌+◌, ◌++◌, ◌∷◌, [], ◌∙◌, ap, ap₂, sym, refl, length, map, Some, length-append}
+use Rattle.std.proofs.Common.{arith, ◌≡◌, ◌<◌, ◌+◌, ◌++◌, ◌∷◌, [], ◌∙◌, ap, ap₂, sym, refl, inl, length, map, Some, length-append}
 use Rattle.te_terms.specs.Joint.{choice}
 use Rattle.te_trail.specs.declared.moves.Move.TheVariants as moves
 use Rattle.te_trail.specs.Paths.{branched}
 use Rattle.te_search.specs.Works.{told}
+use Rattle.te_search.proofs.ListLaws.{holds_at}
+use Rattle.te_search.proofs.StoresGrow.{branch_grows}
 use Rattle.te_search.proofs.Trying.{get_some}
 use Rattle.te_search.proofs.Working.{map_both, gains_one}
 use Rattle.te_search.proofs.WorkKept.{keeps_same, keeps_paths}
@@ -28,7 +30,21 @@ returns-clause-within c =
     let x = get_some c.args.self.now.store.paths c.args.p c.requires.path in
     let l : length c.branch-number.new.self.paths ≡ length c.args.self.now.store.paths + 1 = ap (λ t. length t.paths) (c.in_Ok-number.ensures.ok x.0 x.1)
     ∙ length-append c.args.self.now.store.paths (branched x.0 c.args.left ∷ []) in
-    omega (arith, l, c.left.ensures, c.if-left-eq0.false)
+    omega (arith, l, c.left.ensures.left, c.if-left-eq0.false)
+
+pub returns-then-left-eq0-clause-spent : goal.returns-then-left-eq0-clause-spent
+returns-then-left-eq0-clause-spent c h =
+    let x = get_some c.args.self.now.store.paths c.args.p c.requires.path in
+    let sum : length c.args.self.now.store.paths + c.args.self.now.groups ≡ c.args.budget = omega (arith, c.left.ensures.left, c.if-left-eq0.true) in (
+      refl,
+      record {
+        near = inl sum;
+        more = branched x.0 c.args.left ∷ [];
+        store = branch_grows c.args.self.now.store.events c.args.self.now.store.paths x.0 c.args.left c.left.ensures.store (holds_at c.args.self.now.store.paths c.args.p x.0 x.1)
+            (c.requires.unmade x.0 x.1) (λ m e. c.requires.stands x.0 m x.1 e);
+        beyond = (let more : c.args.budget < length c.args.self.now.store.paths + 1 + c.args.self.now.groups = omega (arith, sum) in more);
+      },
+    )
 
 pub returns-then-left-eq0-clause-keeps : goal.returns-then-left-eq0-clause-keeps
 returns-then-left-eq0-clause-keeps c = keeps_same _ _ refl refl refl refl

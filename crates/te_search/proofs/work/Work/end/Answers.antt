@@ -2,7 +2,7 @@ use Rattle.std.proofs.Common.{arith, ◌≡◌, ◌+◌, ◌-◌, ◌∷◌, [],
 use Rattle.te_search.specs.Assemblies.{Stand, Names, Assembles, joint}
 use Rattle.te_search.specs.Works.{EndsSo}
 use Rattle.te_search.proofs.Trying.{get_some, on_found}
-use Rattle.te_search.proofs.Ending.{ending, end_ends, end_spent}
+use Rattle.te_search.proofs.Ending.{ending, end_ends, end_short, end_spent}
 use Rattle.te_search.proofs.WorkKept.{keeps_same, keeps_final}
 use Rattle.te_search.proofs.work.Work.end.Goals as goal
 
@@ -17,7 +17,7 @@ returns-clause-ok c =
     let x = get_some c.args.self.now.store.paths c.args.p c.requires.path in
     let e = ending c.args.self.now c.args.p x.0 c.args.threads.now x.1 c.requires.work (c.requires.at_end x.0 x.1) c.requires.threads in
     let gr : c.args.budget - c.len.result - c.assemble-answer.new.left ≡ c.args.self.now.groups + suc ((c.left-left.result - 1) - c.assemble-answer.new.left) = omega
-    (arith, c.left-left.ensures, c.if-left-eq0.false, c.len.ensures.number, c.assemble-answer.ensures.falls) in
+    (arith, c.left-left.ensures.left, c.if-left-eq0.false, c.len.ensures.number, c.assemble-answer.ensures.falls) in
     on_found (Assembles c.args.self.now.store.events c.args.self.now.store.paths c.args.threads.now c.deref.result.now c.deref-2.result.now ((c.left-left.result - 1) - c.assemble-answer.new.left))
     (EndsSo (record {
       store = c.args.self.now.store;
@@ -43,14 +43,21 @@ returns-clause-ok c =
     ((c.left-left.result - 1) - c.assemble-answer.new.left) found) (c.deref.ensures.value ∙ c.in-Ok-push.ensures.items) h))
     c.assemble-answer.ensures.ok
 
+pub returns-then-left-eq0-clause-spent : goal.returns-then-left-eq0-clause-spent
+returns-then-left-eq0-clause-spent c h =
+    let x = get_some c.args.self.now.store.paths c.args.p c.requires.path in
+    let e = ending c.args.self.now c.args.p x.0 c.args.threads.now x.1 c.requires.work (c.requires.at_end x.0 x.1) c.requires.threads in
+    let sum : length c.args.self.now.store.paths + c.args.self.now.groups ≡ c.args.budget = omega (arith, c.left-left.ensures.left, c.if-left-eq0.true) in
+    end_short c.args.self.now c.args.p x.0 c.args.threads.now c.args.budget c.requires.work e sum
+
 pub returns-clause-spent : goal.returns-clause-spent
 returns-clause-spent c h =
     let x = get_some c.args.self.now.store.paths c.args.p c.requires.path in
     let e = ending c.args.self.now c.args.p x.0 c.args.threads.now x.1 c.requires.work (c.requires.at_end x.0 x.1) c.requires.threads in
     let gr : c.args.budget - c.len.result - c.assemble-answer.new.left ≡ c.args.self.now.groups + suc ((c.left-left.result - 1) - c.assemble-answer.new.left) = omega
-    (arith, c.left-left.ensures, c.if-left-eq0.false, c.len.ensures.number, c.assemble-answer.ensures.falls) in
+    (arith, c.left-left.ensures.left, c.if-left-eq0.false, c.len.ensures.number, c.assemble-answer.ensures.falls) in
     let sum : length c.args.self.now.store.paths + (c.args.budget - c.len.result - c.assemble-answer.new.left) ≡ c.args.budget = omega
-    (arith, c.left-left.ensures, c.len.ensures.number, c.assemble-answer.ensures.spent h) in
+    (arith, c.left-left.ensures.left, c.len.ensures.number, c.assemble-answer.ensures.spent h) in
     end_spent c.args.self.now (record {
       store = c.args.self.now.store;
       moves = c.args.self.now.moves;
