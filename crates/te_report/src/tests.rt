@@ -131,8 +131,8 @@ enum Told {
     Rests,
     // Takes a number.
     Takes(u32, i64),
-    // Commits a ring of three threads: the first starts the number 0, and each of the others passes on one more.
-    Commits([u32; 3]),
+    // Commits a ring of three threads: the first starts a number, and each of the others passes on one more.
+    Commits([u32; 3], i64),
 }
 
 #[derive(Drop)]
@@ -166,9 +166,9 @@ fn ring(alloc: Global, tickets: &[u32; 3]) -> Result<Cert, Fail> {
     Ok(Cert { members, meets })
 }
 
-fn ring_gives(alloc: Global) -> Result<Rows<Outcome>, Fail> {
+fn ring_gives(alloc: Global, first: i64) -> Result<Rows<Outcome>, Fail> {
     let mut outcomes = Rows::new(alloc);
-    for number in [2, 0, 1] {
+    for number in [first.wrapping_add(2), first, first.wrapping_add(1)] {
         outcomes.push(gives(number))?;
     }
     Ok(outcomes)
@@ -189,9 +189,9 @@ fn entry_of(alloc: Global, by: u32, told: &Told) -> Result<Entry, Fail>
             ticket: *ticket,
             outcome: gives(*number),
         }),
-        Told::Commits(tickets) => {
+        Told::Commits(tickets, first) => {
             let cert = ring(alloc, tickets)?;
-            let outcomes = ring_gives(alloc)?;
+            let outcomes = ring_gives(alloc, *first)?;
             Ok(Entry::Commit { by, cert, outcomes })
         }
     }
@@ -255,7 +255,7 @@ fn a_report_tells_withdrawals_rests_and_later_sites(rt: HostRuntime) -> Result<(
         Act::Tells(2, Told::Rests),
         Act::GoesOn(2, 0),
         Act::GoesOn(1, 1),
-        Act::Tells(2, Told::Commits([0, 1, 0])),
+        Act::Tells(2, Told::Commits([0, 1, 0], 0)),
         Act::Tells(1, Told::Takes(1, 0)),
         Act::Tells(0, Told::Takes(0, 2)),
         Act::GoesOn(1, 2),

@@ -1,3 +1,5 @@
+mod searching;
+
 ghost use Rattle.std.specs.Prelude.{◌≡◌, ◌≤◌, IfOk};
 ghost use Rattle.te_serial.specs.Houses.{IsHouse, AreFresh};
 
