@@ -15,3 +15,6 @@ mod turns;
 pub use answers::{Driven, Polled};
 pub use fault::SyncFault;
 pub use runtime::TeRuntime;
+
+#[cfg(test)]
+mod tests;
