@@ -17,10 +17,12 @@ use Rattle.te_runtime.specs.Turns.{Entered, GrowsBy, GoesOn, Left}
 -- the first of the words that were added tells no more than all of them do
 reached : (n : ℕ) (before after others : List ℕ) (first : ℕ) → after ≡ before ++ first ∷ others → All (λ word. word / 2 ≤ n) after → first / 2 ≤ n
 reached n before after others first grew most =
-    All-contains (λ word. word / 2 ≤ n) after first most (subst (λ (l : List ℕ). Contains l first) (sym grew) (Contains-append_right before (first ∷ others) first (0, omega arith, refl)))
+    All-contains (λ word. word / 2 ≤ n) after first most (subst (λ (l : List ℕ). Contains l first) (sym grew)
+    (Contains-append_right before (first ∷ others) first (0, omega arith, refl)))
 
 -- one look, which found the turn free
-pub looked_once : (before after : List ℕ) (read : List Entry) → after ≡ before ++ (2 * length read) ∷ [] → All (λ word. word / 2 ≤ length read) after → Looked before after read
+pub looked_once : (before after : List ℕ) (read : List Entry) → after ≡ before ++ (2 * length read) ∷ [] → All (λ word. word / 2 ≤ length read) after
+    → Looked before after read
 looked_once before after read grew most = record {
   first = 2 * length read;
   others = [];
@@ -33,7 +35,16 @@ looked_once before after read grew most = record {
 
 -- one entry is by its caller alone
 pub grows_by : {before after : BoardLog} (by : ℕ) (e : Entry) → caller_of e ≡ by → Appends before after e → GrowsBy by before after
-grows_by by e is a = record { callers = a.callers; goes_on = (e ∷ [], a.entries, All-cons (λ (x : Entry). caller_of x ≡ by) e [] is (All-nil (λ (x : Entry). caller_of x ≡ by))) }
+grows_by by e is a =
+    record {
+      callers = a.callers;
+      goes_on = (
+        e ∷ [],
+        a.entries,
+        All-cons (λ (x : Entry). caller_of x ≡ by) e [] is
+            (All-nil (λ (x : Entry). caller_of x ≡ by)),
+      );
+    }
 
 -- so are none
 pub stays : {before after : BoardLog} (by : ℕ) → after ≡ before → GrowsBy by before after
@@ -62,8 +73,10 @@ called_with {p} {q} {r} {b} {list} more e l goes by =
     let long : length q.read ≤ length r.read = omega (arith, ap length read, length-append q.read more) in
     let looked = e.looked in
     let now : entries_by caller_of q.caller (q.read ++ more) ≡ q.own ++ more =
-    entries_by-append caller_of q.caller q.read more ∙ ap (λ (xs : List Entry). xs ++ entries_by caller_of q.caller more) e.whole ∙ ap (λ (xs : List Entry). q.own ++ xs) by in
-    let goes_on : (list : List Entry) → IsPrefix list q.read → IsPrefix list r.read = λ list begins. subst (IsPrefix list) (sym read) (prefix_longer list q.read more begins) in
+    entries_by-append caller_of q.caller q.read more ∙ ap (λ (xs : List Entry). xs ++ entries_by caller_of q.caller more) e.whole
+    ∙ ap (λ (xs : List Entry). q.own ++ xs) by in
+    let goes_on : (list : List Entry) → IsPrefix list q.read → IsPrefix list r.read = λ list begins. subst (IsPrefix list) (sym read)
+    (prefix_longer list q.read more begins) in
     record {
       same = (l.same.0 ∙ e.same.0, l.same.1 ∙ e.same.1);
       idle = l.idle;
@@ -85,9 +98,11 @@ called_with {p} {q} {r} {b} {list} more e l goes by =
     }
 
 -- one entry was appended
-pub called : {p q r : Knowledge Entry} {b after : BoardLog} {x : Entry} → Entered p q b → Appends b after x → caller_of x ≡ q.caller → Left q r after.entries → Called p r (x ∷ [])
+pub called : {p q r : Knowledge Entry} {b after : BoardLog} {x : Entry} → Entered p q b → Appends b after x → caller_of x ≡ q.caller
+    → Left q r after.entries → Called p r (x ∷ [])
 called {p} {q} {r} {b} {after} {x} e a by l =
-    called_with (x ∷ []) e l a.entries (all_by caller_of q.caller (x ∷ []) (All-cons (λ (y : Entry). caller_of y ≡ q.caller) x [] by (All-nil (λ (y : Entry). caller_of y ≡ q.caller))))
+    called_with (x ∷ []) e l a.entries (all_by caller_of q.caller (x ∷ [])
+    (All-cons (λ (y : Entry). caller_of y ≡ q.caller) x [] by (All-nil (λ (y : Entry). caller_of y ≡ q.caller))))
 
 -- none was
 pub called_same : {p q r : Knowledge Entry} {b after : BoardLog} → Entered p q b → after ≡ b → Left q r after.entries → Called p r []
@@ -101,10 +116,6 @@ board_is {p} {q} {r} {b} {after} e callers l =
 
 pub board_same : {p q r : Knowledge Entry} {b after : BoardLog} → Entered p q b → after ≡ b → Left q r after.entries → board_of r ≡ b
 board_same {p} {q} {r} {b} {after} e same l = board_is e (ap (λ (x : BoardLog). x.callers) same) l ∙ same
-
--- the caller that was asked for before the turn is that of the pass after it
-pub by_is : {p q r : Knowledge Entry} {b : BoardLog} {list : List Entry} (by : ℕ) → Entered p q b → Left q r list → by ≡ p.caller → (by ≡ q.caller) × (by ≡ r.caller)
-by_is by e l is = (is ∙ sym e.same.1, is ∙ sym e.same.1 ∙ sym l.same.1)
 
 -- ---- calls make up a longer call
 
@@ -127,7 +138,8 @@ called_then {p} {q} {r} xs ys c d =
       looked = record {
         first = c.looked.first;
         others = c.looked.others ++ d.looked.first ∷ d.looked.others;
-        grew = d.looked.grew ∙ ap (λ l. l ++ d.looked.first ∷ d.looked.others) c.looked.grew ∙ append_assoc p.looks (c.looked.first ∷ c.looked.others) (d.looked.first ∷ d.looked.others);
+        grew = d.looked.grew ∙ ap (λ l. l ++ d.looked.first ∷ d.looked.others) c.looked.grew ∙ append_assoc p.looks (c.looked.first ∷ c.looked.others)
+            (d.looked.first ∷ d.looked.others);
         reaches = omega (arith, c.looked.reaches, long);
         free = d.looked.free;
       };

@@ -33,13 +33,15 @@ use Rattle.te_lock.proofs.Beginnings.{prefix_length}
 
 -- ---- a commit is refused only where the list isn't the one of the group any more
 
-pub commit_moved : (b : BoardLog) (cert : Cert) (parked : List Parked) (fault : BoardFault) → IsGroupIn parked cert → fault ≢ faults.Closed → fault ≢ faults.Memory
+pub commit_moved : (b : BoardLog) (cert : Cert) (parked : List Parked) (fault : BoardFault) → IsGroupIn parked cert → fault ≢ faults.Closed
+    → fault ≢ faults.Memory
     → DeniesCommit b cert fault → parked ≢ parked_list (state_of b)
 commit_moved b cert parked fault group open' other denies = λ same. by_fault fault open' other denies (subst (λ (l : List Parked). IsGroupIn l cert) same group)
   where
     refused : IsGroupIn (parked_list (state_of b)) cert → (f : StepFault) → f ≢ steps.Memory → RefusesPlay b.callers (state_of b) cert f → ⊥
     refused g f other' denies' =
-        not_commit b.callers (state_of b) cert g.0 f (length-state b.callers b.entries) (play_refused b.callers (state_of b) cert g.0 f denies') other' (group_commits (state_of b) cert g.0 g.1)
+        not_commit b.callers (state_of b) cert g.0 f (length-state b.callers b.entries) (play_refused b.callers (state_of b) cert g.0 f denies') other'
+        (group_commits (state_of b) cert g.0 g.1)
 
     by_fault : (f : BoardFault) → f ≢ faults.Closed → f ≢ faults.Memory → DeniesCommit b cert f → IsGroupIn (parked_list (state_of b)) cert → ⊥
     by_fault faults.Closed open'' other' denies' g = open'' refl
@@ -51,7 +53,8 @@ commit_moved b cert parked fault group open' other denies = λ same. by_fault fa
 
 -- ---- a commit of a group is tight
 
-pub is_tight_commit : (before after : BoardLog) (by : ℕ) (cert : Cert) (parked : List Parked) → IsGroupIn parked cert → HasCommitted before after by cert → (e : Entry) × IsTightCommit by e × Appends before after e
+pub is_tight_commit : (before after : BoardLog) (by : ℕ) (cert : Cert) (parked : List Parked) → IsGroupIn parked cert
+    → HasCommitted before after by cert → (e : Entry) × IsTightCommit by e × Appends before after e
 is_tight_commit before after by cert parked group done =
     (entries.Commit by cert done.outcomes, record { cert = cert; outcomes = done.outcomes; is = refl; tight = group.1.tight }, done.appends)
 
@@ -60,7 +63,8 @@ commit_by c = ap caller_of c.is
 
 -- ---- who may not declare the board stuck
 
-pub may_not_declare : (b : BoardLog) (by : ℕ) (parked : List Parked) (fault : BoardFault) → fault ≢ faults.Closed → ((n : ℕ) → fault ≢ faults.Moved n) → DeniesStuck b by parked fault → MayNotDeclare (state_of b) by
+pub may_not_declare : (b : BoardLog) (by : ℕ) (parked : List Parked) (fault : BoardFault) → fault ≢ faults.Closed → ((n : ℕ) → fault ≢ faults.Moved n)
+    → DeniesStuck b by parked fault → MayNotDeclare (state_of b) by
 may_not_declare b by parked faults.Closed open' other denies = absurd (open' refl)
 may_not_declare b by parked (faults.Live t status) open' other denies = inl (t, status, denies.1.stands, denies.1.not_parked, denies.1.not_ended)
 may_not_declare b by parked (faults.NotParked status) open' other denies = inr (status, denies.2, denies.3)
@@ -69,7 +73,8 @@ may_not_declare b by parked _ open' other denies = absurd denies
 
 -- ---- the second turn
 
-pub is_acted : {m q r : Knowledge Entry} {b : BoardLog} (after : BoardLog) (by : ℕ) (seen : Snapshot) (d : Driven) → Entered m q b → Drives b after by seen d → Left q r after.entries → by ≡ m.caller
+pub is_acted : {m q r : Knowledge Entry} {b : BoardLog} (after : BoardLog) (by : ℕ) (seen : Snapshot) (d : Driven) → Entered m q b
+    → Drives b after by seen d → Left q r after.entries → by ≡ m.caller
     → IsSnapshotOf m seen → IsActed m r d
 is_acted {m} {q} {r} {b} after by seen (driven.Committed front) e drives l is of =
     let at : by ≡ q.caller = is ∙ sym e.same.1 in
@@ -115,5 +120,6 @@ is_driven {p} {m} q (driven.Moved from front) c moved =
       front_is = moved.front_is;
       differ = λ same. moved.differ (sym (at_seam m q from moved.called moved.from_is) ∙ same ∙ at_end q front moved.front_is);
     }
-is_driven {p} {m} q (driven.Blocked front) c blocked = record { called = called_then [] [] c blocked.called; front_is = blocked.front_is; cannot = blocked.cannot; may_not = blocked.may_not }
+is_driven {p} {m} q (driven.Blocked front) c blocked =
+    record { called = called_then [] [] c blocked.called; front_is = blocked.front_is; cannot = blocked.cannot; may_not = blocked.may_not }
 is_driven {p} {m} q driven.Stuck c d = called_then [] (entries.Stuck q.caller ∷ []) c d

@@ -26,13 +26,15 @@ use Rattle.te_runtime.proofs.Calling.{called, called_same, board_is, board_same}
 use Rattle.te_runtime.proofs.Refusing.{status_once, runs}
 
 -- an entry of a caller that is told by its number
-pub appended : {p q r : Knowledge Entry} {b after : BoardLog} (by : ℕ) (entry : ℕ → Entry) → ((k : ℕ) → caller_of (entry k) ≡ k) → Entered p q b → Appends b after (entry by) → Left q r after.entries
+pub appended : {p q r : Knowledge Entry} {b after : BoardLog} (by : ℕ) (entry : ℕ → Entry) → ((k : ℕ) → caller_of (entry k) ≡ k) → Entered p q b
+    → Appends b after (entry by) → Left q r after.entries
     → by ≡ p.caller → Called p r (entry r.caller ∷ [])
 appended {p} {q} {r} {b} {after} by entry of e a l is =
     let at : by ≡ q.caller = is ∙ sym e.same.1 in
     subst (λ (k : ℕ). Called p r (entry k ∷ [])) (at ∙ sym l.same.1) (called e a (of by ∙ at) l)
 
-pub is_polled : {p q r : Knowledge Entry} {b : BoardLog} (after : BoardLog) (by : ℕ) (answer : Polled) → Entered p q b → Polls b after by answer → Left q r after.entries → by ≡ p.caller → IsPolled p r answer
+pub is_polled : {p q r : Knowledge Entry} {b : BoardLog} (after : BoardLog) (by : ℕ) (answer : Polled) → Entered p q b → Polls b after by answer
+    → Left q r after.entries → by ≡ p.caller → IsPolled p r answer
 is_polled after by (polled.Ready outcome) e polls l is = (polls.0, appended by (λ k. entries.Take k polls.0 outcome) (λ k. refl) e polls.1 l is)
 is_polled {p} {q} {r} {b} after by (polled.Waiting front) e polls l is =
     let board : board_of r ≡ b = board_same e polls.0 l in
@@ -61,17 +63,22 @@ took b after by ticket outcome a waits =
 -- whose poll is refused doesn't wait
 not_waiting : (b : BoardLog) (by : ℕ) (f : SyncFault) → RefusesPoll b by f → IsWaiting (state_of b) by → ⊥
 not_waiting b by faults.Stuck cause waits = runs (state_of b) waits.running ((stuck_exactly b.callers b.entries).1 cause)
-not_waiting b by (faults.Other status) cause waits = subst HasNothing (status_once (state_of b) by status (statuses.Parked waits.ticket) cause.0.1 waits.parked) cause.1
+not_waiting b by (faults.Other status) cause waits =
+    subst HasNothing (status_once (state_of b) by status (statuses.Parked waits.ticket) cause.0.1 waits.parked) cause.1
 not_waiting b by _ cause waits = cause
 
-pub waits_told : (answer : Result Polled SyncFault) {p q r : Knowledge Entry} {b : BoardLog} (after : BoardLog) (by : ℕ) → Entered p q b → after.callers ≡ b.callers → Left q r after.entries → by ≡ p.caller
-    → IfOk answer (Polls b after by) → OnErr answer (after ≡ b) → IfErr answer (RefusesPoll b by) → IsWaiting (state_of (board_of r)) r.caller → answer ≡ Ok (polled.Waiting (length r.read))
+pub waits_told : (answer : Result Polled SyncFault) {p q r : Knowledge Entry} {b : BoardLog} (after : BoardLog) (by : ℕ) → Entered p q b
+    → after.callers ≡ b.callers → Left q r after.entries → by ≡ p.caller
+    → IfOk answer (Polls b after by) → OnErr answer (after ≡ b) → IfErr answer (RefusesPoll b by)
+    → IsWaiting (state_of (board_of r)) r.caller → answer ≡ Ok (polled.Waiting (length r.read))
 waits_told answer {p} {q} {r} {b} after by e callers l is ok same refused waits = by_answer answer ok same refused
   where
     here : IsWaiting (state_of after) by
-    here = subst (λ (x : BoardLog). IsWaiting (state_of x) by) (board_is e callers l) (subst (IsWaiting (state_of (board_of r))) (sym (is ∙ sym e.same.1 ∙ sym l.same.1)) waits)
+    here = subst (λ (x : BoardLog). IsWaiting (state_of x) by) (board_is e callers l)
+        (subst (IsWaiting (state_of (board_of r))) (sym (is ∙ sym e.same.1 ∙ sym l.same.1)) waits)
 
-    by_answer : (a : Result Polled SyncFault) → IfOk a (Polls b after by) → OnErr a (after ≡ b) → IfErr a (RefusesPoll b by) → a ≡ Ok (polled.Waiting (length r.read))
+    by_answer : (a : Result Polled SyncFault) → IfOk a (Polls b after by) → OnErr a (after ≡ b) → IfErr a (RefusesPoll b by)
+        → a ≡ Ok (polled.Waiting (length r.read))
     by_answer (Ok (polled.Ready outcome)) ok same refused = absurd (took b after by ok.0 outcome ok.1 here)
     by_answer (Ok (polled.Waiting front)) ok same refused =
         let front_is : front ≡ length r.read = ok.1 ∙ ap (λ (x : BoardLog). length x.entries) (sym (board_same e ok.0 l)) in

@@ -33,13 +33,15 @@ runs s running stuck = let both : true ≡ false = sym stuck ∙ running in cc
 
 -- ---- what a board can't refuse
 
-pub post_fits : (b : BoardLog) (by : ℕ) (fault : BoardFault) → IsRunning (state_of b) → HasStatus (state_of b) by statuses.Idle → fault ≢ board.Full → DeniesPost b by fault → ⊥
+pub post_fits : (b : BoardLog) (by : ℕ) (fault : BoardFault) → IsRunning (state_of b) → HasStatus (state_of b) by statuses.Idle → fault ≢ board.Full
+    → DeniesPost b by fault → ⊥
 post_fits b by board.Closed running idle other denies = runs (state_of b) running denies
 post_fits b by (board.NotIdle status) running idle other denies = denies.2 (status_once (state_of b) by status statuses.Idle denies.1 idle)
 post_fits b by board.Full running idle other denies = other refl
 post_fits b by _ running idle other denies = denies
 
-pub withdrawal_fits : (b : BoardLog) (by : ℕ) (fault : BoardFault) → IsRunning (state_of b) → ((status : Status) → fault ≢ board.NotParked status) → DeniesWithdraw b by fault → ⊥
+pub withdrawal_fits : (b : BoardLog) (by : ℕ) (fault : BoardFault) → IsRunning (state_of b) → ((status : Status) → fault ≢ board.NotParked status)
+    → DeniesWithdraw b by fault → ⊥
 withdrawal_fits b by board.Closed running other denies = runs (state_of b) running denies
 withdrawal_fits b by (board.NotParked status) running other denies = other status refl
 withdrawal_fits b by _ running other denies = denies
@@ -66,7 +68,8 @@ busy_refused refuses p q _ held = absurd held
 abbrev pub IsNoTurn : (BoardLog → ℕ → SyncFault → Type 0) → Type 0
 IsNoTurn refuses = (b : BoardLog) (by word : ℕ) → refuses b by (faults.Busy word) → ⊥
 
-pub refused : (refuses : BoardLog → ℕ → SyncFault → Type 0) → IsNoTurn refuses → {p q r : Knowledge Entry} {b after : BoardLog} (by : ℕ) (f : SyncFault) → Entered p q b → after ≡ b
+pub refused : (refuses : BoardLog → ℕ → SyncFault → Type 0) → IsNoTurn refuses
+    → {p q r : Knowledge Entry} {b after : BoardLog} (by : ℕ) (f : SyncFault) → Entered p q b → after ≡ b
     → Left q r after.entries → by ≡ p.caller → refuses b by f → Refused refuses p r f
 refused refuses other {p} {q} {r} {b} {after} by f e same l is cause = either f (called_same e same l) shown
   where
@@ -85,7 +88,8 @@ refused refuses other {p} {q} {r} {b} {after} by f e same l is cause = either f 
     either (faults.Busy word) c s = absurd (other (board_of r) r.caller word s)
     either faults.Memory c s = (c, s)
 
-pub refused_call : {A : Type 0} (refuses : BoardLog → ℕ → SyncFault → Type 0) → IsNoTurn refuses → (answer : Result A SyncFault) → {p q r : Knowledge Entry} {b : BoardLog} (after : BoardLog) (by : ℕ)
+pub refused_call : {A : Type 0} (refuses : BoardLog → ℕ → SyncFault → Type 0) → IsNoTurn refuses → (answer : Result A SyncFault)
+    → {p q r : Knowledge Entry} {b : BoardLog} (after : BoardLog) (by : ℕ)
     → Entered p q b → Left q r after.entries → by ≡ p.caller → OnErr answer (after ≡ b) → IfErr answer (refuses b by) → IfErr answer (Refused refuses p r)
 refused_call refuses other (Ok x) after by e l is same cause = tt
 refused_call refuses other (Err f) after by e l is same cause = refused refuses other by f e same l is cause
@@ -106,7 +110,8 @@ refused_first budget p q faults.Full r = r
 refused_first budget p q (faults.Busy word) r = inl r
 refused_first budget p q faults.Memory r = r
 
-pub refused_second : (budget : ℕ) (p m q : Knowledge Entry) (f : SyncFault) → Called p m [] → Refused (λ b by. RefusesTurn b) m q f → RefusedOnce (RefusesDrive budget) p q f
+pub refused_second : (budget : ℕ) (p m q : Knowledge Entry) (f : SyncFault) → Called p m [] → Refused (λ b by. RefusesTurn b) m q f
+    → RefusedOnce (RefusesDrive budget) p q f
 refused_second budget p m q (faults.Other status) c r = absurd r.1
 refused_second budget p m q faults.Stuck c r = (called_then [] [] c r.0, r.1)
 refused_second budget p m q faults.Resting c r = absurd r.1

@@ -57,7 +57,9 @@ fn commit(
 
 /// Whether the parked list is still that of the snapshot.
 fn is_unmoved(alloc: Global, board: &Board, snapshot: &Snapshot) -> Result<bool, SyncFault>
-    ensures ok { IfOk result (λ same. MatchBool same (snapshot.now.parked ≡ parked_list (state_of board.now)) (snapshot.now.parked ≢ parked_list (state_of board.now))) }
+    ensures ok { IfOk result (λ same. MatchBool same
+        (snapshot.now.parked ≡ parked_list (state_of board.now))
+        (snapshot.now.parked ≢ parked_list (state_of board.now))) }
     ensures cause { IfErr result (RefusesTurn board.now) }
 {
     let Ok(now) = board.snapshot(alloc) else {

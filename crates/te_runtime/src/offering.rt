@@ -58,7 +58,8 @@ impl TeRuntime {
         requires idle { pass.old.has_turn ≡ false }
         ensures same { IsSamePass pass.old pass.new }
         ensures turn { pass.new.has_turn ≡ false }
-        ensures ok { IfOk result (λ ticket. Called pass.old pass.new (entries.Post pass.new.caller ticket event.now ∷ [])) }
+        ensures ok { IfOk result (λ ticket. Called pass.old pass.new
+            (entries.Post pass.new.caller ticket event.now ∷ [])) }
         ensures refused { IfErr result (Refused RefusesOffer pass.old pass.new) }
     {
         let by = Turn::caller(pass);

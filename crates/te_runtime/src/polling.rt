@@ -56,7 +56,8 @@ impl TeRuntime {
         ensures ok { IfOk result (IsPolled pass.old pass.new) }
         ensures refused { IfErr result (Refused RefusesPoll pass.old pass.new) }
         // it answers that the caller waits wherever the turn was free and the caller does
-        ensures waits { FoundFree pass.new.looks → IsWaiting (state_of (board_of pass.new)) pass.new.caller → result ≡ Ok (polled.Waiting (length pass.new.read)) }
+        ensures waits { FoundFree pass.new.looks → IsWaiting (state_of (board_of pass.new)) pass.new.caller
+            → result ≡ Ok (polled.Waiting (length pass.new.read)) }
     {
         let by = Turn::caller(pass);
         let mut board = self.enter(pass)?;

@@ -242,9 +242,12 @@ fn four(
     Fail,
 >
     ensures callers { IfOk result (λ made. made.0.callers ≡ 4) }
-    ensures here { IfOk result (λ made. ((made.1.lock ≡ made.0) × (made.2.lock ≡ made.0)) × ((made.3.lock ≡ made.0) × (made.4.lock ≡ made.0))) }
-    ensures order { IfOk result (λ made. ((made.1.caller ≡ 0) × (made.2.caller ≡ 1)) × ((made.3.caller ≡ 2) × (made.4.caller ≡ 3))) }
-    ensures idle { IfOk result (λ made. ((made.1.has_turn ≡ false) × (made.2.has_turn ≡ false)) × ((made.3.has_turn ≡ false) × (made.4.has_turn ≡ false))) }
+    ensures here { IfOk result (λ made. ((made.1.lock ≡ made.0) × (made.2.lock ≡ made.0))
+        × ((made.3.lock ≡ made.0) × (made.4.lock ≡ made.0))) }
+    ensures order { IfOk result (λ made. ((made.1.caller ≡ 0) × (made.2.caller ≡ 1))
+        × ((made.3.caller ≡ 2) × (made.4.caller ≡ 3))) }
+    ensures idle { IfOk result (λ made. ((made.1.has_turn ≡ false) × (made.2.has_turn ≡ false))
+        × ((made.3.has_turn ≡ false) × (made.4.has_turn ≡ false))) }
 {
     let (runtime, mut passes) = TeRuntime::new(alloc, 4, 1)?;
     let fourth = passes.pop().ok_or("a fourth pass")?;
@@ -262,9 +265,11 @@ fn ended(
     back: (Pass<Board>, Pass<Board>),
 ) -> Result<Board, Fail>
     requires callers { runtime.callers ≡ 4 }
-    requires here { ((front.0.lock ≡ runtime) × (front.1.lock ≡ runtime)) × ((back.0.lock ≡ runtime) × (back.1.lock ≡ runtime)) }
+    requires here { ((front.0.lock ≡ runtime) × (front.1.lock ≡ runtime))
+        × ((back.0.lock ≡ runtime) × (back.1.lock ≡ runtime)) }
     requires order { ((front.0.caller ≡ 0) × (front.1.caller ≡ 1)) × ((back.0.caller ≡ 2) × (back.1.caller ≡ 3)) }
-    requires idle { ((front.0.has_turn ≡ false) × (front.1.has_turn ≡ false)) × ((back.0.has_turn ≡ false) × (back.1.has_turn ≡ false)) }
+    requires idle { ((front.0.has_turn ≡ false) × (front.1.has_turn ≡ false))
+        × ((back.0.has_turn ≡ false) × (back.1.has_turn ≡ false)) }
 {
     let mut passes = Vec::new(alloc);
     passes.push(front.0)?;

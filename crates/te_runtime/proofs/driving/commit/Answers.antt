@@ -22,7 +22,8 @@ returns-in_default c =
         same = same;
         from_is = refl;
         front_is = c.len-in_default.ensures.value ∙ ap (λ (x : BoardLog). length x.entries) same;
-        differ = commit_moved b c.args.cert c.args.snapshot.now.parked c.in-Err.fault c.requires.group c.in_default.not-Closed c.in_default.not-Memory c.in-Err.ensures.cause;
+        differ = commit_moved b c.args.cert c.args.snapshot.now.parked c.in-Err.fault c.requires.group c.in_default.not-Closed c.in_default.not-Memory
+            c.in-Err.ensures.cause;
       };
       same = tt;
       goes_on = stays c.args.by same;

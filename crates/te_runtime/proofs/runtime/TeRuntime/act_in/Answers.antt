@@ -19,5 +19,6 @@ returns-clause-ok c =
 
 pub returns-clause-refused : goal.returns-clause-refused
 returns-clause-refused c =
-    refused_call (λ board by. RefusesTurn board) (λ b by word is. is) c.act-driven.result c.act-driven.new.board c.caller-by.result c.in_ok-board.ensures.ok c.exit.ensures
+    refused_call (λ board by. RefusesTurn board) (λ b by word is. is) c.act-driven.result c.act-driven.new.board c.caller-by.result
+    c.in_ok-board.ensures.ok c.exit.ensures
     c.caller-by.ensures.caller c.act-driven.ensures.same c.act-driven.ensures.cause

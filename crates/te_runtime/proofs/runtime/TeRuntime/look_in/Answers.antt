@@ -21,5 +21,6 @@ returns-clause-refused c =
     c.look-snapshot.result
     (RefusesTurn c.in_ok-board.board)
     (Refused (λ board by. RefusesTurn board) c.args.pass.now c.exit.new.pass)
-    (λ fault cause. refused (λ board by. RefusesTurn board) (λ b by word is. is) c.args.pass.now.caller fault c.in_ok-board.ensures.ok refl c.exit.ensures refl cause)
+    (λ fault cause. refused (λ board by. RefusesTurn board) (λ b by word is. is) c.args.pass.now.caller fault c.in_ok-board.ensures.ok refl
+    c.exit.ensures refl cause)
     c.look-snapshot.ensures.cause

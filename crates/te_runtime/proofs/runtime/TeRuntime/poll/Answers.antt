@@ -18,10 +18,12 @@ returns-clause-ok c =
 
 pub returns-clause-refused : goal.returns-clause-refused
 returns-clause-refused c =
-    refused_call RefusesPoll (λ b by word is. is) c.take-answer.result c.take-answer.new.board c.caller-by.result c.in_ok-board.ensures.ok c.exit.ensures c.caller-by.ensures.caller c.take-answer.ensures.same
+    refused_call RefusesPoll (λ b by word is. is) c.take-answer.result c.take-answer.new.board c.caller-by.result c.in_ok-board.ensures.ok
+    c.exit.ensures c.caller-by.ensures.caller c.take-answer.ensures.same
     c.take-answer.ensures.cause
 
 pub returns-clause-waits : goal.returns-clause-waits
 returns-clause-waits c = λ free waits.
-    waits_told c.take-answer.result c.take-answer.new.board c.caller-by.result c.in_ok-board.ensures.ok c.take-answer.ensures.goes_on.callers c.exit.ensures c.caller-by.ensures.caller
+    waits_told c.take-answer.result c.take-answer.new.board c.caller-by.result c.in_ok-board.ensures.ok c.take-answer.ensures.goes_on.callers
+    c.exit.ensures c.caller-by.ensures.caller
     c.take-answer.ensures.ok c.take-answer.ensures.same c.take-answer.ensures.cause waits

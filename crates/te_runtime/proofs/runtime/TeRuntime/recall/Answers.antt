@@ -21,5 +21,6 @@ returns-clause-ok c =
 
 pub returns-clause-refused : goal.returns-clause-refused
 returns-clause-refused c =
-    refused_call RefusesRecall (λ b by word is. is) c.withdraw-answer.result c.withdraw-answer.new.board c.caller-by.result c.in_ok-board.ensures.ok c.exit.ensures c.caller-by.ensures.caller c.withdraw-answer.ensures.same
+    refused_call RefusesRecall (λ b by word is. is) c.withdraw-answer.result c.withdraw-answer.new.board c.caller-by.result c.in_ok-board.ensures.ok
+    c.exit.ensures c.caller-by.ensures.caller c.withdraw-answer.ensures.same
     c.withdraw-answer.ensures.cause
