@@ -10,7 +10,7 @@ use std::test::Fail;
 use te_board::{Board, BoardFault, Snapshot};
 use te_history::Status;
 use te_search::{Found, find};
-use te_terms::{Calc, Calcs, Event, EventCode, Expr, Node, Prim, Value};
+use te_terms::{Calc, Calcs, Event, EventCode, Expr, Node, Outcome, Prim, Value};
 
 fn event(alloc: Global, node: Node) -> Result<Event, Fail> {
     let mut code = EventCode::new(alloc);
@@ -31,6 +31,8 @@ fn receives(alloc: Global) -> Result<Event, Fail> {
 }
 
 fn post(board: &mut Board, by: u32, event: Event) -> Result<(), Fail> {
+    // The checker knows the types within a fault only where the body names them.
+    let _named: Option<(Status, Outcome)> = None;
     if by >= board.callers() {
         Err("a caller")?;
     }
@@ -39,6 +41,8 @@ fn post(board: &mut Board, by: u32, event: Event) -> Result<(), Fail> {
 }
 
 fn withdraw(board: &mut Board, by: u32) -> Result<(), Fail> {
+    // The checker knows the types within a fault only where the body names them.
+    let _named: Option<(Status, Outcome)> = None;
     if by >= board.callers() {
         Err("a caller")?;
     }
@@ -53,6 +57,8 @@ fn declare_stuck(
 ) -> Result<Option<BoardFault>, Fail>
     requires { ¬ CanCommit snapshot.now.parked }
 {
+    // The checker knows the types within a fault only where the body names them.
+    let _named: Option<(Status, Outcome)> = None;
     if by >= board.callers() {
         Err("a caller")?;
     }
@@ -88,6 +94,8 @@ fn search(alloc: Global, snapshot: &Snapshot) -> Result<Found, Fail>
 
 #[test]
 fn a_group_that_was_found_is_stale_after_a_withdrawal(rt: HostRuntime) -> Result<(), Fail> {
+    // The checker knows the types within a fault only where the body names them.
+    let _named: Option<(Status, Outcome)> = None;
     let alloc = rt.alloc();
     let mut board = posted(alloc, sends(alloc, 7)?, receives(alloc)?)?;
     let snapshot = board.snapshot(alloc)?;
@@ -105,6 +113,8 @@ fn a_group_that_was_found_is_stale_after_a_withdrawal(rt: HostRuntime) -> Result
 
 #[test]
 fn a_blocked_list_is_declared_only_where_it_still_stands(rt: HostRuntime) -> Result<(), Fail> {
+    // The checker knows the types within a fault only where the body names them.
+    let _named: Option<(Status, Outcome)> = None;
     let alloc = rt.alloc();
     let mut board = posted(alloc, event(alloc, Node::Never)?, sends(alloc, 1)?)?;
     let snapshot = board.snapshot(alloc)?;
