@@ -5,3 +5,4 @@ pub mod Privacy
 pub mod Guards
 pub mod Handing
 pub mod Reading
+pub mod Commits
