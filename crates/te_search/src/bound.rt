@@ -64,9 +64,9 @@ fn paths_in(parked: &[Parked]) -> u64
     grown(events, receives_in(parked) + 1, parked)
 }
 
-/// A budget by which `find` is never `Spent` of the list: twice the most paths that it can have, which are the number of events,
-/// times 3 for each choose node, times one more than the receive nodes for each send node. None where that is more than
-/// 1,000,000. Condition: threads rise strictly. It takes no memory. The number is this project's own.
+/// A budget by which `find` is never `Spent` of the list: twice the most paths that it can have, which are the number of
+/// events, times 3 for each choose node, times one more than the receive nodes for each send node. None where that is more
+/// than 1,000,000. Condition: threads rise strictly. It takes no memory. The number is this project's own.
 pub fn enough(parked: &[Parked]) -> Option<u64>
     requires { IsGroup (as_group parked.now) }
     ensures some { IfSome result (λ n. n ≡ enough_for (as_group parked.now)) }

@@ -56,9 +56,9 @@ impl ExprView<'_> {
     }
 }
 
-/// A node as a code lends it. It is public for the crates above alone.
 // Its forms stand in another order than those of `Form`: a match on a view is then made one with the match that
 // makes it, and a look at a node has one branch.
+/// A node as a code lends it. It is public for the crates above alone.
 #[doc(hidden)]
 #[derive(Clone, Copy)]
 pub enum NodeView<'a> {
