@@ -34,7 +34,7 @@ module _ (script : Program) (hist : History) (cores : List At) (e : Entry) (so_f
   }
 
 -- the thread of a core
-core_back : (h : List Entry) (k t : ℕ) (threads : List Thread) (c : At) → slice_get (cores_from h k threads) t ≡ Some c → (x : Thread)
+pub core_back : (h : List Entry) (k t : ℕ) (threads : List Thread) (c : At) → slice_get (cores_from h k threads) t ≡ Some c → (x : Thread)
     × (slice_get threads t ≡ Some x) × (c ≡ core_after x (taken (k + t) h))
 core_back h k t [] c is = absurd cc
 core_back h k zero (x ∷ xs) c is =
