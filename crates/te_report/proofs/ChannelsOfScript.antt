@@ -1,11 +1,10 @@
 -- Each channel in a loose history of a script's threads is one of the script or a fresh one of one of its threads; integers are
 -- of 64 bits, and values have at most 4 atoms.
-use Rattle.std.proofs.Common.{◌≡◌, ◌≢◌, ◌⊎◌, inl, inr, ℕ, zero, suc, ◌+◌, ◌<◌, ◌≤◌, Bool, true, false, cond, eqb, List, [], ◌∷◌, ◌++◌, length, map, replicate, Option, Some, None, Ok, refl, sym, ap, subst, ◌∙◌, arith}
+use Rattle.std.proofs.Common.{◌≡◌, ◌≢◌, ◌⊎◌, inl, inr, ℕ, zero, suc, ◌+◌, ◌<◌, ◌≤◌, Bool, true, false, cond, eqb, List, [], ◌∷◌, ◌++◌, length, map, replicate, Option, Some, None, refl, sym, ap, subst, ◌∙◌, arith}
 use Rattle.std.specs.Prelude.{slice_get}
 use Rattle.std.specs.List.{AllByRecursion}
 use Rattle.std.proofs.lemmas.Option.{slice_get_within}
 use Rattle.te_terms.specs.declared.event.Outcome.{Outcome}
-use Rattle.te_terms.specs.Values.{fresh_channel}
 use Rattle.te_terms.specs.Limits.{most_fresh}
 use Rattle.te_terms.specs.Measures.{fresh_count}
 use Rattle.te_terms.specs.Steps as steps
@@ -15,7 +14,7 @@ use Rattle.te_cert.specs.declared.cert.Cert.{Cert}
 use Rattle.te_cert.specs.Checks.{RiseAfter, ThreadsRise}
 use Rattle.te_cert.proofs.PlaysReduce.{plays_reduce}
 use Rattle.te_script.specs.Scripts.{Thread, Program, IsThread, IsProgram}
-use Rattle.te_script.specs.Wishes.{Wish, syncs, done, raised, wish}
+use Rattle.te_script.specs.Wishes.{Wish, wish}
 use Rattle.te_history.specs.declared.entry.Entry.{Entry}
 use Rattle.te_history.specs.declared.entry.Entry.TheVariants as entries
 use Rattle.te_history.specs.declared.status.How.TheVariants as ways
@@ -25,9 +24,9 @@ use Rattle.te_history.specs.Follows.{Stands, AreEvents, Commits, Ends, caller_of
 use Rattle.te_history.proofs.AfterEntry.{state-after, length-state}
 use Rattle.te_history.proofs.Places.{by_place}
 use Rattle.te_history.proofs.Commits.{same_or_other, stands_put, stands_other}
-use Rattle.te_report.specs.OfScript.{taken, taken_from, EndsSo, WishedBy, IsOfScript}
-use Rattle.te_report.specs.Fitting.{ValueFits, TermFits, OutcomeFits, HowFits, EntryFits}
-use Rattle.te_report.specs.ScriptChannels.{IsFreshOf, IsChannelOf, HasChannelsOf}
+use Rattle.te_report.specs.OfScript.{taken, taken_from, WishedBy, IsOfScript}
+use Rattle.te_report.specs.Fitting.{OutcomeFits, HowFits, EntryFits}
+use Rattle.te_report.specs.ScriptChannels.{IsChannelOf, HasChannelsOf}
 use Rattle.te_report.proofs.Growing.{taken_more, grows_wished}
 use Rattle.te_report.proofs.FittingHas.{entries_have}
 use Rattle.te_report.proofs.ChannelsStepped.{Makes, Fits, AllFit, reductions_have}

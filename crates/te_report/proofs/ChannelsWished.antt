@@ -1,15 +1,14 @@
 -- What a thread of a script wishes has the script's channels and those of the outcomes that it has taken.
-use Rattle.std.proofs.Common.{◌≡◌, ℕ, zero, suc, ◌+◌, ◌<◌, ◌≤◌, Bool, true, false, cond, eqb, List, [], ◌∷◌, ◌++◌, take, map, Option, Some, None, Result, Ok, Err, refl, sym, ap, subst, ◌∙◌, arith}
+use Rattle.std.proofs.Common.{◌≡◌, ℕ, zero, suc, ◌+◌, ◌<◌, ◌≤◌, Bool, true, false, cond, eqb, List, [], ◌∷◌, ◌++◌, take, Result, Ok, Err, refl, arith}
 use Rattle.std.specs.List.{AllByRecursion}
 use Rattle.te_terms.specs.declared.value.Atom.{Atom}
 use Rattle.te_terms.specs.declared.value.Trap.{Trap}
 use Rattle.te_terms.specs.declared.event.Outcome.{Outcome}
 use Rattle.te_terms.specs.declared.event.Outcome.TheVariants.{Gives, Raises}
-use Rattle.te_terms.specs.Values.{trap_value}
 use Rattle.te_terms.specs.Limits.{most_fresh}
 use Rattle.te_terms.specs.Measures.{one_fresh, fresh_count}
 use Rattle.te_terms.specs.Expressions.{Variable, register, name, known, Primitive, int, chan, part, Calculation, one, both, Expression, whole, tuple, in_expression, value_of}
-use Rattle.te_terms.specs.Terms.{Term, always, never, fresh, throw, send, recv, and_then, choose, catch, when, replaced}
+use Rattle.te_terms.specs.Terms.{Term, always, never, fresh, throw, send, recv, and_then, choose, catch, when}
 use Rattle.te_terms.proofs.Measured.{fresh_sees, counted-replaced}
 use Rattle.te_script.specs.declared.wish.Site.{Site}
 use Rattle.te_script.specs.Scripts.{Statement, sync, emit, repeat, Scope, one_more, IsVariable, IsPrimitive, IsCalculation, IsExpression, IsEvent, AreStatements, with_register, Thread, IsThread}

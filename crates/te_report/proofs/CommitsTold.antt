@@ -1,9 +1,8 @@
 -- The text of a commit is told as the commit.
-use Rattle.std.proofs.Common.{◌≡◌, ◌≢◌, ℕ, zero, suc, ◌+◌, ◌^◌, ◌<◌, ◌≤◌, Bool, true, false, List, [], ◌∷◌, ◌++◌, length, map, refl, sym, ap, subst, ◌∙◌, arith, append_assoc}
-use Rattle.std.specs.Prelude.{◌==◌, codes, Option, Some, None, slice_get, if◌then◌else◌}
+use Rattle.std.proofs.Common.{◌≡◌, ℕ, ◌<◌, Bool, true, false, List, [], ◌∷◌, ◌++◌, length, map, refl, sym, ap, subst, ◌∙◌, arith, append_assoc}
+use Rattle.std.specs.Prelude.{◌==◌, codes}
 use Rattle.std.specs.List.{AllByRecursion, flat_map, position}
 use Rattle.std.specs.Fmt.{decimal}
-use Rattle.std.proofs.lemmas.List.{append-nil}
 use Rattle.std.proofs.lemmas.Bool.Decides.{nat_tests}
 use Rattle.te_terms.specs.declared.event.Outcome.{Outcome}
 use Rattle.te_cert.specs.declared.cert.Member.{Member}
@@ -11,17 +10,17 @@ use Rattle.te_cert.specs.declared.cert.Meeting.{Meeting}
 use Rattle.te_cert.specs.declared.cert.Cert.{Cert}
 use Rattle.te_history.proofs.Places.{by_place}
 use Rattle.te_script.specs.Names.{is_word_byte}
-use Rattle.te_script.specs.Scripts.{Program, thread_names, IsScript}
+use Rattle.te_script.specs.Scripts.{Program, IsScript}
 use Rattle.te_report.specs.declared.saying.Said.TheVariants as says
 use Rattle.te_history.specs.declared.entry.Entry.TheVariants as entries
 use Rattle.te_report.specs.Readable.{IsOutcomeOf, IsMemberOf, IsNamed, IsMeetingOf, IsCommitOf}
 use Rattle.te_report.specs.Report.{name_of, outcome_text, letter, member_text, other_members, members_text, member_thread, member_name, meeting_text, commit_text}
 use Rattle.te_report.specs.Sayings.{called_of, up_to, behind, words, or_first, said_ticket, said_thread, said_outcome, said_choices, said_member, said_gets, said_place, said_meeting, said_members, said_outcomes, said_meets, said_commit}
 use Rattle.te_report.proofs.Appends.{parts_7}
-use Rattle.te_report.proofs.Cuts.{lacks, lacks_cons, lacks_append, front, back, whole_front, no_back, IsWord, others, joined, words_joined, lacks_joined, lacks_others, back_joined}
+use Rattle.te_report.proofs.Cuts.{lacks, lacks_cons, lacks_append, front, back, IsWord, others, joined, words_joined, lacks_joined, lacks_others, back_joined}
 use Rattle.te_report.proofs.NumbersTold.{ticket_told, number_lacks}
 use Rattle.te_report.proofs.NamesTold.{position_is, first_found, name_lacks, name_some}
-use Rattle.te_report.proofs.ValuesTold.{Outside, OutsideValues, thread_named, thread_is_told, outcome_is_told, outcome_lacks}
+use Rattle.te_report.proofs.ValuesTold.{OutsideValues, thread_named, thread_is_told, outcome_is_told, outcome_lacks}
 
 -- no byte of a member
 pub record OutsideMembers (c : ℕ) : Type 0 where

@@ -11,7 +11,7 @@ use Rattle.te_history.specs.declared.status.How.{How}
 use Rattle.te_history.specs.declared.status.How.TheVariants as ways
 use Rattle.te_history.specs.declared.entry.Entry.{Entry}
 use Rattle.te_history.specs.declared.entry.Entry.TheVariants as entries
-use Rattle.te_report.specs.Channels.{AtomHas, ValueHas, VariableHas, PrimitiveHas, CalculationHas, ExpressionHas, TermHas, OutcomeHas, HowHas, EntryHas}
+use Rattle.te_report.specs.Channels.{ValueHas, VariableHas, PrimitiveHas, CalculationHas, ExpressionHas, TermHas, OutcomeHas, HowHas, EntryHas}
 use Rattle.te_report.specs.Fitting.{AtomFits, ValueFits, VariableFits, PrimitiveFits, CalculationFits, ExpressionFits, TermFits, OutcomeFits, HowFits, EntryFits}
 
 module _ (P : ℕ → Type 0) where

@@ -1,5 +1,5 @@
 -- A history of a script's threads and their cores, with one entry more.
-use Rattle.std.proofs.Common.{◌≡◌, ℕ, zero, suc, ◌+◌, ◌<◌, List, [], ◌∷◌, ◌++◌, length, Option, Some, None, refl, sym, ap, subst, ◌∙◌, arith, zero-add, add-zero}
+use Rattle.std.proofs.Common.{◌≡◌, ℕ, zero, suc, ◌+◌, ◌<◌, List, [], ◌∷◌, ◌++◌, length, Option, Some, refl, sym, ap, subst, ◌∙◌, arith, zero-add, add-zero}
 use Rattle.std.specs.Prelude.{slice_get}
 use Rattle.te_terms.specs.declared.event.Outcome.{Outcome}
 use Rattle.te_script.specs.Scripts.{Thread, Program}

@@ -1,5 +1,5 @@
 -- A last line tells how the report ends.
-use Rattle.std.proofs.Common.{◌≡◌, ◌≢◌, ◌⊎◌, inl, inr, ℕ, zero, suc, ◌+◌, ◌^◌, ◌<◌, ◌≤◌, Bool, true, false, nat_lt, List, [], ◌∷◌, ◌++◌, length, refl, sym, ap, subst, ◌∙◌, arith, append_assoc}
+use Rattle.std.proofs.Common.{◌≡◌, ◌≢◌, ℕ, ◌^◌, ◌<◌, Bool, true, false, nat_lt, List, [], ◌∷◌, ◌++◌, length, refl, sym, ap, ◌∙◌, arith, append_assoc}
 use Rattle.std.specs.Prelude.{◌==◌, codes, if◌then◌else◌}
 use Rattle.std.specs.Fmt.{decimal}
 use Rattle.std.proofs.lemmas.Bool.Decides.{nat_tests}
@@ -8,7 +8,7 @@ use Rattle.te_report.specs.declared.ending.Ending.{Ending}
 use Rattle.te_report.specs.declared.ending.Ending.TheVariants as endings
 use Rattle.te_report.specs.Report.{last_line}
 use Rattle.te_report.specs.Told.{HasCounts, IsNoLast}
-use Rattle.te_report.specs.Sayings.{up_to, behind, below, said_number, digits_value, said_spent, said_ending, first_byte}
+use Rattle.te_report.specs.Sayings.{up_to, behind, said_number, digits_value, said_spent, said_ending, first_byte}
 use Rattle.te_report.proofs.Appends.{parts_9}
 use Rattle.te_report.proofs.Cuts.{lacks, front, back}
 use Rattle.te_report.proofs.NumbersTold.{number_told, number_lacks}

@@ -1,25 +1,21 @@
 -- A line that is read tells one entry, and a line that isn't tells none.
-use Rattle.std.proofs.Common.{◌≡◌, ◌≢◌, ℕ, zero, suc, ◌+◌, ◌^◌, ◌<◌, ◌≤◌, Bool, true, false, List, [], ◌∷◌, ◌++◌, length, refl, sym, ap, subst, ◌∙◌, arith}
-use Rattle.std.specs.Prelude.{codes, Option, Some, None, slice_get}
-use Rattle.std.specs.Fmt.{decimal}
+use Rattle.std.proofs.Common.{◌≡◌, ◌≢◌, ℕ, suc, ◌<◌, ◌≤◌, Bool, true, false, List, [], ◌∷◌, ◌++◌, length, refl, sym, ap, subst, ◌∙◌, arith}
+use Rattle.std.specs.Prelude.{Option, None}
 use Rattle.te_terms.specs.Terms.{Term, never}
 use Rattle.te_script.specs.declared.wish.Site.{Site}
 use Rattle.te_script.specs.Scripts.{Program, IsScript}
 use Rattle.te_history.specs.declared.entry.Entry.{Entry}
 use Rattle.te_history.specs.declared.entry.Entry.TheVariants as entries
-use Rattle.te_history.specs.declared.entry.StepFault.{StepFault}
 use Rattle.te_history.specs.Histories.{History}
-use Rattle.te_history.specs.Follows.{caller_of, LooselyFollows}
 use Rattle.te_report.specs.declared.fault.Cause.{Cause}
 use Rattle.te_report.specs.declared.fault.Cause.TheVariants as causes
 use Rattle.te_report.specs.declared.saying.Said.{Said}
 use Rattle.te_report.specs.declared.saying.Said.TheVariants as says
 use Rattle.te_report.specs.Readable.{IsEntryOf, IsSite, HasSite, Spells}
-use Rattle.te_report.specs.Report.{Version, first, second, name_of, site_text, posted_site, most_entries, numbered, entry_text, entry_line}
-use Rattle.te_report.specs.Told.{IsCause}
-use Rattle.te_report.specs.Sayings.{called_of, up_to, said, entry_in, site_in, said_text, version_of}
-use Rattle.te_report.specs.Judging.{IsUnposted, HasUnposted, IsLike, SaysSite, IsWishedAt, IsMeant, IsFailing, HasNoEntry, HasIllegal, GoesOn}
-use Rattle.te_report.proofs.LinesTold.{tells, shown, told_as, text_same, line_is_told}
+use Rattle.te_report.specs.Report.{Version, first, second, posted_site, most_entries, numbered, entry_text}
+use Rattle.te_report.specs.Sayings.{called_of, up_to, said, site_in, said_text, version_of}
+use Rattle.te_report.specs.Judging.{IsUnposted, HasUnposted, IsLike, SaysSite, IsMeant, IsFailing, HasNoEntry, HasIllegal, GoesOn}
+use Rattle.te_report.proofs.LinesTold.{tells, told_as, text_same, line_is_told}
 use Rattle.te_report.proofs.SayingsFit.{FitsIn, said_fits}
 
 tells_version : (sites : Bool) → tells (version_of sites) ≡ sites

@@ -1,7 +1,7 @@
 -- The line of an entry that can be spelled is told as the entry.
-use Rattle.std.proofs.Common.{◌≡◌, ℕ, zero, suc, ◌+◌, ◌^◌, ◌<◌, ◌≤◌, Bool, true, false, List, [], ◌∷◌, ◌++◌, length, map, refl, sym, ap, subst, ◌∙◌, arith, append_assoc}
-use Rattle.std.specs.Prelude.{◌==◌, codes, Option, Some, None}
-use Rattle.std.specs.List.{AllByRecursion, flat_map}
+use Rattle.std.proofs.Common.{◌≡◌, ℕ, ◌^◌, ◌<◌, Bool, true, false, List, [], ◌∷◌, ◌++◌, length, map, refl, sym, ap, ◌∙◌, arith, append_assoc}
+use Rattle.std.specs.Prelude.{codes, Option, Some, None}
+use Rattle.std.specs.List.{flat_map}
 use Rattle.std.specs.Fmt.{decimal}
 use Rattle.std.proofs.lemmas.List.{append-nil}
 use Rattle.te_terms.specs.declared.event.Outcome.{Outcome}
@@ -14,14 +14,14 @@ use Rattle.te_history.specs.declared.entry.Entry.{Entry}
 use Rattle.te_history.specs.declared.entry.Entry.TheVariants as entries
 use Rattle.te_report.specs.declared.saying.Said.{Said}
 use Rattle.te_report.specs.declared.saying.Said.TheVariants as says
-use Rattle.te_report.specs.Readable.{IsNumber, IsHowOf, IsEntryOf, IsSite, HasSite}
-use Rattle.te_report.specs.Report.{Version, first, second, name_of, value_text, outcome_text, spaced_value, end_text, site_text, commit_text, meeting_text, members_text, entry_text, numbered}
-use Rattle.te_report.specs.Sayings.{called_of, up_to, behind, said_ticket, said_thread, said_value, said_values, said_outcome, said_how, said_site, said_commit, said_entry, said_words, said, version_of, said_text}
+use Rattle.te_report.specs.Readable.{IsNumber, IsHowOf, IsEntryOf, HasSite}
+use Rattle.te_report.specs.Report.{Version, first, second, name_of, value_text, outcome_text, end_text, site_text, commit_text, meeting_text, members_text, entry_text, numbered}
+use Rattle.te_report.specs.Sayings.{called_of, up_to, behind, said_ticket, said_thread, said_values, said_outcome, said_how, said_site, said_entry, said_words, said, said_text}
 use Rattle.te_report.proofs.Appends.{parts_4, parts_5, parts_6}
-use Rattle.te_report.proofs.Cuts.{lacks, lacks_cons, lacks_append, front, back, whole_front, no_back, others, joined, lacks_others, back_joined}
+use Rattle.te_report.proofs.Cuts.{lacks, lacks_append, front, back, whole_front, no_back, lacks_others, back_joined}
 use Rattle.te_report.proofs.NumbersTold.{ticket_told, number_lacks}
 use Rattle.te_report.proofs.NamesTold.{name_lacks}
-use Rattle.te_report.proofs.ValuesTold.{Outside, OutsideValues, thread_named, thread_is_told, value_is_told, value_lacks, outcome_is_told, outcome_lacks, values_spaced, values_lack, values_are_told}
+use Rattle.te_report.proofs.ValuesTold.{thread_named, thread_is_told, value_is_told, value_lacks, outcome_is_told, outcome_lacks, values_spaced, values_lack, values_are_told}
 use Rattle.te_report.proofs.CommitsTold.{OutsideMembers, members_text_lacks, meets_lack, commit_is_told}
 
 abbrev pub tells : Version → Bool

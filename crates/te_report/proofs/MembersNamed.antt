@@ -1,5 +1,5 @@
 -- Members whose threads rise are each named by their thread, and so are the ends of their meetings.
-use Rattle.std.proofs.Common.{◌≡◌, ◌≢◌, ℕ, zero, suc, ◌<◌, List, [], ◌∷◌, length, Some, refl, ap, subst, arith}
+use Rattle.std.proofs.Common.{◌≡◌, ◌≢◌, ℕ, zero, suc, ◌<◌, List, [], ◌∷◌, length, Some, refl, subst, arith}
 use Rattle.std.specs.List.{slice_get, AllByRecursion}
 use Rattle.te_cert.specs.declared.cert.Member.{Member}
 use Rattle.te_cert.specs.declared.cert.Meeting.{Meeting}

@@ -1,14 +1,14 @@
 -- Names are told by their places, and have letters, digits and `_` alone.
-use Rattle.std.proofs.Common.{◌≡◌, ◌≢◌, ℕ, zero, suc, ◌+◌, ◌<◌, ◌≤◌, Bool, true, false, cond, not, nat_lt, List, [], ◌∷◌, ◌++◌, length, map, refl, sym, ap, subst, ◌∙◌, arith}
-use Rattle.std.specs.Prelude.{◌==◌, ◌||◌, Option, Some, None, slice_get, if◌then◌else◌}
+use Rattle.std.proofs.Common.{◌≡◌, ◌≢◌, ℕ, zero, suc, ◌+◌, ◌<◌, Bool, true, false, cond, not, nat_lt, List, [], ◌∷◌, length, refl, ap, ◌∙◌, arith}
+use Rattle.std.specs.Prelude.{◌==◌, Option, Some, None, slice_get, if◌then◌else◌}
 use Rattle.std.specs.Option.{option_map}
 use Rattle.std.specs.List.{AllByRecursion, prefix_len, position}
-use Rattle.std.specs.Char.{is_ascii_alphabetic, is_ascii_alphanumeric}
+use Rattle.std.specs.Char.{is_ascii_alphabetic}
 use Rattle.std.specs.Str.{bytes_eq}
 use Rattle.std.proofs.lemmas.Bool.Decides.{nat_tests}
 use Rattle.std.proofs.lemmas.Slice.Eq.{bytes_eq-Decides}
 use Rattle.te_history.proofs.Places.{by_place}
-use Rattle.te_script.specs.Names.{is_word_byte, IsName, IsIdentifier}
+use Rattle.te_script.specs.Names.{is_word_byte, IsIdentifier}
 use Rattle.te_script.specs.Scripts.{Thread, Program, AreDistinct, thread_names}
 use Rattle.te_report.specs.Report.{thread_name, name_of, or_nothing, channel_name}
 use Rattle.te_report.specs.Sayings.{or_first, place_of, said_thread}

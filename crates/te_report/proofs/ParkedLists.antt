@@ -5,7 +5,7 @@ use Rattle.te_terms.specs.declared.event.Parked.{Parked}
 use Rattle.te_terms.specs.Terms.{Term}
 use Rattle.te_history.specs.declared.status.Status.{Status}
 use Rattle.te_history.specs.declared.status.Status.TheVariants as statuses
-use Rattle.te_history.specs.State.{Standing, idle, parked, given, ended, State, parked_by, parked_from, parked_list}
+use Rattle.te_history.specs.State.{Standing, idle, parked, given, ended, State, parked_by, parked_from}
 use Rattle.te_history.specs.Follows.{Stands}
 use Rattle.te_history.specs.Histories.{HasStatus, status_of}
 

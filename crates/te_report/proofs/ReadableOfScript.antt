@@ -1,5 +1,5 @@
 -- A loose history of a script's threads can be spelled: threads, tickets, values and sites are in their ranges.
-use Rattle.std.proofs.Common.{◌≡◌, ℕ, suc, ◌+◌, ◌^◌, ◌<◌, ◌≤◌, List, [], ◌∷◌, ◌++◌, length, map, Option, Some, None, refl, sym, ap, subst, ◌∙◌, arith, length-append}
+use Rattle.std.proofs.Common.{◌≡◌, ℕ, ◌+◌, ◌<◌, ◌≤◌, List, [], ◌∷◌, ◌++◌, length, map, Option, Some, None, refl, subst, ◌∙◌, arith, length-append}
 use Rattle.std.specs.Prelude.{slice_get}
 use Rattle.std.specs.List.{AllByRecursion}
 use Rattle.std.proofs.lemmas.Option.{slice_get_within}
@@ -23,12 +23,12 @@ use Rattle.te_history.proofs.RoomNeverRises.{as_many_events}
 use Rattle.te_report.specs.OfScript.{taken, WishedBy, WishedFrom, IsOfScript}
 use Rattle.te_report.specs.Fitting.{OutcomeFits, EntryFits}
 use Rattle.te_report.specs.ScriptChannels.{IsChannelOf}
-use Rattle.te_report.specs.Readable.{IsMemberOf, IsMeetingOf, IsCommitOf, IsEntryOf, IsSite, HasSite, AreReadable}
+use Rattle.te_report.specs.Readable.{IsMemberOf, IsCommitOf, IsEntryOf, IsSite, HasSite, AreReadable}
 use Rattle.te_report.specs.Report.{Version, first, second, site_by, posted_site, most_entries}
 use Rattle.te_report.proofs.ChannelsOfScript.{is_group, all_fit}
 use Rattle.te_report.proofs.SitesFit.{site_fits}
 use Rattle.te_report.proofs.MembersNamed.{are_meetings}
-use Rattle.te_report.proofs.TicketsLow.{AreLow, members_low, tickets_low}
+use Rattle.te_report.proofs.TicketsLow.{AreLow, tickets_low}
 
 module _ (script : Program) (is : IsProgram script) (h : List Entry) (few : length h ≤ most_entries) (loose : IsLoose (length script.threads) h) where
   abbrev s : State

@@ -1,6 +1,5 @@
 -- The lines so far with one more, and what the whole of them tells.
-use Rattle.std.proofs.Common.{◌≡◌, ◌≢◌, ◌⊎◌, inl, inr, ℕ, zero, suc, ◌+◌, ◌<◌, ◌≤◌, Bool, true, false, List, [], ◌∷◌, ◌++◌, length, Option, Some, None, refl, sym, ap, subst, ◌∙◌, arith, append_assoc, length-append}
-use Rattle.std.specs.Prelude.{codes, slice_get}
+use Rattle.std.proofs.Common.{◌≡◌, ◌≢◌, ◌⊎◌, inl, inr, ℕ, suc, ◌≤◌, List, [], ◌∷◌, ◌++◌, length, Option, Some, None, refl, sym, ap, subst, ◌∙◌, arith, append_assoc}
 use Rattle.std.proofs.lemmas.List.{append-nil}
 use Rattle.te_terms.specs.declared.event.Parked.{Parked}
 use Rattle.te_script.specs.Scripts.{Program}
@@ -8,16 +7,15 @@ use Rattle.te_history.specs.declared.entry.Entry.{Entry}
 use Rattle.te_history.specs.declared.entry.Entry.TheVariants as entries
 use Rattle.te_history.specs.State.{state, parked_list}
 use Rattle.te_history.specs.Histories.{History}
-use Rattle.te_history.specs.Follows.{caller_of, LooselyFollows, IsLoose}
+use Rattle.te_history.specs.Follows.{IsLoose}
 use Rattle.te_history.proofs.AfterEntry.{loose-after}
 use Rattle.te_report.specs.declared.ending.Ending.{Ending}
-use Rattle.te_report.specs.declared.ending.Ending.TheVariants as endings
 use Rattle.te_report.specs.declared.fault.ReportFault.{ReportFault}
 use Rattle.te_report.specs.declared.fault.ReportFault.TheVariants as faults
 use Rattle.te_report.specs.declared.reading.Declaration.{Declaration}
-use Rattle.te_report.specs.OfScript.{taken, WishedBy, WishedFrom, IsOfScript}
-use Rattle.te_report.specs.Report.{Version, head_line, entry_line, entry_lines, last_line, posted_site, most_entries, report_text, IsReport}
-use Rattle.te_report.specs.Told.{most_bytes, HasCounts, IsClosed, IsReadAs, StandsAt, BeginsLast, IsNoLine, IsIllegal, IsNoEnd, GoesPast, FailsHere, IsRefusedFor}
+use Rattle.te_report.specs.OfScript.{WishedFrom}
+use Rattle.te_report.specs.Report.{Version, head_line, entry_line, entry_lines}
+use Rattle.te_report.specs.Told.{most_bytes, IsClosed, IsReadAs, StandsAt, BeginsLast, IsRefusedFor}
 use Rattle.te_report.specs.Declarations.{IsDeclared, DeclaredIn}
 use Rattle.te_report.specs.Judging.{GoesOn, FailsNext, FailsLast, EndsAs}
 use Rattle.te_report.proofs.Growing.{wished_more}

@@ -1,5 +1,5 @@
 -- Two entries with one line are one, where their threads wished them.
-use Rattle.std.proofs.Common.{◌≡◌, ◌≢◌, ◌⊎◌, inl, inr, ℕ, zero, suc, ◌+◌, ◌^◌, ◌<◌, ◌≤◌, Bool, true, false, List, [], ◌∷◌, ◌++◌, length, get_or, refl, sym, ap, subst, ◌∙◌, arith, append_assoc}
+use Rattle.std.proofs.Common.{◌≡◌, ◌⊎◌, inl, inr, ℕ, ◌^◌, ◌<◌, ◌≤◌, List, [], ◌∷◌, ◌++◌, length, get_or, refl, sym, ap, subst, ◌∙◌, arith, append_assoc}
 use Rattle.std.specs.Prelude.{codes, Option, Some, None, slice_get}
 use Rattle.std.specs.Fmt.{decimal}
 use Rattle.std.specs.Str.Parse.{AllDigits}
@@ -10,17 +10,16 @@ use Rattle.te_terms.specs.declared.event.Outcome.{Outcome}
 use Rattle.te_terms.specs.Terms.{Term, never}
 use Rattle.te_script.specs.declared.wish.Site.{Site}
 use Rattle.te_script.specs.Scripts.{Thread, Program, IsScript}
-use Rattle.te_script.specs.Wishes.{Wish, syncs, wish}
+use Rattle.te_script.specs.Wishes.{syncs}
 use Rattle.te_history.specs.declared.entry.Entry.{Entry}
 use Rattle.te_history.specs.declared.entry.Entry.TheVariants as entries
-use Rattle.te_history.specs.Follows.{caller_of}
 use Rattle.te_report.specs.declared.ending.Ending.{Ending}
 use Rattle.te_report.specs.declared.ending.Ending.TheVariants as endings
 use Rattle.te_report.specs.OfScript.{taken, WishedBy}
 use Rattle.te_report.specs.Readable.{IsEntryOf, HasSite}
-use Rattle.te_report.specs.Report.{Version, first, second, posted_site, most_entries, numbered, entry_text, entry_line, last_line, head_line}
+use Rattle.te_report.specs.Report.{Version, first, second, numbered, entry_text, last_line, head_line}
 use Rattle.te_report.specs.Told.{BeginsLast}
-use Rattle.te_report.specs.Sayings.{called_of, entry_in, first_byte}
+use Rattle.te_report.specs.Sayings.{entry_in, first_byte}
 use Rattle.te_report.specs.Judging.{IsUnposted, IsWishedAt}
 use Rattle.te_report.proofs.Appends.{parts_4}
 use Rattle.te_report.proofs.LinesTold.{told_as, line_is_told}

@@ -1,6 +1,6 @@
 -- At one point of the bytes one answer is told, and the lines so far are one history's.
-use Rattle.std.proofs.Common.{◌≡◌, ◌≢◌, ◌⊎◌, inl, inr, ℕ, zero, suc, ◌+◌, ◌^◌, ◌<◌, ◌≤◌, Bool, true, false, List, [], ◌∷◌, ◌++◌, length, Ok, Err, refl, sym, ap, subst, ◌∙◌, arith, append_assoc}
-use Rattle.std.specs.Prelude.{codes, Option, Some, None, slice_get}
+use Rattle.std.proofs.Common.{◌≡◌, ◌≢◌, ◌⊎◌, inl, inr, ℕ, suc, ◌+◌, ◌^◌, ◌<◌, ◌≤◌, List, [], ◌∷◌, ◌++◌, length, refl, sym, ap, subst, ◌∙◌, arith, append_assoc}
+use Rattle.std.specs.Prelude.{Option}
 use Rattle.std.proofs.lemmas.List.{append-nil, append_cancel_left}
 use Rattle.te_terms.specs.Terms.{never}
 use Rattle.te_script.specs.declared.wish.Site.{Site}
@@ -10,7 +10,7 @@ use Rattle.te_history.specs.declared.entry.Entry.TheVariants as entries
 use Rattle.te_history.specs.declared.entry.StepFault.{StepFault}
 use Rattle.te_history.specs.declared.entry.StepFault.TheVariants as steps
 use Rattle.te_history.specs.Histories.{History}
-use Rattle.te_history.specs.Follows.{caller_of, LooselyFollows, LooseFrom}
+use Rattle.te_history.specs.Follows.{LooselyFollows, LooseFrom}
 use Rattle.te_history.specs.Refusals.{IsRefused}
 use Rattle.te_history.proofs.RefusalsAreOne.{refusals_are_one}
 use Rattle.te_history.proofs.RefusedDontFollow.{refused_fails}
@@ -19,11 +19,11 @@ use Rattle.te_report.specs.declared.ending.Ending.TheVariants as endings
 use Rattle.te_report.specs.declared.fault.Cause.{Cause}
 use Rattle.te_report.specs.declared.fault.Cause.TheVariants as causes
 use Rattle.te_report.specs.OfScript.{WishedFrom}
-use Rattle.te_report.specs.Readable.{IsEntryOf, HasSite, Spells, AreReadable}
+use Rattle.te_report.specs.Readable.{Spells, AreReadable}
 use Rattle.te_report.specs.Report.{Version, posted_site, most_entries, numbered, entry_text, entry_line, entry_lines, last_line}
-use Rattle.te_report.specs.Told.{HasCounts, IsClosed, BeginsLast, IsNoLast, IsNotWhole, GoesPast, FailsHere, IsCause}
-use Rattle.te_report.specs.Sayings.{up_to, said_text, said_ending, first_byte}
-use Rattle.te_report.specs.Judging.{IsUnposted, IsWishedAt, HasNoEntry, HasIllegal, EndsAs}
+use Rattle.te_report.specs.Told.{HasCounts, IsClosed, BeginsLast, GoesPast, FailsHere, IsCause}
+use Rattle.te_report.specs.Sayings.{said_text, first_byte}
+use Rattle.te_report.specs.Judging.{IsUnposted, HasNoEntry, HasIllegal, EndsAs}
 use Rattle.te_report.specs.Answers.{Kind, ends, no_line, illegal, no_end, too_long, Says, IsLine}
 use Rattle.te_report.proofs.LastLines.{ending_told}
 use Rattle.te_report.proofs.LinesTold.{told_as, text_same}

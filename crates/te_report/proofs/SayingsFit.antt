@@ -1,30 +1,26 @@
 -- What a line says can be spelled.
-use Rattle.std.proofs.Common.{◌≡◌, ◌≢◌, ◌⊎◌, inl, inr, ℕ, zero, suc, ◌+◌, ◌%◌, ◌^◌, ◌<◌, ◌≤◌, Bool, true, false, nat_lt, ℤ, pos, List, [], ◌∷◌, ◌++◌, length, map, refl, sym, ap, subst, ◌∙◌, arith}
+use Rattle.std.proofs.Common.{◌≡◌, inl, inr, ℕ, zero, suc, ◌%◌, ◌^◌, ◌<◌, Bool, true, false, nat_lt, ℤ, pos, List, [], ◌∷◌, length, map, refl, sym, ap, subst, ◌∙◌, arith}
 use Rattle.std.specs.Prelude.{◌==◌, ◌-ℤ◌, nat_le, Option, Some, None, slice_get, if◌then◌else◌}
 use Rattle.std.specs.Option.{option_map}
 use Rattle.std.specs.List.{AllByRecursion}
 use Rattle.std.specs.Str.{bytes_eq}
 use Rattle.std.proofs.lemmas.Bool.Decides.{nat_tests}
 use Rattle.te_terms.specs.declared.value.Atom.{Atom}
-use Rattle.te_terms.specs.declared.value.Atom.TheVariants.{Int, Chan}
-use Rattle.te_terms.specs.declared.event.Outcome.{Outcome}
+use Rattle.te_terms.specs.declared.value.Atom.TheVariants.{Int}
 use Rattle.te_terms.specs.declared.event.Outcome.TheVariants.{Gives, Raises}
 use Rattle.te_terms.specs.Values.{fits_i64, fresh_channel}
 use Rattle.te_terms.specs.Limits.{most_atoms}
 use Rattle.te_cert.specs.declared.cert.Member.{Member}
-use Rattle.te_cert.specs.declared.cert.Meeting.{Meeting}
-use Rattle.te_script.specs.declared.wish.Site.{Site}
 use Rattle.te_script.specs.Scripts.{Thread, Program, thread_names, IsScript}
-use Rattle.te_history.specs.declared.status.How.{How}
 use Rattle.te_history.specs.declared.status.How.TheVariants as ways
 use Rattle.te_history.specs.declared.entry.Entry.{Entry}
 use Rattle.te_history.specs.declared.entry.Entry.TheVariants as entries
 use Rattle.te_report.specs.declared.saying.Said.{Said}
 use Rattle.te_report.specs.declared.saying.Said.TheVariants as says
 use Rattle.te_report.specs.ScriptChannels.{IsChannelOf}
-use Rattle.te_report.specs.Readable.{IsAtomOf, IsValueOf, IsOutcomeOf, IsHowOf, IsNumber, IsThreadOf, IsMemberOf, IsNamed, IsMeetingOf, IsCommitOf, IsEntryOf, IsSite, HasSite}
-use Rattle.te_report.specs.Report.{Version, first, second, entry_text}
-use Rattle.te_report.specs.Sayings.{called_of, up_to, behind, words, below, said_number, said_ticket, fitting, or_zero, said_integer, digits_value, or_first, place_of, said_thread, said_channel, atom_of, said_atom, few_atoms, said_value, said_outcome, said_choices, said_member, said_gets, said_place, said_meeting, said_members, said_outcomes, said_meets, said_values, said_how, said_site, said_commit, said_entry, said_words, said, entry_in, site_in, said_text, version_of, first_byte}
+use Rattle.te_report.specs.Readable.{IsAtomOf, IsValueOf, IsOutcomeOf, IsHowOf, IsNumber, IsThreadOf, IsMemberOf, IsNamed, IsMeetingOf, IsEntryOf, HasSite}
+use Rattle.te_report.specs.Report.{Version, entry_text}
+use Rattle.te_report.specs.Sayings.{called_of, up_to, behind, words, below, said_number, said_ticket, fitting, or_zero, said_integer, digits_value, or_first, place_of, said_thread, said_channel, atom_of, said_atom, few_atoms, said_value, said_outcome, said_member, said_gets, said_place, said_meeting, said_members, said_outcomes, said_meets, said_values, said_how, said_site, said_commit, said_entry, said, entry_in, site_in, said_text, version_of, first_byte}
 use Rattle.te_report.specs.Judging.{IsUnposted, HasUnposted}
 use Rattle.te_report.proofs.NamesTold.{place_by, position_is, found_below}
 

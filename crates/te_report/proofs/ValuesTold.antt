@@ -1,6 +1,6 @@
 -- The text of a value is told as the value, and keeps clear of the signs that stand round it.
-use Rattle.std.proofs.Common.{◌≡◌, ◌⊎◌, inl, inr, ℕ, zero, suc, ◌+◌, ◌-◌, ◌*◌, ◌/◌, ◌%◌, ◌^◌, ◌<◌, ◌≤◌, Bool, true, false, nat_lt, List, [], ◌∷◌, ◌++◌, length, map, refl, sym, ap, subst, ◌∙◌, arith}
-use Rattle.std.specs.Prelude.{◌==◌, nat_le, codes, Option, Some, None, slice_get, if◌then◌else◌}
+use Rattle.std.proofs.Common.{◌≡◌, inl, inr, ℕ, ◌-◌, ◌/◌, ◌%◌, ◌^◌, ◌<◌, true, false, nat_lt, List, [], ◌∷◌, ◌++◌, length, map, refl, sym, ap, subst, ◌∙◌, arith}
+use Rattle.std.specs.Prelude.{◌==◌, nat_le, codes, Option, Some}
 use Rattle.std.specs.List.{AllByRecursion, flat_map}
 use Rattle.std.specs.Fmt.{decimal, signed_decimal}
 use Rattle.std.proofs.lemmas.Bool.Decides.{nat_tests}
@@ -13,14 +13,14 @@ use Rattle.te_terms.specs.Limits.{most_atoms}
 use Rattle.te_history.proofs.Places.{by_place}
 use Rattle.te_script.specs.Names.{is_word_byte, IsName, IsIdentifier}
 use Rattle.te_script.specs.Scripts.{Program, HasNames, IsScript}
-use Rattle.te_report.specs.ScriptChannels.{IsFreshOf, IsChannelOf}
+use Rattle.te_report.specs.ScriptChannels.{IsChannelOf}
 use Rattle.te_report.specs.Readable.{IsAtomOf, IsValueOf, IsOutcomeOf}
 use Rattle.te_report.specs.Report.{thread_name, name_of, channel_name, channel_text, atom_text, other_atoms, atoms_text, value_text, outcome_text, spaced_value}
 use Rattle.te_report.specs.Sayings.{called_of, up_to, behind, words, said_number, said_ticket, said_thread, said_integer, said_channel, atom_of, said_atom, few_atoms, said_value, said_outcome, said_values}
 use Rattle.te_report.proofs.Followed.{some_thread}
 use Rattle.te_report.proofs.Appends.{parts_5}
-use Rattle.te_report.proofs.Cuts.{lacks, lacks_cons, lacks_append, front, back, whole_front, no_back, IsWord, others, joined, words_joined, lacks_joined, lacks_others}
-use Rattle.te_report.proofs.NumbersTold.{NoAt, number_told, ticket_told, number_lacks, number_some, integer_told, integer_lacks, integer_begins, integer_some}
+use Rattle.te_report.proofs.Cuts.{lacks, lacks_cons, lacks_append, front, back, no_back, IsWord, others, joined, words_joined, lacks_joined}
+use Rattle.te_report.proofs.NumbersTold.{NoAt, number_told, ticket_told, number_lacks, integer_told, integer_lacks, integer_begins, integer_some}
 use Rattle.te_report.proofs.NamesTold.{thread_told, channel_there, channel_told, name_lacks}
 
 -- no byte of an atom

@@ -1,7 +1,6 @@
 -- Verdicts on what a line says, from what its thread's core wishes.
-use Rattle.std.proofs.Common.{◌≡◌, ◌≢◌, ℕ, zero, suc, ◌<◌, Bool, true, false, List, [], ◌∷◌, length, Option, Some, None, Result, Ok, Err, refl, sym, ap, subst, ◌∙◌, arith}
+use Rattle.std.proofs.Common.{◌≡◌, ◌≢◌, ℕ, suc, ◌<◌, Bool, true, false, List, [], ◌∷◌, length, Option, Some, Result, Ok, Err, refl, sym, ap, subst, ◌∙◌, arith}
 use Rattle.std.specs.Prelude.{◌↔◌, slice_get, IfOk}
-use Rattle.te_terms.specs.declared.event.Outcome.{Outcome}
 use Rattle.te_terms.specs.Terms.{Term}
 use Rattle.te_script.specs.declared.wish.Site.{Site}
 use Rattle.te_script.specs.declared.wish.Want.{Want}
@@ -24,7 +23,7 @@ use Rattle.te_report.specs.declared.saying.Said.TheVariants as says
 use Rattle.te_report.specs.OfScript.{taken, EndsSo}
 use Rattle.te_report.specs.Report.{posted_site}
 use Rattle.te_report.specs.Following.{cores_from, AreFollowed, IsUnwished}
-use Rattle.te_report.specs.Judging.{IsUnposted, IsLike, SaysSite, IsWishedAt, IsMeant, IsFailing, PostFails}
+use Rattle.te_report.specs.Judging.{IsUnposted, SaysSite, IsWishedAt, IsMeant, IsFailing, PostFails}
 use Rattle.te_report.proofs.Followed.{some_thread, unwished}
 use Rattle.te_report.proofs.Judged.{IsCoreOf, core_of, is_wished, wished_is, site_is, post_wished, post_unwished}
 

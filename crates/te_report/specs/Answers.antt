@@ -1,5 +1,5 @@
 -- What is told of bytes at one point of them: of the rest behind the lines so far. No public clause cites this module.
-use Rattle.std.specs.Prelude.{◌≡◌, ◌≢◌, ◌⊎◌, ℕ, suc, ◌<◌, List, [], ◌++◌, length}
+use Rattle.std.specs.Prelude.{◌≡◌, ◌≢◌, ℕ, ◌<◌, List, [], ◌++◌, length}
 use Rattle.te_script.specs.Scripts.{Program}
 use Rattle.te_history.specs.declared.entry.Entry.{Entry}
 use Rattle.te_history.specs.Histories.{History}

@@ -13,7 +13,7 @@ use Rattle.te_history.specs.declared.entry.Entry.{Entry}
 use Rattle.te_history.specs.declared.entry.Entry.TheVariants as entries
 use Rattle.te_report.specs.Fitting.{AtomFits, ValueFits, OutcomeFits, HowFits}
 use Rattle.te_report.specs.ScriptChannels.{IsChannelOf}
-use Rattle.te_report.specs.Report.{Version, first, second, posted_site, most_entries, numbered, entry_text}
+use Rattle.te_report.specs.Report.{Version, second, posted_site, most_entries, numbered, entry_text}
 
 -- an integer of 64 bits, or a channel of the script or a fresh one of its threads
 abbrev pub IsAtomOf : Program → Atom → Type 0

@@ -1,14 +1,9 @@
 -- What is told of the bytes of a report: a history and how it ends, or the first line that fails. This project's own.
-use Rattle.std.specs.Prelude.{◌≡◌, ◌≢◌, ◌⊎◌, ℕ, suc, ◌+◌, ◌^◌, ◌<◌, ◌≤◌, List, [], ◌∷◌, ◌++◌, length, codes, Option, Some, None, Result, Ok, Err, take, slice_get}
-use Rattle.std.specs.List.{AllByRecursion}
-use Rattle.te_terms.specs.declared.event.Parked.{Parked}
+use Rattle.std.specs.Prelude.{◌≡◌, ◌≢◌, ◌⊎◌, ℕ, suc, ◌^◌, ◌<◌, ◌≤◌, List, [], ◌++◌, length, codes, Option, slice_get}
 use Rattle.te_script.specs.declared.wish.Site.{Site}
 use Rattle.te_script.specs.Scripts.{Program}
 use Rattle.te_history.specs.declared.entry.Entry.{Entry}
-use Rattle.te_history.specs.declared.entry.Entry.TheVariants as entries
-use Rattle.te_history.specs.declared.entry.StepFault.{StepFault}
 use Rattle.te_history.specs.declared.entry.StepFault.TheVariants as steps
-use Rattle.te_history.specs.State.{state, parked_list}
 use Rattle.te_history.specs.Histories.{History}
 use Rattle.te_history.specs.Follows.{caller_of, LooselyFollows, IsLoose}
 use Rattle.te_history.specs.Refusals.{IsRefused}

@@ -1,4 +1,4 @@
-use Rattle.std.proofs.Common.{◌≡◌, ◌+◌, ap, sym, ◌∙◌, take, drop, arith}
+use Rattle.std.proofs.Common.{◌+◌, ap, sym, ◌∙◌, take, drop, arith}
 use Rattle.te_report.proofs.Cuts.{front_taken, back_dropped, front_all, back_none}
 use Rattle.te_report.proofs.cutting.cut.Goals as goal
 

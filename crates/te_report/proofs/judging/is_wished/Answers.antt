@@ -1,7 +1,6 @@
 use Rattle.std.proofs.Common.{◌≡◌, ◌<◌, true, length, refl, sym, subst}
 use Rattle.std.specs.Prelude.{◌↔◌, IfOk}
 use Rattle.std.proofs.lemmas.Option.{slice_get_read}
-use Rattle.te_history.specs.declared.entry.Entry.TheVariants as entries
 use Rattle.te_history.specs.Follows.{caller_of}
 use Rattle.te_report.specs.OfScript.{taken}
 use Rattle.te_report.specs.Judging.{IsWishedAt}

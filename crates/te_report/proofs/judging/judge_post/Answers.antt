@@ -1,4 +1,4 @@
-use Rattle.std.proofs.Common.{◌≡◌, true, refl, sym, subst}
+use Rattle.std.proofs.Common.{refl, sym, subst}
 use Rattle.std.proofs.lemmas.Option.{slice_get_read}
 use Rattle.te_report.specs.declared.fault.Cause.TheVariants as causes
 use Rattle.te_report.specs.declared.saying.Said.TheVariants as says

@@ -1,4 +1,4 @@
-use Rattle.std.proofs.Common.{rules, ◌≡◌, ◌∙◌, ap, map, refl, List, [], ◌∷◌, ℕ}
+use Rattle.std.proofs.Common.{rules, ◌≡◌, ◌∙◌, ap, map, refl, List, [], ◌∷◌}
 use Rattle.te_script.specs.Scripts.{Thread, Program, thread_names}
 use Rattle.te_report.proofs.FirstCores.{take_past}
 use Rattle.te_report.proofs.names.thread_names.Goals as goal

@@ -1,7 +1,6 @@
-use Rattle.std.proofs.Common.{◌≡◌, ◌<◌, ◌≤◌, ◌^◌, ℕ, false, refl, arith, drop}
+use Rattle.std.proofs.Common.{◌≡◌, ◌≤◌, ◌^◌, ℕ, false, refl, arith, drop}
 use Rattle.std.specs.Prelude.{Some, None, nat_lt, if◌then◌else◌}
 use Rattle.std.proofs.lemmas.Bool.Decides.{nat_tests}
-use Rattle.te_report.specs.Sayings.{digits_value}
 use Rattle.te_report.proofs.NumbersTold.{grows}
 use Rattle.te_report.proofs.numbers.value.Goals as goal
 

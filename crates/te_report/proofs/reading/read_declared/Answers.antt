@@ -1,4 +1,4 @@
-use Rattle.std.proofs.Common.{◌≡◌, ℕ, suc, length, subst, arith}
+use Rattle.std.proofs.Common.{ℕ, suc, length, subst, arith}
 use Rattle.te_report.specs.declared.fault.ReportFault.{ReportFault}
 use Rattle.te_report.specs.Told.{IsRefusedFor, StandsAt}
 use Rattle.te_report.specs.Sayings.{version_of}

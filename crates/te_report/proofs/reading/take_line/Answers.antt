@@ -1,8 +1,8 @@
-use Rattle.std.proofs.Common.{◌≡◌, ℕ, suc, ◌+◌, ◌≤◌, ◌++◌, List, length, sym, ap, ◌∙◌, arith}
+use Rattle.std.proofs.Common.{◌≡◌, ℕ, suc, ◌+◌, ◌≤◌, ◌++◌, length, sym, ap, ◌∙◌, arith}
 use Rattle.te_report.specs.declared.names.Called.{Called}
 use Rattle.te_report.specs.declared.fault.ReportFault.{ReportFault}
 use Rattle.te_report.specs.Report.{most_entries, numbered}
-use Rattle.te_report.specs.Sayings.{called_of, up_to, said, said_text, version_of}
+use Rattle.te_report.specs.Sayings.{up_to, said, said_text, version_of}
 use Rattle.te_report.specs.Judging.{FailsNext}
 use Rattle.te_report.proofs.Verdicts.{as_many}
 use Rattle.te_report.proofs.LinesRead.{none_spells, unposted}

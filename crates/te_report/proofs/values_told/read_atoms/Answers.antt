@@ -1,4 +1,4 @@
-use Rattle.std.proofs.Common.{◌≡◌, ◌+◌, ◌≤◌, ◌∙◌, sym, take, slice_set, arith, subst, length}
+use Rattle.std.proofs.Common.{◌+◌, ◌≤◌, ◌∙◌, sym, take, slice_set, arith, subst, length}
 use Rattle.te_report.specs.Sayings.{said_atom}
 use Rattle.te_report.proofs.Cuts.{word_done, words_done}
 use Rattle.te_report.proofs.AtomsTold.{few_kept, length_set, over_four, one_more, few_taken}
