@@ -150,6 +150,38 @@ fn the_first_line_that_fails_is_told(rt: HostRuntime) -> Result<(), Fail> {
     Ok(())
 }
 
+// A report in version 1 of the same script, of which the three threads give up.
+#[test]
+fn a_declared_board_is_told(rt: HostRuntime) -> Result<(), Fail> {
+    let alloc = rt.alloc();
+    let script = generate(alloc, 0)?;
+    let text = b"tevents report 1\n\
+        1 post t0 0\n\
+        2 post t1 0\n\
+        3 post t2 0\n\
+        4 stuck t1\n\
+        5 end t2 stuck\n\
+        6 end t0 stuck\n\
+        7 end t1 stuck\n\
+        closed 7\n";
+    let Ok(reading) = read_declared(alloc, &script, text) else {
+        return Err("a report that is read")?;
+    };
+    let Reading {
+        hist,
+        ending,
+        declared,
+    } = reading;
+    assert_eq!(&rt; hist.len(), 7);
+    assert_eq!(&rt; ending, Ending::Closed);
+    let Some(declared) = declared else {
+        return Err("a declaration")?;
+    };
+    assert_eq!(&rt; declared.before, 3);
+    assert_eq!(&rt; declared.parked.len(), 3);
+    Ok(())
+}
+
 #[test]
 fn a_report_of_more_bytes_is_too_long(rt: HostRuntime) -> Result<(), Fail> {
     let alloc = rt.alloc();
