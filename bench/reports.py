@@ -4,8 +4,8 @@
     bench/reports.py [--runs N]
 
 It proves and builds the tests of te_report with those of bench/reports.rattle beside them, over copies of the crates in a
-temporary folder: they write the report of a history of 157 entries (4,322 bytes) 100,000 times, and that of one of 976
-entries (29,021 bytes) 20,000 times. The time is the least of N runs (5), of the processor; that of making the same history
+temporary folder: they write the report of a history of 157 entries (4,322 bytes) 100,000 times, and that of one of 892
+entries (26,345 bytes) 20,000 times. The time is the least of N runs (5), of the processor; that of making the same history
 without a report is taken off.
 """
 import argparse
@@ -18,7 +18,7 @@ import tempfile
 
 TOP = os.path.dirname(os.path.dirname(os.path.abspath(__file__)))
 CRATES = ("te_terms", "te_path", "te_cert", "te_history", "te_script", "te_report")
-BYTES = {"short": 100_000 * 4_322, "long": 20_000 * 29_021}
+BYTES = {"short": 100_000 * 4_322, "long": 20_000 * 26_345}
 
 
 def build(folder):
