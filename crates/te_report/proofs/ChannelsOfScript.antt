@@ -1,10 +1,10 @@
--- Each channel in a loose history of a script's threads is one of the script or a fresh one of one of its threads.
-use Rattle.std.proofs.Common.{◌≡◌, ◌≢◌, ◌⊎◌, inl, inr, ℕ, zero, suc, ◌+◌, ◌<◌, ◌≤◌, Bool, true, false, cond, eqb, List, [], ◌∷◌, ◌++◌, length, map, replicate, Option, Some, None, Ok, refl, sym, ap, subst, ◌∙◌, arith}
+-- Each channel in a loose history of a script's threads is one of the script or a fresh one of one of its threads; integers are
+-- of 64 bits, and values have at most 4 atoms.
+use Rattle.std.proofs.Common.{◌≡◌, ◌≢◌, ◌⊎◌, inl, inr, ℕ, zero, suc, ◌+◌, ◌<◌, ◌≤◌, Bool, true, false, cond, eqb, List, [], ◌∷◌, ◌++◌, length, map, replicate, Option, Some, None, refl, sym, ap, subst, ◌∙◌, arith}
 use Rattle.std.specs.Prelude.{slice_get}
 use Rattle.std.specs.List.{AllByRecursion}
 use Rattle.std.proofs.lemmas.Option.{slice_get_within}
 use Rattle.te_terms.specs.declared.event.Outcome.{Outcome}
-use Rattle.te_terms.specs.Values.{fresh_channel}
 use Rattle.te_terms.specs.Limits.{most_fresh}
 use Rattle.te_terms.specs.Measures.{fresh_count}
 use Rattle.te_terms.specs.Steps as steps
@@ -14,7 +14,7 @@ use Rattle.te_cert.specs.declared.cert.Cert.{Cert}
 use Rattle.te_cert.specs.Checks.{RiseAfter, ThreadsRise}
 use Rattle.te_cert.proofs.PlaysReduce.{plays_reduce}
 use Rattle.te_script.specs.Scripts.{Thread, Program, IsThread, IsProgram}
-use Rattle.te_script.specs.Wishes.{Wish, syncs, done, raised, wish}
+use Rattle.te_script.specs.Wishes.{Wish, wish}
 use Rattle.te_history.specs.declared.entry.Entry.{Entry}
 use Rattle.te_history.specs.declared.entry.Entry.TheVariants as entries
 use Rattle.te_history.specs.declared.status.How.TheVariants as ways
@@ -24,10 +24,11 @@ use Rattle.te_history.specs.Follows.{Stands, AreEvents, Commits, Ends, caller_of
 use Rattle.te_history.proofs.AfterEntry.{state-after, length-state}
 use Rattle.te_history.proofs.Places.{by_place}
 use Rattle.te_history.proofs.Commits.{same_or_other, stands_put, stands_other}
-use Rattle.te_report.specs.OfScript.{taken, taken_from, EndsSo, WishedBy, IsOfScript}
-use Rattle.te_report.specs.Channels.{ValueHas, TermHas, OutcomeHas, HowHas, EntryHas}
-use Rattle.te_report.specs.ScriptChannels.{IsFreshOf, IsChannelOf, HasChannelsOf}
+use Rattle.te_report.specs.OfScript.{taken, taken_from, WishedBy, IsOfScript}
+use Rattle.te_report.specs.Fitting.{OutcomeFits, HowFits, EntryFits}
+use Rattle.te_report.specs.ScriptChannels.{IsChannelOf, HasChannelsOf}
 use Rattle.te_report.proofs.Growing.{taken_more, grows_wished}
+use Rattle.te_report.proofs.FittingHas.{entries_have}
 use Rattle.te_report.proofs.ChannelsStepped.{Makes, Fits, AllFit, reductions_have}
 use Rattle.te_report.proofs.ChannelsWished.{EventHas, WishHas, wish_has}
 
@@ -39,7 +40,7 @@ group_rises s low (m ∷ ms) (g ∷ gs) rise events =
     let thread : m.thread ≡ g.thread = ap (λ (x : steps.Member). x.thread) (sym events.0) in
     (subst (λ (t : ℕ). low < t) thread rise.0, subst (λ (t : ℕ). RiseFrom t gs) thread (group_rises s m.thread ms gs rise.1 events.2))
 
-is_group : (s : State) (ms : List Member) (gs : List steps.Member) → ThreadsRise ms → AreEvents s ms gs → IsGroup gs
+pub is_group : (s : State) (ms : List Member) (gs : List steps.Member) → ThreadsRise ms → AreEvents s ms gs → IsGroup gs
 is_group s [] [] rise events = tt
 is_group s [] (g ∷ gs) rise events = absurd events
 is_group s (m ∷ ms) [] rise events = absurd events
@@ -59,16 +60,16 @@ module _ (P : ℕ → Type 0) (channels : ℕ) (threads : List Thread) (low : (c
   abbrev pub StandingHas : Standing → Type 0
   StandingHas idle = Unit {0}
   StandingHas (parked ticket event) = EventHas P event
-  StandingHas (given ticket outcome) = OutcomeHas P outcome
+  StandingHas (given ticket outcome) = OutcomeFits P outcome
   StandingHas ended = Unit {0}
 
   abbrev pub StateHas : State → Type 0
   StateHas s = (t : ℕ) (x : Standing) → Stands s t x → StandingHas x
 
   pub record SoFar (h : List Entry) : Type 0 where
-    pub taken_so : (t : ℕ) → AllByRecursion (OutcomeHas P) (taken t h)
+    pub taken_so : (t : ℕ) → AllByRecursion (OutcomeFits P) (taken t h)
     pub state_so : StateHas (state (length threads) h)
-    pub entries_so : AllByRecursion (EntryHas P) h
+    pub entries_so : AllByRecursion (EntryFits P) h
 
   -- ---- states
 
@@ -90,7 +91,7 @@ module _ (P : ℕ → Type 0) (channels : ℕ) (threads : List Thread) (low : (c
   get_set (y ∷ ys) (suc by) zero new x is = inr is
   get_set (y ∷ ys) (suc by) (suc t) new x is = get_set ys by t new x is
 
-  given_has : (ms : List Member) (os : List Outcome) (s : State) → AllByRecursion (OutcomeHas P) os → StateHas s → StateHas (with_given ms os s)
+  given_has : (ms : List Member) (os : List Outcome) (s : State) → AllByRecursion (OutcomeFits P) os → StateHas s → StateHas (with_given ms os s)
   given_has [] os s ho all = all
   given_has (m ∷ ms) [] s ho all = all
   given_has (m ∷ ms) (o ∷ os) s ho all = given_has ms os (with_standing m.thread (given m.ticket o) s) ho.1 (λ t x stands. at t x (get_set s.callers m.thread t (given m.ticket o) x stands))
@@ -118,7 +119,7 @@ module _ (P : ℕ → Type 0) (channels : ℕ) (threads : List Thread) (low : (c
       (subst (Fits P) (sym events.0) fits, group_fits h ms gs all events.2 makes.1)
 
   commit_has : (h : List Entry) (cert : Cert) (outcomes : List Outcome) → StateHas (state (length threads) h) → Commits (state (length threads) h) cert outcomes
-      → AllByRecursion (λ m. Makes P m.thread m.ticket) cert.members → AllByRecursion (OutcomeHas P) outcomes
+      → AllByRecursion (λ m. Makes P m.thread m.ticket) cert.members → AllByRecursion (OutcomeFits P) outcomes
   commit_has h cert outcomes all commits makes =
       let s = state (length threads) h in
       let reduces = plays_reduce commits.group (map (λ m. m.choices) cert.members) cert.meets _ (is_group s cert.members commits.group commits.rise commits.events) commits.plays in
@@ -126,24 +127,24 @@ module _ (P : ℕ → Type 0) (channels : ℕ) (threads : List Thread) (low : (c
 
   -- ---- entries
 
-  wish_by : (o : Option Thread) (t : ℕ) (outs : List Outcome) (e : Entry) → slice_get threads t ≡ o → AllByRecursion (OutcomeHas P) outs
+  wish_by : (o : Option Thread) (t : ℕ) (outs : List Outcome) (e : Entry) → slice_get threads t ≡ o → AllByRecursion (OutcomeFits P) outs
       → WishedBy o outs e → (w : Wish) × WishHas P w × WishedBy o outs e
   wish_by (Some x) t outs e is ho w = (wish x outs, wish_has P channels x outs low (by_place (IsThread channels) threads t x each is) ho, w)
   wish_by None t outs e is ho w = absurd w
 
-  post_has : (o : Option Thread) (t ticket : ℕ) (event : _) (outs : List Outcome) → slice_get threads t ≡ o → AllByRecursion (OutcomeHas P) outs
+  post_has : (o : Option Thread) (t ticket : ℕ) (event : _) (outs : List Outcome) → slice_get threads t ≡ o → AllByRecursion (OutcomeFits P) outs
       → WishedBy o outs (entries.Post t ticket event) → EventHas P event
   post_has (Some x) t ticket event outs is ho w = subst (WishHas P) w (wish_has P channels x outs low (by_place (IsThread channels) threads t x each is) ho)
   post_has None t ticket event outs is ho w = absurd w
 
-  end_has : (o : Option Thread) (t : ℕ) (how : How) (outs : List Outcome) → slice_get threads t ≡ o → AllByRecursion (OutcomeHas P) outs → WishedBy o outs (entries.End t how) → HowHas P how
+  end_has : (o : Option Thread) (t : ℕ) (how : How) (outs : List Outcome) → slice_get threads t ≡ o → AllByRecursion (OutcomeFits P) outs → WishedBy o outs (entries.End t how) → HowFits P how
   end_has (Some x) t (ways.Done values) outs is ho w = subst (WishHas P) w (wish_has P channels x outs low (by_place (IsThread channels) threads t x each is) ho)
   end_has (Some x) t (ways.Raised value) outs is ho w = subst (WishHas P) w (wish_has P channels x outs low (by_place (IsThread channels) threads t x each is) ho)
   end_has (Some x) t ways.Stuck outs is ho w = tt
   end_has None t how outs is ho w = absurd w
 
   entry_has : (h : List Entry) (e : Entry) → LooselyFollows (length threads) h e → WishedBy (slice_get threads (caller_of e)) (taken (caller_of e) h) e
-      → SoFar h → MembersMake e → EntryHas P e
+      → SoFar h → MembersMake e → EntryFits P e
   entry_has h (entries.Post by ticket event) follows w so makes = (post_has (slice_get threads by) by ticket event (taken by h) refl (so.taken_so by) w).term
   entry_has h (entries.Commit by cert outcomes) follows w so makes = commit_has h cert outcomes so.state_so follows.2 makes
   entry_has h (entries.Withdraw by ticket) follows w so makes = tt
@@ -168,10 +169,10 @@ module _ (P : ℕ → Type 0) (channels : ℕ) (threads : List Thread) (low : (c
       stood (ways.Raised value) ends = (idle, ends.1)
       stood ways.Stuck ends = (_, ends.1.2)
 
-  taken_has : (t : ℕ) (e : Entry) → EntryHas P e → AllByRecursion (OutcomeHas P) (taken_from t e [])
+  taken_has : (t : ℕ) (e : Entry) → EntryFits P e → AllByRecursion (OutcomeFits P) (taken_from t e [])
   taken_has t (entries.Take by ticket outcome) h = at (eqb by t)
     where
-      at : (b : Bool) → AllByRecursion (OutcomeHas P) (cond b (outcome ∷ []) [])
+      at : (b : Bool) → AllByRecursion (OutcomeFits P) (cond b (outcome ∷ []) [])
       at true = (h, tt)
       at false = tt
   taken_has t (entries.Post by ticket event) h = tt
@@ -190,9 +191,9 @@ module _ (P : ℕ → Type 0) (channels : ℕ) (threads : List Thread) (low : (c
   goes_on h e follows w so makes =
       let has = entry_has h e follows w so makes in
       record {
-        taken_so = λ t. subst (AllByRecursion (OutcomeHas P)) (sym (taken_more t h e)) (appended (OutcomeHas P) (taken t h) (taken_from t e []) (so.taken_so t) (taken_has t e has));
+        taken_so = λ t. subst (AllByRecursion (OutcomeFits P)) (sym (taken_more t h e)) (appended (OutcomeFits P) (taken t h) (taken_from t e []) (so.taken_so t) (taken_has t e has));
         state_so = subst StateHas (sym (state-after (length threads) h e)) (state_has h e follows w so makes);
-        entries_so = appended (EntryHas P) h (e ∷ []) so.entries_so (has, tt);
+        entries_so = appended (EntryFits P) h (e ∷ []) so.entries_so (has, tt);
       }
 
   pub first : SoFar []
@@ -218,8 +219,10 @@ entry_makes P channels threads low each h (entries.Commit by cert outcomes) make
     members_make P (length threads) (state (length threads) h) cert.members follows.2.group (length-state (length threads) h) makes follows.2.events
 entry_makes P channels threads low each h _ makes follows = tt
 
-pub of_script : (script : Program) (history : List Entry) → IsProgram script → IsLoose (length script.threads) history → IsOfScript script history → AllByRecursion (HasChannelsOf script) history
-of_script script history is loose wished =
+-- and so do all entries
+pub all_fit : (script : Program) (history : List Entry) → IsProgram script → IsLoose (length script.threads) history → IsOfScript script history
+    → AllByRecursion (EntryFits (IsChannelOf script)) history
+all_fit script history is loose wished =
     (grows_wished (length script.threads) script.threads
     (SoFar (IsChannelOf script) (length script.channels) script.threads (λ c few. inl few) is.each)
     (λ h e follows w so. goes_on (IsChannelOf script) (length script.channels) script.threads (λ c few. inl few) is.each h e follows w so
@@ -228,3 +231,6 @@ of_script script history is loose wished =
   where
     makes : (t k : ℕ) → t < length script.threads → Makes (IsChannelOf script) t k
     makes t k there = λ count few. inr (record { thread = t; ticket = k; count = count; is_thread = there; few = few; number = refl })
+
+pub of_script : (script : Program) (history : List Entry) → IsProgram script → IsLoose (length script.threads) history → IsOfScript script history → AllByRecursion (HasChannelsOf script) history
+of_script script history is loose wished = entries_have (IsChannelOf script) history (all_fit script history is loose wished)

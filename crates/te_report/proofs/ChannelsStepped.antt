@@ -1,5 +1,5 @@
--- Steps bring in no other channels than fresh ones of the member.
-use Rattle.std.proofs.Common.{◌≡◌, ℕ, suc, ◌+◌, ◌<◌, ◌≤◌, Bool, true, false, cond, eqb, List, [], ◌∷◌, Option, Some, None, Result, Ok, Err, refl, sym, ap, subst, ◌∙◌, arith}
+-- What steps bring in fits too, and they bring in no other channels than fresh ones of the member.
+use Rattle.std.proofs.Common.{◌≡◌, ℕ, suc, ◌+◌, ◌<◌, ◌≤◌, Bool, true, false, cond, eqb, List, [], ◌∷◌, Option, Some, None, Result, Ok, Err, refl, sym, ap, subst, arith}
 use Rattle.std.specs.List.{AllByRecursion}
 use Rattle.std.specs.Option.{option_map, option_and_then}
 use Rattle.te_terms.specs.declared.value.Atom.{Atom}
@@ -11,12 +11,12 @@ use Rattle.te_terms.specs.declared.event.Outcome.TheVariants.{Gives, Raises}
 use Rattle.te_terms.specs.Values.{trap_value, fresh_channel}
 use Rattle.te_terms.specs.Limits.{most_fresh}
 use Rattle.te_terms.specs.Measures.{fresh_count}
-use Rattle.te_terms.specs.Expressions.{Primitive, value_of, channel_value, test_value}
+use Rattle.te_terms.specs.Expressions.{value_of, channel_value, test_value}
 use Rattle.te_terms.specs.Terms.{Term, always, never, fresh, throw, send, recv, and_then, choose, catch, when, bound}
 use Rattle.te_terms.specs.Steps.{Member, come_to, at_term, giving, raising, outcome_of, thrown, send_trap, recv_trap, decided, under_then, under_catch, goes_on, is_caught, quiet_step_of, quiet_step, head, with_head}
-use Rattle.te_terms.specs.Joint.{Label, choice, meeting, Action, quiet, labelled, chosen_from, after_choice, Message, message, sent_from, sending, receiving, member_of, with_member, with_term, quiet_joint, choice_joint, handed, meeting_of, meeting_joint, joint_step, after, and_outcome, outcomes_of, Reduces}
+use Rattle.te_terms.specs.Joint.{Label, choice, meeting, Action, quiet, labelled, chosen_from, after_choice, Message, message, sent_from, sending, receiving, member_of, with_member, with_term, handed, meeting_of, meeting_joint, joint_step, after, and_outcome, outcomes_of, Reduces}
 use Rattle.te_terms.proofs.FreshStaysFew.{quiet_makes, handed_few, choice_few}
-use Rattle.te_report.specs.Channels.{ValueHas, TermHas, OutcomeHas}
+use Rattle.te_report.specs.Fitting.{ValueFits, TermFits, OutcomeFits}
 use Rattle.te_report.proofs.ChannelsEvaluated.{trap_has, value_has, outcome_has, bound_has}
 
 module _ (P : ℕ → Type 0) where
@@ -25,7 +25,7 @@ module _ (P : ℕ → Type 0) where
   Makes thread ticket = (count : ℕ) → count < most_fresh → P (fresh_channel thread ticket count)
 
   pub record Fits (m : Member) : Type 0 where
-    pub term : TermHas P m.term
+    pub term : TermFits P m.term
     pub few : m.count + fresh_count m.term ≤ most_fresh
     pub makes : Makes m.thread m.ticket
 
@@ -33,7 +33,7 @@ module _ (P : ℕ → Type 0) where
 
   module _ (t k c : ℕ) (makes : Makes t k) where
     abbrev Has : Member → Type 0
-    Has m = TermHas P m.term × (m.thread ≡ t) × (m.ticket ≡ k)
+    Has m = TermFits P m.term × (m.thread ≡ t) × (m.ticket ≡ k)
 
     of_trap : (x : Trap) (m : Member) → Some (come_to t k c (raising (trap_value x))) ≡ Some m → Has m
     of_trap x m is = let same : come_to t k c (raising (trap_value x)) ≡ m = cc in subst Has same (trap_has P x, refl, refl)
@@ -50,7 +50,7 @@ module _ (P : ℕ → Type 0) where
     of_receive (Err x) m is = of_trap Kind m is
     of_receive (Ok d) m is = absurd cc
 
-    of_then : (o : Option Outcome) (step : Option Member) (n : ℕ) (f : Term) (m : Member) → ((x : Outcome) → o ≡ Some x → OutcomeHas P x) → TermHas P f
+    of_then : (o : Option Outcome) (step : Option Member) (n : ℕ) (f : Term) (m : Member) → ((x : Outcome) → o ≡ Some x → OutcomeFits P x) → TermFits P f
         → ((p : Member) → step ≡ Some p → Has p) → goes_on (come_to t k c) o step n f ≡ Some m → Has m
     of_then (Some (Gives v)) step n f m ends hf first is = let same : come_to t k c (bound n v f) ≡ m = cc in subst Has same (bound_has P n v f (ends (Gives v) refl) hf, refl, refl)
     of_then (Some (Raises v)) step n f m ends hf first is = let same : come_to t k c (raising v) ≡ m = cc in subst Has same (ends (Raises v) refl, refl, refl)
@@ -58,7 +58,7 @@ module _ (P : ℕ → Type 0) where
     of_then None (Some p) n f m ends hf first is =
         let same : under_then n f p ≡ m = cc in let h = first p refl in subst Has same ((h.0, hf), h.1, h.2)
 
-    of_catch : (o : Option Outcome) (step : Option Member) (n : ℕ) (f : Term) (m : Member) → ((x : Outcome) → o ≡ Some x → OutcomeHas P x) → TermHas P f
+    of_catch : (o : Option Outcome) (step : Option Member) (n : ℕ) (f : Term) (m : Member) → ((x : Outcome) → o ≡ Some x → OutcomeFits P x) → TermFits P f
         → ((p : Member) → step ≡ Some p → Has p) → is_caught (come_to t k c) o step n f ≡ Some m → Has m
     of_catch (Some (Gives v)) step n f m ends hf first is = let same : come_to t k c (giving v) ≡ m = cc in subst Has same (ends (Gives v) refl, refl, refl)
     of_catch (Some (Raises v)) step n f m ends hf first is = let same : come_to t k c (bound n v f) ≡ m = cc in subst Has same (bound_has P n v f (ends (Raises v) refl) hf, refl, refl)
@@ -66,16 +66,16 @@ module _ (P : ℕ → Type 0) where
     of_catch None (Some p) n f m ends hf first is =
         let same : under_catch n f p ≡ m = cc in let h = first p refl in subst Has same ((h.0, hf), h.1, h.2)
 
-    decided_has : (r : Result Bool Trap) (e f : Term) → TermHas P e → TermHas P f → TermHas P (decided r e f)
+    decided_has : (r : Result Bool Trap) (e f : Term) → TermFits P e → TermFits P f → TermFits P (decided r e f)
     decided_has (Ok true) e f he hf = he
     decided_has (Ok false) e f he hf = hf
     decided_has (Err x) e f he hf = trap_has P x
 
-    step_has : (e : Term) (m : Member) → c + fresh_count e ≤ most_fresh → TermHas P e → quiet_step_of t k c e ≡ Some m → Has m
+    step_has : (e : Term) (m : Member) → c + fresh_count e ≤ most_fresh → TermFits P e → quiet_step_of t k c e ≡ Some m → Has m
     step_has (always e) m few h is = of_value (value_of e) m is
     step_has never m few h is = absurd cc
     step_has fresh m few h is =
-        let same : come_to t k (suc c) (giving (Chan (fresh_channel t k c) ∷ [])) ≡ m = cc in subst Has same ((makes c (omega (arith, few)), tt), refl, refl)
+        let same : come_to t k (suc c) (giving (Chan (fresh_channel t k c) ∷ [])) ≡ m = cc in subst Has same (record { few = omega arith; atoms = (makes c (omega (arith, few)), tt) }, refl, refl)
     step_has (throw e) m few h is = of_value (value_of e) m is
     step_has (send p e) m few h is = of_send (channel_value p) (value_of e) m is
     step_has (recv p) m few h is = of_receive (channel_value p) m is
@@ -95,7 +95,7 @@ module _ (P : ℕ → Type 0) where
 
   -- ---- heads
 
-  head_has : (t : Term) → TermHas P t → TermHas P (head t)
+  head_has : (t : Term) → TermFits P t → TermFits P (head t)
   head_has (and_then e n f) h = head_has e h.0
   head_has (catch e n f) h = head_has e h.0
   head_has (always e) h = h
@@ -107,7 +107,7 @@ module _ (P : ℕ → Type 0) where
   head_has (choose e f) h = h
   head_has (when test p q e f) h = h
 
-  with_head_has : (u t : Term) → TermHas P u → TermHas P t → TermHas P (with_head u t)
+  with_head_has : (u t : Term) → TermFits P u → TermFits P t → TermFits P (with_head u t)
   with_head_has u (and_then e n f) hu h = (with_head_has u e hu h.0, h.1)
   with_head_has u (catch e n f) hu h = (with_head_has u e hu h.0, h.1)
   with_head_has u (always e) hu h = hu
@@ -119,17 +119,17 @@ module _ (P : ℕ → Type 0) where
   with_head_has u (choose e f) hu h = hu
   with_head_has u (when test p q e f) hu h = hu
 
-  chosen_has : (left : Bool) (t u : Term) → TermHas P t → chosen_from left t ≡ Some u → TermHas P u
-  chosen_has true (choose e f) u h is = let same : e ≡ u = cc in subst (TermHas P) same h.0
-  chosen_has false (choose e f) u h is = let same : f ≡ u = cc in subst (TermHas P) same h.1
+  chosen_has : (left : Bool) (t u : Term) → TermFits P t → chosen_from left t ≡ Some u → TermFits P u
+  chosen_has true (choose e f) u h is = let same : e ≡ u = cc in subst (TermFits P) same h.0
+  chosen_has false (choose e f) u h is = let same : f ≡ u = cc in subst (TermFits P) same h.1
   chosen_has true _ u h is = absurd cc
   chosen_has false _ u h is = absurd cc
 
-  choice_has_by : (t : Term) (o : Option Term) (u : Term) → TermHas P t → ((x : Term) → o ≡ Some x → TermHas P x) → option_map (λ x. with_head x t) o ≡ Some u → TermHas P u
+  choice_has_by : (t : Term) (o : Option Term) (u : Term) → TermFits P t → ((x : Term) → o ≡ Some x → TermFits P x) → option_map (λ x. with_head x t) o ≡ Some u → TermFits P u
   choice_has_by t None u h each is = absurd cc
-  choice_has_by t (Some x) u h each is = let same : with_head x t ≡ u = cc in subst (TermHas P) same (with_head_has x t (each x refl) h)
+  choice_has_by t (Some x) u h each is = let same : with_head x t ≡ u = cc in subst (TermFits P) same (with_head_has x t (each x refl) h)
 
-  choice_has : (left : Bool) (t u : Term) → TermHas P t → after_choice left t ≡ Some u → TermHas P u
+  choice_has : (left : Bool) (t u : Term) → TermFits P t → after_choice left t ≡ Some u → TermFits P u
   choice_has left t u h is = choice_has_by t (chosen_from left (head t)) u h (λ x at. chosen_has left (head t) x (head_has t h) at) is
 
   message_has : (c : Result ℕ Trap) (v : Result (List Atom) Trap) (sent : Message) → message c v ≡ Some sent → v ≡ Ok sent.value
@@ -137,7 +137,7 @@ module _ (P : ℕ → Type 0) where
   message_has (Ok c) (Err t) sent is = absurd cc
   message_has (Err t) _ sent is = absurd cc
 
-  sent_has : (t : Term) (sent : Message) → TermHas P t → sent_from t ≡ Some sent → ValueHas P sent.value
+  sent_has : (t : Term) (sent : Message) → TermFits P t → sent_from t ≡ Some sent → ValueFits P sent.value
   sent_has (send p e) sent h is = value_has P e sent.value h.1 (message_has (channel_value p) (value_of e) sent is)
   sent_has (always e) sent h is = absurd cc
   sent_has never sent h is = absurd cc
@@ -149,7 +149,7 @@ module _ (P : ℕ → Type 0) where
   sent_has (catch e n f) sent h is = absurd cc
   sent_has (when test p q e f) sent h is = absurd cc
 
-  sending_has : (t : Term) (sent : Message) → TermHas P t → sending t ≡ Some sent → ValueHas P sent.value
+  sending_has : (t : Term) (sent : Message) → TermFits P t → sending t ≡ Some sent → ValueFits P sent.value
   sending_has t sent h is = sent_has (head t) sent (head_has t h) is
 
   -- ---- groups
@@ -173,7 +173,7 @@ module _ (P : ℕ → Type 0) where
       at true others = (hn, h.1)
       at false others = (h.0, others)
 
-  at_term_fits : (m : Member) (u : Term) → Fits m → TermHas P u → fresh_count u ≤ fresh_count m.term → Fits (at_term m u)
+  at_term_fits : (m : Member) (u : Term) → Fits m → TermFits P u → fresh_count u ≤ fresh_count m.term → Fits (at_term m u)
   at_term_fits m u h hu less = record { term = hu; few = omega (arith, h.few, less); makes = h.makes }
 
   quiet_by : (g g' : List Member) (o : Option Member) → AllFit g → ((m : Member) → o ≡ Some m → Fits m) → option_map (λ m. with_member m g) (option_and_then quiet_step o) ≡ Some g' → AllFit g'
@@ -196,7 +196,10 @@ module _ (P : ℕ → Type 0) where
           let fits = each m refl in
           subst AllFit same (with_member_fits (at_term m u) g (at_term_fits m u fits (choice_has left m.term u fits.term e) (choice_few left m.term u e)) h)
 
-  handed_fits : (g g' : List Member) (i j : Member) (sent : Message) (c : ℕ) → AllFit g → Fits i → Fits j → ValueHas P sent.value → handed g i j sent c ≡ Some g' → AllFit g'
+  no_atoms : ValueFits P []
+  no_atoms = record { few = omega arith; atoms = tt }
+
+  handed_fits : (g g' : List Member) (i j : Member) (sent : Message) (c : ℕ) → AllFit g → Fits i → Fits j → ValueFits P sent.value → handed g i j sent c ≡ Some g' → AllFit g'
   handed_fits g g' i j sent c h hi hj hv is = at (eqb sent.channel c) is
     where
       all : AllFit (with_term (with_term g i (with_head (giving []) i.term)) j (with_head (giving sent.value) j.term))
@@ -204,7 +207,7 @@ module _ (P : ℕ → Type 0) where
           with_member_fits (at_term j (with_head (giving sent.value) j.term)) (with_term g i (with_head (giving []) i.term))
           (at_term_fits j (with_head (giving sent.value) j.term) hj (with_head_has (giving sent.value) j.term hv hj.term) (handed_few j.term sent.value))
           (with_member_fits (at_term i (with_head (giving []) i.term)) g
-          (at_term_fits i (with_head (giving []) i.term) hi (with_head_has (giving []) i.term tt hi.term) (handed_few i.term [])) h)
+          (at_term_fits i (with_head (giving []) i.term) hi (with_head_has (giving []) i.term no_atoms hi.term) (handed_few i.term [])) h)
 
       at : (b : Bool) → cond b (Some (with_term (with_term g i (with_head (giving []) i.term)) j (with_head (giving sent.value) j.term))) None ≡ Some g' → AllFit g'
       at true e = let same : with_term (with_term g i (with_head (giving []) i.term)) j (with_head (giving sent.value) j.term) ≡ g' = cc in subst AllFit same all
@@ -213,7 +216,7 @@ module _ (P : ℕ → Type 0) where
   meeting_by : (g g' : List Member) (i j : Member) → AllFit g → Fits i → Fits j → meeting_of g i j ≡ Some g' → AllFit g'
   meeting_by g g' i j h hi hj is = at (sending i.term) refl is
     where
-      on : (sent : Message) → ValueHas P sent.value → (r : Option ℕ) → option_and_then (handed g i j sent) r ≡ Some g' → AllFit g'
+      on : (sent : Message) → ValueFits P sent.value → (r : Option ℕ) → option_and_then (handed g i j sent) r ≡ Some g' → AllFit g'
       on sent hv None e = absurd cc
       on sent hv (Some c) e = handed_fits g g' i j sent c h hi hj hv e
 
@@ -249,17 +252,17 @@ module _ (P : ℕ → Type 0) where
       at None e rest is' = absurd cc
       at (Some g') e rest is' = rest g' (joint_fits a g g' h e) is'
 
-  outcomes_have : (g : List Member) (os : List Outcome) → AllFit g → outcomes_of g ≡ Some os → AllByRecursion (OutcomeHas P) os
-  outcomes_have [] os h is = let same : [] ≡ os = cc in subst (AllByRecursion (OutcomeHas P)) same tt
+  outcomes_have : (g : List Member) (os : List Outcome) → AllFit g → outcomes_of g ≡ Some os → AllByRecursion (OutcomeFits P) os
+  outcomes_have [] os h is = let same : [] ≡ os = cc in subst (AllByRecursion (OutcomeFits P)) same tt
   outcomes_have (m ∷ ms) os h is = at (outcome_of m.term) (outcomes_of ms) refl (λ rest. outcomes_have ms rest h.1) is
     where
-      at : (o : Option Outcome) (others : Option (List Outcome)) → outcome_of m.term ≡ o → ((rest : List Outcome) → others ≡ Some rest → AllByRecursion (OutcomeHas P) rest)
-          → and_outcome o others ≡ Some os → AllByRecursion (OutcomeHas P) os
+      at : (o : Option Outcome) (others : Option (List Outcome)) → outcome_of m.term ≡ o → ((rest : List Outcome) → others ≡ Some rest → AllByRecursion (OutcomeFits P) rest)
+          → and_outcome o others ≡ Some os → AllByRecursion (OutcomeFits P) os
       at (Some o) (Some rest) e have is' =
-          let same : o ∷ rest ≡ os = cc in subst (AllByRecursion (OutcomeHas P)) same (outcome_has P m.term o h.0.term e, have rest refl)
+          let same : o ∷ rest ≡ os = cc in subst (AllByRecursion (OutcomeFits P)) same (outcome_has P m.term o h.0.term e, have rest refl)
       at (Some o) None e have is' = absurd cc
       at None _ e have is' = absurd cc
 
   -- what reduces comes to outcomes with such channels
-  pub reductions_have : (g : List Member) (word : List Label) (os : List Outcome) → AllFit g → Reduces g word os → AllByRecursion (OutcomeHas P) os
+  pub reductions_have : (g : List Member) (word : List Label) (os : List Outcome) → AllFit g → Reduces g word os → AllByRecursion (OutcomeFits P) os
   reductions_have g word os h r = outcomes_have r.end os (chain_fits r.actions g r.end h r.reaches) r.ends_so

@@ -1,45 +1,44 @@
 -- What a thread of a script wishes has the script's channels and those of the outcomes that it has taken.
-use Rattle.std.proofs.Common.{◌≡◌, ℕ, zero, suc, ◌+◌, ◌<◌, ◌≤◌, Bool, true, false, cond, eqb, List, [], ◌∷◌, ◌++◌, take, map, Option, Some, None, Result, Ok, Err, refl, sym, ap, subst, ◌∙◌, arith}
+use Rattle.std.proofs.Common.{◌≡◌, ℕ, zero, suc, ◌+◌, ◌<◌, ◌≤◌, Bool, true, false, cond, eqb, List, [], ◌∷◌, ◌++◌, take, Result, Ok, Err, refl, arith}
 use Rattle.std.specs.List.{AllByRecursion}
 use Rattle.te_terms.specs.declared.value.Atom.{Atom}
 use Rattle.te_terms.specs.declared.value.Trap.{Trap}
 use Rattle.te_terms.specs.declared.event.Outcome.{Outcome}
 use Rattle.te_terms.specs.declared.event.Outcome.TheVariants.{Gives, Raises}
-use Rattle.te_terms.specs.Values.{trap_value}
 use Rattle.te_terms.specs.Limits.{most_fresh}
 use Rattle.te_terms.specs.Measures.{one_fresh, fresh_count}
 use Rattle.te_terms.specs.Expressions.{Variable, register, name, known, Primitive, int, chan, part, Calculation, one, both, Expression, whole, tuple, in_expression, value_of}
-use Rattle.te_terms.specs.Terms.{Term, always, never, fresh, throw, send, recv, and_then, choose, catch, when, replaced}
+use Rattle.te_terms.specs.Terms.{Term, always, never, fresh, throw, send, recv, and_then, choose, catch, when}
 use Rattle.te_terms.proofs.Measured.{fresh_sees, counted-replaced}
 use Rattle.te_script.specs.declared.wish.Site.{Site}
 use Rattle.te_script.specs.Scripts.{Statement, sync, emit, repeat, Scope, one_more, IsVariable, IsPrimitive, IsCalculation, IsExpression, IsEvent, AreStatements, with_register, Thread, IsThread}
 use Rattle.te_script.specs.Wishes.{Step, syncing, emitting, site_at, steps_of, pass_over, passes_over, flat_from, flat, Wish, syncs, done, raised, holding, Doing, synchronises, ends, has_raised, Reached, emits_or, reached_by, reached, wish_of, wish}
-use Rattle.te_report.specs.Channels.{ValueHas, VariableHas, PrimitiveHas, CalculationHas, ExpressionHas, TermHas, OutcomeHas}
+use Rattle.te_report.specs.Fitting.{ValueFits, VariableFits, PrimitiveFits, CalculationFits, ExpressionFits, TermFits, OutcomeFits}
 use Rattle.te_report.proofs.ChannelsEvaluated.{trap_has, value_has, expression_by, term_by}
 
 module _ (P : ℕ → Type 0) where
   -- ---- what is spelled in a scope
 
-  variable_spelled : (s : Scope) (x : Variable) → IsVariable s x → VariableHas P x
+  variable_spelled : (s : Scope) (x : Variable) → IsVariable s x → VariableFits P x
   variable_spelled s (register r) h = tt
   variable_spelled s (name n) h = tt
   variable_spelled s (known v) h = absurd h
 
-  primitive_spelled : (s : Scope) (p : Primitive) → ((c : ℕ) → c < s.channels → P c) → IsPrimitive s p → PrimitiveHas P p
-  primitive_spelled s (int z) low h = tt
+  primitive_spelled : (s : Scope) (p : Primitive) → ((c : ℕ) → c < s.channels → P c) → IsPrimitive s p → PrimitiveFits P p
+  primitive_spelled s (int z) low h = h
   primitive_spelled s (chan c) low h = low c h
   primitive_spelled s (part x d) low h = variable_spelled s x h.0
 
-  calculations_spelled : (s : Scope) (cs : List Calculation) → ((c : ℕ) → c < s.channels → P c) → AllByRecursion (IsCalculation s) cs → AllByRecursion (CalculationHas P) cs
+  calculations_spelled : (s : Scope) (cs : List Calculation) → ((c : ℕ) → c < s.channels → P c) → AllByRecursion (IsCalculation s) cs → AllByRecursion (CalculationFits P) cs
   calculations_spelled s [] low h = tt
   calculations_spelled s (one p ∷ cs) low h = (primitive_spelled s p low h.0, calculations_spelled s cs low h.1)
   calculations_spelled s (both o p q ∷ cs) low h = ((primitive_spelled s p low h.0.0, primitive_spelled s q low h.0.1), calculations_spelled s cs low h.1)
 
-  expression_spelled : (s : Scope) (e : Expression) → ((c : ℕ) → c < s.channels → P c) → IsExpression s e → ExpressionHas P e
+  expression_spelled : (s : Scope) (e : Expression) → ((c : ℕ) → c < s.channels → P c) → IsExpression s e → ExpressionFits P e
   expression_spelled s (whole x) low h = variable_spelled s x h
-  expression_spelled s (tuple cs) low h = calculations_spelled s cs low h.0
+  expression_spelled s (tuple cs) low h = (calculations_spelled s cs low h.0, h.1)
 
-  event_spelled : (s : Scope) (t : Term) → ((c : ℕ) → c < s.channels → P c) → IsEvent s t → TermHas P t
+  event_spelled : (s : Scope) (t : Term) → ((c : ℕ) → c < s.channels → P c) → IsEvent s t → TermFits P t
   event_spelled s (always e) low h = expression_spelled s e low h
   event_spelled s never low h = tt
   event_spelled s fresh low h = tt
@@ -54,17 +53,17 @@ module _ (P : ℕ → Type 0) where
   -- ---- statements and steps
 
   pub record EventHas (t : Term) : Type 0 where
-    pub term : TermHas P t
+    pub term : TermFits P t
     pub few : fresh_count t ≤ most_fresh
 
   abbrev StatementHas : Statement → Type 0
   StatementHas (sync r t) = EventHas t
-  StatementHas (emit e) = ExpressionHas P e
+  StatementHas (emit e) = ExpressionFits P e
   StatementHas (repeat times count) = Unit {0}
 
   abbrev StepHas : Step → Type 0
   StepHas (syncing at r t) = EventHas t
-  StepHas (emitting at e) = ExpressionHas P e
+  StepHas (emitting at e) = ExpressionFits P e
 
   statements_have : (channels registers written : ℕ) (ss : List Statement) → ((c : ℕ) → c < channels → P c) → AreStatements channels registers written ss → AllByRecursion StatementHas ss
   statements_have channels registers written [] low h = tt
@@ -115,35 +114,35 @@ module _ (P : ℕ → Type 0) where
   abbrev DoingHas : Doing → Type 0
   DoingHas (synchronises at t) = EventHas t
   DoingHas ends = Unit {0}
-  DoingHas (has_raised v) = ValueHas P v
+  DoingHas (has_raised v) = ValueFits P v
 
   record ReachedHas (r : Reached) : Type 0 where
-    pub emitted : AllByRecursion (ValueHas P) r.emitted
+    pub emitted : AllByRecursion (ValueFits P) r.emitted
     pub does : DoingHas r.does
 
   abbrev Keeps : (Variable → Variable) → Type 0
-  Keeps by = (x : Variable) → VariableHas P x → VariableHas P (by x)
+  Keeps by = (x : Variable) → VariableFits P x → VariableFits P (by x)
 
-  holds : (r : ℕ) (v : List Atom) (by : Variable → Variable) → ValueHas P v → Keeps by → Keeps (holding r v by)
+  holds : (r : ℕ) (v : List Atom) (by : Variable → Variable) → ValueFits P v → Keeps by → Keeps (holding r v by)
   holds r v by h kept (register q) hx = at (eqb q r)
     where
-      at : (b : Bool) → VariableHas P (cond b (known v) (by (register q)))
+      at : (b : Bool) → VariableFits P (cond b (known v) (by (register q)))
       at true = h
       at false = kept (register q) hx
   holds r v by h kept (name n) hx = kept (name n) hx
   holds r v by h kept (known w) hx = kept (known w) hx
 
-  values_append : (vs : List (List Atom)) (v : List Atom) → AllByRecursion (ValueHas P) vs → ValueHas P v → AllByRecursion (ValueHas P) (vs ++ v ∷ [])
+  values_append : (vs : List (List Atom)) (v : List Atom) → AllByRecursion (ValueFits P) vs → ValueFits P v → AllByRecursion (ValueFits P) (vs ++ v ∷ [])
   values_append [] v hs h = (h, tt)
   values_append (w ∷ ws) v hs h = (hs.0, values_append ws v hs.1 h)
 
-  emits_has : (r : Result (List Atom) Trap) (emitted : List (List Atom)) (go : List (List Atom) → Reached) → ((v : List Atom) → r ≡ Ok v → ValueHas P v) → AllByRecursion (ValueHas P) emitted
-      → ((more : List (List Atom)) → AllByRecursion (ValueHas P) more → ReachedHas (go more)) → ReachedHas (emits_or r emitted go)
+  emits_has : (r : Result (List Atom) Trap) (emitted : List (List Atom)) (go : List (List Atom) → Reached) → ((v : List Atom) → r ≡ Ok v → ValueFits P v) → AllByRecursion (ValueFits P) emitted
+      → ((more : List (List Atom)) → AllByRecursion (ValueFits P) more → ReachedHas (go more)) → ReachedHas (emits_or r emitted go)
   emits_has (Ok v) emitted go value he rest = rest (emitted ++ v ∷ []) (values_append emitted v he (value v refl))
   emits_has (Err t) emitted go value he rest = record { emitted = he; does = trap_has P t }
 
-  reached_has : (by : Variable → Variable) (emitted : List (List Atom)) (steps : List Step) (outs : List Outcome) → Keeps by → AllByRecursion (ValueHas P) emitted
-      → AllByRecursion StepHas steps → AllByRecursion (OutcomeHas P) outs → ReachedHas (reached_by by emitted steps outs)
+  reached_has : (by : Variable → Variable) (emitted : List (List Atom)) (steps : List Step) (outs : List Outcome) → Keeps by → AllByRecursion (ValueFits P) emitted
+      → AllByRecursion StepHas steps → AllByRecursion (OutcomeFits P) outs → ReachedHas (reached_by by emitted steps outs)
   reached_has by emitted [] outs kept he hs ho = record { emitted = he; does = tt }
   reached_has by emitted (emitting at e ∷ rest) outs kept he hs ho =
       emits_has (value_of (in_expression by e)) emitted (λ more. reached_by by more rest outs)
@@ -159,15 +158,15 @@ module _ (P : ℕ → Type 0) where
 
   abbrev pub WishHas : Wish → Type 0
   WishHas (syncs t) = EventHas t
-  WishHas (done values) = AllByRecursion (ValueHas P) values
-  WishHas (raised v) = ValueHas P v
+  WishHas (done values) = AllByRecursion (ValueFits P) values
+  WishHas (raised v) = ValueFits P v
 
-  wish_of_has : (emitted : List (List Atom)) (does : Doing) → AllByRecursion (ValueHas P) emitted → DoingHas does → WishHas (wish_of emitted does)
+  wish_of_has : (emitted : List (List Atom)) (does : Doing) → AllByRecursion (ValueFits P) emitted → DoingHas does → WishHas (wish_of emitted does)
   wish_of_has emitted (synchronises at t) he hd = hd
   wish_of_has emitted ends he hd = he
   wish_of_has emitted (has_raised v) he hd = hd
 
-  pub wish_has : (channels : ℕ) (t : Thread) (outs : List Outcome) → ((c : ℕ) → c < channels → P c) → IsThread channels t → AllByRecursion (OutcomeHas P) outs → WishHas (wish t outs)
+  pub wish_has : (channels : ℕ) (t : Thread) (outs : List Outcome) → ((c : ℕ) → c < channels → P c) → IsThread channels t → AllByRecursion (OutcomeFits P) outs → WishHas (wish t outs)
   wish_has channels t outs low is ho =
       let steps = flat_has 1 0 t.statements (statements_have channels _ 0 t.statements low is.in_order) in
       let r = reached_has (λ x. x) [] (flat t) outs (λ x h. h) tt steps ho in

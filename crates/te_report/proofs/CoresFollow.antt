@@ -1,11 +1,8 @@
 -- The cores follow a history of their threads, entry by entry.
-use Rattle.std.proofs.Common.{◌≡◌, ◌≢◌, ℕ, zero, suc, ◌+◌, ◌≤◌, Bool, cond, eqb, eq-eqb, List, [], ◌∷◌, ◌++◌, slice_set, Option, Some, None, refl, sym, ap, subst, ◌∙◌, arith, add-zero, zero-add}
-use Rattle.std.proofs.lemmas.List.{append-nil}
+use Rattle.std.proofs.Common.{◌≡◌, ◌≢◌, ℕ, zero, suc, ◌+◌, ◌≤◌, Bool, cond, eq-eqb, List, [], ◌∷◌, ◌++◌, slice_set, Option, Some, None, refl, sym, ap, subst, ◌∙◌, arith, add-zero, zero-add}
 use Rattle.std.specs.Prelude.{slice_get}
 use Rattle.te_terms.specs.declared.event.Outcome.{Outcome}
-use Rattle.te_script.specs.declared.wish.Site.{Site}
 use Rattle.te_script.specs.Scripts.{Thread, Program}
-use Rattle.te_script.specs.Wishes.{syncs, site}
 use Rattle.te_script.specs.Cores.{At, core_after, stand_after, moved, IsWaiting}
 use Rattle.te_script.proofs.WishReached.{site_after}
 use Rattle.te_script.proofs.OneMore.{moved_after}
@@ -17,7 +14,7 @@ use Rattle.te_report.specs.OfScript.{taken, taken_from, WishedBy, WishedFrom}
 use Rattle.te_report.specs.Report.{site_by, posted_site}
 use Rattle.te_report.specs.Following.{cores_from, Waits, HasCore, core_site, shown_site, with_moved, followed}
 use Rattle.te_report.proofs.Growing.{taken_more, taken_same, not_mine}
-use Rattle.te_report.proofs.ThreadsWait.{AllFit, posts_wait, all_fit}
+use Rattle.te_report.proofs.ThreadsWait.{posts_wait, all_fit}
 
 -- the core of a thread
 pub core_there : (h : List Entry) (k t : ℕ) (threads : List Thread) (x : Thread) → slice_get threads t ≡ Some x → slice_get (cores_from h k threads) t ≡ Some (core_after x (taken (k + t) h))

@@ -1,5 +1,5 @@
 -- A history of a script's threads and their cores, with one entry more.
-use Rattle.std.proofs.Common.{◌≡◌, ℕ, zero, suc, ◌+◌, ◌<◌, List, [], ◌∷◌, ◌++◌, length, Option, Some, None, refl, sym, ap, subst, ◌∙◌, arith, zero-add, add-zero}
+use Rattle.std.proofs.Common.{◌≡◌, ℕ, zero, suc, ◌+◌, ◌<◌, List, [], ◌∷◌, ◌++◌, length, Option, Some, refl, sym, ap, subst, ◌∙◌, arith, zero-add, add-zero}
 use Rattle.std.specs.Prelude.{slice_get}
 use Rattle.te_terms.specs.declared.event.Outcome.{Outcome}
 use Rattle.te_script.specs.Scripts.{Thread, Program}
@@ -34,7 +34,7 @@ module _ (script : Program) (hist : History) (cores : List At) (e : Entry) (so_f
   }
 
 -- the thread of a core
-core_back : (h : List Entry) (k t : ℕ) (threads : List Thread) (c : At) → slice_get (cores_from h k threads) t ≡ Some c → (x : Thread)
+pub core_back : (h : List Entry) (k t : ℕ) (threads : List Thread) (c : At) → slice_get (cores_from h k threads) t ≡ Some c → (x : Thread)
     × (slice_get threads t ≡ Some x) × (c ≡ core_after x (taken (k + t) h))
 core_back h k t [] c is = absurd cc
 core_back h k zero (x ∷ xs) c is =

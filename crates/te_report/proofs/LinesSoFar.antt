@@ -1,9 +1,7 @@
 -- The lines of a history with one entry more.
-use Rattle.std.proofs.Common.{◌≡◌, ℕ, suc, List, [], ◌∷◌, ◌++◌, take, Some, refl, sym, ap, subst, ◌∙◌, append_assoc}
+use Rattle.std.proofs.Common.{◌≡◌, ℕ, List, [], ◌∷◌, ◌++◌, sym, ap, ◌∙◌, append_assoc}
 use Rattle.std.proofs.lemmas.List.{append-nil}
-use Rattle.std.specs.Prelude.{slice_get}
 use Rattle.te_script.specs.Scripts.{Program}
-use Rattle.te_script.specs.Cores.{At}
 use Rattle.te_history.specs.declared.entry.Entry.{Entry}
 use Rattle.te_report.specs.Report.{Version, entry_line, entry_lines}
 

@@ -1,19 +1,19 @@
 -- In a history of a script a thread that is parked, or given an outcome, waits for one.
-use Rattle.std.proofs.Common.{◌≡◌, ◌≢◌, ◌⊎◌, inl, inr, ℕ, List, [], ◌∷◌, ◌++◌, Option, Some, None, refl, sym, ap, subst, ◌∙◌}
+use Rattle.std.proofs.Common.{◌≡◌, ◌≢◌, ◌⊎◌, inl, inr, ℕ, List, [], ◌∷◌, ◌++◌, Option, Some, refl, sym, ap, subst, ◌∙◌}
 use Rattle.std.specs.Prelude.{slice_get}
 use Rattle.te_terms.specs.declared.value.Atom.{Atom}
 use Rattle.te_terms.specs.declared.event.Outcome.{Outcome}
 use Rattle.te_terms.specs.Terms.{Term}
 use Rattle.te_script.specs.Scripts.{Thread}
-use Rattle.te_script.specs.Wishes.{Wish, syncs, wish, wish_of}
-use Rattle.te_script.specs.Cores.{Next, waits, ended, failed, Stand, stand_after, doing_of, IsWaiting}
+use Rattle.te_script.specs.Wishes.{syncs, wish, wish_of}
+use Rattle.te_script.specs.Cores.{Next, waits, ended, failed, stand_after, doing_of, IsWaiting}
 use Rattle.te_script.proofs.WishReached.{wish_after}
 use Rattle.te_history.specs.declared.entry.Entry.{Entry}
 use Rattle.te_history.specs.declared.entry.Entry.TheVariants as entries
 use Rattle.te_history.specs.declared.status.How.TheVariants as ways
 use Rattle.te_history.specs.declared.status.How.{How}
-use Rattle.te_history.specs.State.{Standing, idle, parked, given, ended as has_ended, State, state, opening, changed, with_standing, with_given}
-use Rattle.te_history.specs.Follows.{Stands, Ends, caller_of, LooselyFollows, LooseFrom, IsLoose}
+use Rattle.te_history.specs.State.{Standing, idle, parked, given, ended as has_ended, State, state, changed, with_standing, with_given}
+use Rattle.te_history.specs.Follows.{Stands, Ends, caller_of, LooselyFollows, LooseFrom}
 use Rattle.te_history.proofs.AfterEntry.{state-after}
 use Rattle.te_history.proofs.Commits.{same_or_other, stands_put, stands_other, Touch, untouched, touched, touch}
 use Rattle.te_report.specs.OfScript.{taken, taken_from, WishedBy, WishedFrom}

@@ -2,5 +2,12 @@ pub mod OfScript
 pub mod Whole
 pub mod Report
 pub mod Channels
+pub mod Fitting
 pub mod ScriptChannels
 pub mod Following
+pub mod Readable
+pub mod Told
+pub mod Declarations
+pub mod Sayings
+pub mod Judging
+pub mod Answers

@@ -76,7 +76,7 @@ fn put_site(out: &mut Vec<u8>, site: Option<Site>) -> Result<(), NoMemory>
     put_number(out, site.pass as u64)
 }
 
-fn put_post(
+pub(crate) fn put_post(
     out: &mut Vec<u8>,
     script: &Script,
     by: u32,

@@ -1,16 +1,35 @@
-//! Reports of transactional events: the text of a history of a script's threads.
+//! Reports of transactional events: the text of a history of a script's threads, written and read.
 #![tactic(auto)]
 
 mod commits;
+mod commits_told;
+mod cutting;
+mod declaring;
 mod ending;
 mod entries;
+mod fault;
 mod following;
+mod judging;
 mod laws;
+mod lines;
+mod names;
+mod numbers;
+mod reading;
+#[cfg(test)]
+mod reading_tests;
+mod saying;
 #[cfg(test)]
 mod tests;
 mod values;
+mod values_told;
 mod writing;
 
 pub use ending::Ending;
+pub use fault::{Cause, ReportFault};
+#[doc(hidden)]
+pub use laws::readings_are_one;
 pub use laws::{channels_are_of_the_script, fresh_channels_are_spelled};
+pub use reading::read_report;
+#[doc(hidden)]
+pub use reading::{Declaration, Reading, read_declared};
 pub use writing::write_report;

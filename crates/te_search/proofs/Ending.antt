@@ -15,11 +15,14 @@ use Rattle.te_path.specs.Paths.{IsChoice}
 use Rattle.te_terms.specs.Joint.{Message, after_choice, sending, receiving}
 use Rattle.te_trail.specs.Paths.{Path, planted, branched, sent, got}
 use Rattle.te_trail.specs.Stores.{Holds, IsStore, labels_of_move}
-use Rattle.te_trail.specs.Trails.{IsAtChoice}
+use Rattle.te_trail.specs.Trails.{IsAtChoice, IsThread}
 use Rattle.te_trail.specs.States.{chosen, Ends, met, state_of}
 use Rattle.te_trail.proofs.MovesChain.{mapped}
 use Rattle.te_trail.proofs.MembersMove.{Handing, handing}
 use Rattle.te_search.specs.declared.work.Work.{Work}
+use Rattle.te_search.specs.declared.finals.Final.{Final}
+use Rattle.te_search.specs.Finals.{number_of, numbers_of, TellThreads}
+use Rattle.te_search.proofs.FinalsTold.{told_one}
 use Rattle.te_search.specs.Groups.{IsFinal, Partial, IsPartial}
 use Rattle.te_search.specs.Searching.{path_at, paths_by, AreUp, NoneTwice, AllFail, MayMeet, IsSearch}
 use Rattle.te_search.specs.Works.{AreLow, AreEnds, told, pending_of, IsCounted, IsWork, IsWorkOn}
@@ -96,13 +99,20 @@ all_fail_more g finals x before fails front start rest e = elim (last_case final
 
 -- ---- the path in hand is final
 
+pub numbers_one : (old new : List Final) (p t : ℕ) → new ≡ old ++ (record { path = p; thread = t } ∷ []) → numbers_of new ≡ numbers_of old ++ (p ∷ [])
+numbers_one old new p t is = ap numbers_of is ∙ map_both number_of old (record { path = p; thread = t } ∷ [])
+
+pub told_after : (old : Work) (new : List Final) (p t : ℕ) → IsWorkOn old p → new ≡ old.finals ++ (record { path = p; thread = t } ∷ []) → IsThread old.store.paths p t
+    → TellThreads old.store.paths new
+told_after old new p t w is th = subst (TellThreads old.store.paths) (sym is) (told_one old.store.paths old.finals p t w.finals_told th)
+
 -- final paths with the one in hand
 pub record Ending (old : Work) (p : ℕ) (x : Path) (threads : List ℕ) : Type 0 where
-  pub stand : Stand old.store.events old.store.paths threads (old.finals.items ++ (p ∷ []))
+  pub stand : Stand old.store.events old.store.paths threads (numbers_of old.finals ++ (p ∷ []))
   pub crew : Crew old.store.events (Holds old.store.paths) (IsFinal old.store.events) (x ∷ [])
   pub partial : IsPartial old.store.events old.store.paths (record { start = x; members = x ∷ [] })
-  pub new : ¬ Holds (paths_by old.store.paths old.finals.items) x
-  pub finals_are : paths_by old.store.paths (old.finals.items ++ (p ∷ [])) ≡ paths_by old.store.paths old.finals.items ++ (x ∷ [])
+  pub new : ¬ Holds (paths_by old.store.paths (numbers_of old.finals)) x
+  pub finals_are : paths_by old.store.paths (numbers_of old.finals ++ (p ∷ [])) ≡ paths_by old.store.paths (numbers_of old.finals) ++ (x ∷ [])
 
 pub ending : (old : Work) (p : ℕ) (x : Path) (threads : List ℕ) → slice_get old.store.paths p ≡ Some x → IsWorkOn old p → IsFinal old.store.events x
     → threads ≡ threads_of old.store.events → Ending old p x threads
@@ -111,7 +121,7 @@ ending old p x threads ex w f th = record {
     store = before.store;
     ups = before.ups;
     closed = past_made old.store.events old.store.paths (pending_of old ++ (x ∷ [])) waits finals before;
-    finals_low = low_both old.store.paths old.finals.items (p ∷ []) w.finals_low p_low;
+    finals_low = low_both old.store.paths (numbers_of old.finals) (p ∷ []) w.finals_low p_low;
     finals_final = λ y h. elim (holds_which finals (x ∷ []) y (subst (λ l. Holds l y) finals_are h)) [
       | inl a ↦ before.finals_final y a
       | inr b ↦ subst (IsFinal old.store.events)
@@ -136,7 +146,7 @@ ending old p x threads ex w f th = record {
     waits = paths_by old.store.paths (paths_of old.waiting)
 
     finals : List Path
-    finals = paths_by old.store.paths old.finals.items
+    finals = paths_by old.store.paths (numbers_of old.finals)
 
     before : IsSearch old.store.events old.store.paths (pending_of old ++ (x ∷ [])) waits finals
     before = subst (λ y. IsSearch old.store.events old.store.paths (pending_of old ++ (y ∷ [])) waits finals) (path_there old.store.paths p x ex) w.search
@@ -147,8 +157,8 @@ ending old p x threads ex w f th = record {
     new : ¬ Holds finals x
     new = (before.pending_apart x (holds_right (pending_of old) (x ∷ []) x (inl refl))).1
 
-    finals_are : paths_by old.store.paths (old.finals.items ++ (p ∷ [])) ≡ finals ++ (x ∷ [])
-    finals_are = map_both (path_at old.store.paths) old.finals.items (p ∷ []) ∙ ap (λ b. finals ++ (b ∷ [])) (path_there old.store.paths p x ex)
+    finals_are : paths_by old.store.paths (numbers_of old.finals ++ (p ∷ [])) ≡ finals ++ (x ∷ [])
+    finals_are = map_both (path_at old.store.paths) (numbers_of old.finals) (p ∷ []) ∙ ap (λ b. finals ++ (b ∷ [])) (path_there old.store.paths p x ex)
 
     p_low : AreLow old.store.paths (p ∷ [])
     p_low zero n e = (let one : p ≡ n = cc in let h : p < length old.store.paths = get_low old.store.paths x p ex in omega (arith, one, h))
@@ -157,7 +167,7 @@ ending old p x threads ex w f th = record {
 -- what was tried by then
 pub ending_counted : (old : Work) (p : ℕ) (x : Path) (threads : List ℕ) (count groups : ℕ) → IsWorkOn old p → Ending old p x threads
     → Tries old.store.events old.store.paths x (x ∷ []) count → groups ≡ old.groups + suc count
-    → IsCounted old.store.events old.store.paths (paths_by old.store.paths (old.finals.items ++ (p ∷ []))) groups
+    → IsCounted old.store.events old.store.paths (paths_by old.store.paths (numbers_of old.finals ++ (p ∷ []))) groups
 ending_counted old p x threads count groups w e t is = record {
   tried = w.counted.tried ++ (own ∷ t.more);
   count_is = length-append w.counted.tried (own ∷ t.more) ∙ ap₂ (λ a b. a + suc b) w.counted.count_is t.count_is ∙ sym is;
@@ -175,18 +185,20 @@ ending_counted old p x threads count groups w e t is = record {
     own = record { start = x; members = x ∷ [] }
 
     finals : List Path
-    finals = paths_by old.store.paths old.finals.items
+    finals = paths_by old.store.paths (numbers_of old.finals)
 
 -- nothing was found from it
 pub end_done : (old new : Work) (p : ℕ) (x : Path) (threads : List ℕ) (count : ℕ) → slice_get old.store.paths p ≡ Some x → IsWorkOn old p → IsFinal old.store.events x
     → Ending old p x threads → new.store ≡ old.store → new.moves.items ≡ old.moves.items → new.pending.items ≡ old.pending.items → new.waiting ≡ old.waiting
-    → new.finals.items ≡ old.finals.items ++ (p ∷ []) → new.groups ≡ old.groups + suc count → Tries old.store.events old.store.paths x (x ∷ []) count
-    → Fails (Holds (paths_by old.store.paths (old.finals.items ++ (p ∷ [])))) (x ∷ []) → IsWork new
-end_done old new p x threads count ex w f e st mo pe wa fi gr tries fails = record {
-  search = subst (λ t. IsSearch t.events t.paths (paths_by t.paths new.pending.items) (paths_by t.paths (paths_of new.waiting)) (paths_by t.paths new.finals.items)) (sym st)
+    → numbers_of new.finals ≡ numbers_of old.finals ++ (p ∷ []) → new.groups ≡ old.groups + suc count → Tries old.store.events old.store.paths x (x ∷ []) count
+    → Fails (Holds (paths_by old.store.paths (numbers_of old.finals ++ (p ∷ [])))) (x ∷ []) → TellThreads old.store.paths new.finals → IsWork new
+end_done old new p x threads count ex w f e st mo pe wa fi gr tries fails told_so = record {
+  search = subst (λ t. IsSearch t.events t.paths (paths_by t.paths new.pending.items)
+      (paths_by t.paths (paths_of new.waiting)) (paths_by t.paths (numbers_of new.finals))) (sym st)
       (subst (λ k. IsSearch old.store.events old.store.paths (paths_by old.store.paths k) (paths_by old.store.paths (paths_of new.waiting))
-      (paths_by old.store.paths new.finals.items)) (sym pe)
-      (subst (λ k. IsSearch old.store.events old.store.paths (pending_of old) (paths_by old.store.paths (paths_of k)) (paths_by old.store.paths new.finals.items)) (sym wa)
+      (paths_by old.store.paths (numbers_of new.finals))) (sym pe)
+      (subst (λ k. IsSearch old.store.events old.store.paths (pending_of old) (paths_by old.store.paths (paths_of k))
+      (paths_by old.store.paths (numbers_of new.finals))) (sym wa)
       (subst (λ k. IsSearch old.store.events old.store.paths (pending_of old) waits (paths_by old.store.paths k)) (sym fi)
       (subst (IsSearch old.store.events old.store.paths (pending_of old) waits) (sym e.finals_are)
       (subst (λ q. IsSearch old.store.events q (pending_of old) waits (finals ++ (x ∷ []))) (append-nil old.store.paths)
@@ -195,10 +207,11 @@ end_done old new p x threads count ex w f e st mo pe wa fi gr tries fails = reco
       (step_done old.store.events old.store.paths (pending_of old) waits finals x [] [] (x ∷ []) before step))))))));
   pending_low = subst (λ t. AreLow t.paths new.pending.items) (sym st) (subst (AreLow old.store.paths) (sym pe) w.pending_low);
   waits_low = subst (λ t. AreLow t.paths (paths_of new.waiting)) (sym st) (subst (λ k. AreLow old.store.paths (paths_of k)) (sym wa) w.waits_low);
-  finals_low = subst (λ t. AreLow t.paths new.finals.items) (sym st) (subst (AreLow old.store.paths) (sym fi) e.stand.finals_low);
+  finals_low = subst (λ t. AreLow t.paths (numbers_of new.finals)) (sym st) (subst (AreLow old.store.paths) (sym fi) e.stand.finals_low);
+  finals_told = subst (λ t. TellThreads t.paths new.finals) (sym st) told_so;
   ends = subst (λ t. AreEnds t.events t.paths new.waiting) (sym st) (subst (AreEnds old.store.events old.store.paths) (sym wa) w.ends);
   told_are = ap (map told) mo ∙ w.told_are ∙ ap (λ t. map labels_of_move t.paths) (sym st);
-  counted = subst (λ t. IsCounted t.events t.paths (paths_by t.paths new.finals.items) new.groups) (sym st)
+  counted = subst (λ t. IsCounted t.events t.paths (paths_by t.paths (numbers_of new.finals)) new.groups) (sym st)
       (subst (λ k. IsCounted old.store.events old.store.paths (paths_by old.store.paths k) new.groups) (sym fi) (ending_counted old p x threads count new.groups w e tries gr));
 }
   where
@@ -206,7 +219,7 @@ end_done old new p x threads count ex w f e st mo pe wa fi gr tries fails = reco
     waits = paths_by old.store.paths (paths_of old.waiting)
 
     finals : List Path
-    finals = paths_by old.store.paths old.finals.items
+    finals = paths_by old.store.paths (numbers_of old.finals)
 
     before : IsSearch old.store.events old.store.paths (pending_of old ++ (x ∷ [])) waits finals
     before = subst (λ y. IsSearch old.store.events old.store.paths (pending_of old ++ (y ∷ [])) waits finals) (path_there old.store.paths p x ex) w.search
@@ -234,16 +247,16 @@ end_done old new p x threads count ex w f e st mo pe wa fi gr tries fails = reco
           (subst (λ l. Holds l q) (append-nil waits) hq) (subst (λ l. Holds l r) (append-nil waits) hr) ag sa sb mt in
           (holds_left old.store.paths [] (sent q r) m.0, holds_left old.store.paths [] (got q r) m.1));
       failed = all_fail_more old.store.events finals x before.failed
-          (fails_fewer (Holds (paths_by old.store.paths (old.finals.items ++ (p ∷ [])))) (λ y. IsFinal old.store.events y × Holds (finals ++ (x ∷ [])) y)
+          (fails_fewer (Holds (paths_by old.store.paths (numbers_of old.finals ++ (p ∷ [])))) (λ y. IsFinal old.store.events y × Holds (finals ++ (x ∷ [])) y)
           (λ y h. subst (λ l. Holds l y) (sym e.finals_are) h.1) (x ∷ []) fails);
     }
 
 -- a group was found
 pub end_found : (old new : Work) (p : ℕ) (x : Path) (threads : List ℕ) (out : List (Option ℕ)) → slice_get old.store.paths p ≡ Some x → IsWorkOn old p → IsFinal old.store.events x
-    → Ending old p x threads → new.store ≡ old.store → new.moves.items ≡ old.moves.items → new.finals.items ≡ old.finals.items ++ (p ∷ [])
+    → Ending old p x threads → new.store ≡ old.store → new.moves.items ≡ old.moves.items → numbers_of new.finals ≡ numbers_of old.finals ++ (p ∷ [])
     → IsFound old.store.events old.store.paths threads x (x ∷ []) out → IsHit new threads out
 end_found old new p x threads out ex w f e st mo fi found = record {
-  stand = subst (λ t. Stand t.events t.paths threads new.finals.items) (sym st) (subst (Stand old.store.events old.store.paths threads) (sym fi) e.stand);
+  stand = subst (λ t. Stand t.events t.paths threads (numbers_of new.finals)) (sym st) (subst (Stand old.store.events old.store.paths threads) (sym fi) e.stand);
   start = x;
   final = subst (λ t. IsFinal t.events x) (sym st) f;
   made = subst (λ t. Holds t.paths x) (sym st) (holds_at old.store.paths p x ex);
@@ -261,10 +274,10 @@ pub end_short : (old : Work) (p : ℕ) (x : Path) (threads : List ℕ) (budget :
 end_short old p x threads budget w e sum = record {
   same = refl;
   store = w.search.store;
-  finals = paths_by old.store.paths old.finals.items;
+  finals = paths_by old.store.paths (numbers_of old.finals);
   counted = w.counted;
   sum = inl sum;
-  passed = passed_by old.store.events old.store.paths (paths_by old.store.paths (old.finals.items ++ (p ∷ []))) (old.groups + 1) budget w.search.store
+  passed = passed_by old.store.events old.store.paths (paths_by old.store.paths (numbers_of old.finals ++ (p ∷ []))) (old.groups + 1) budget w.search.store
       (ending_counted old p x threads 0 (old.groups + 1) w e (tries_zero old.store.events old.store.paths x (x ∷ [])) refl) (omega (arith, sum));
 }
 
@@ -275,22 +288,24 @@ pub end_spent : (old new : Work) (p : ℕ) (x : Path) (threads : List ℕ) (coun
 end_spent old new p x threads count budget w e st gr tries sum = record {
   same = ap (λ t. t.events) st;
   store = subst (λ t. IsStore old.store.events t.paths) (sym st) w.search.store;
-  finals = paths_by old.store.paths (old.finals.items ++ (p ∷ []));
-  counted = subst (λ t. IsCounted old.store.events t.paths (paths_by old.store.paths (old.finals.items ++ (p ∷ []))) new.groups) (sym st)
+  finals = paths_by old.store.paths (numbers_of old.finals ++ (p ∷ []));
+  counted = subst (λ t. IsCounted old.store.events t.paths (paths_by old.store.paths (numbers_of old.finals ++ (p ∷ []))) new.groups) (sym st)
       (ending_counted old p x threads count new.groups w e (tries_less old.store.events old.store.paths x (x ∷ []) count tries) gr);
   sum = inl (ap (λ t. length t.paths + new.groups) st ∙ sum);
-  passed = passed_by old.store.events old.store.paths (paths_by old.store.paths (old.finals.items ++ (p ∷ []))) (old.groups + suc (count + 1)) budget w.search.store
+  passed = passed_by old.store.events old.store.paths (paths_by old.store.paths (numbers_of old.finals ++ (p ∷ []))) (old.groups + suc (count + 1)) budget w.search.store
       (ending_counted old p x threads (count + 1) (old.groups + suc (count + 1)) w e tries refl) (omega (arith, sum, gr));
 }
 
 pub end_ends : (old new : Work) (p : ℕ) (x : Path) (threads : List ℕ) (joined : List (Option ℕ)) (count : ℕ) (found : Option (Vec (Option ℕ) Global))
     → slice_get old.store.paths p ≡ Some x → IsWorkOn old p → IsFinal old.store.events x → Ending old p x threads → new.store ≡ old.store → new.moves.items ≡ old.moves.items
     → new.pending.items ≡ old.pending.items → new.waiting ≡ old.waiting
-    → new.finals.items ≡ old.finals.items ++ (p ∷ []) → new.groups ≡ old.groups + suc count → Names old.store.paths threads (joint (x ∷ [])) joined
-    → Assembles old.store.events old.store.paths threads (old.finals.items ++ (p ∷ [])) joined count found → EndsSo new threads found
-end_ends old new p x threads joined count None ex w f e st mo pe wa fi gr names h =
-    (let r = h x (x ∷ []) e.crew (inl refl) names in end_done old new p x threads count ex w f e st mo pe wa fi gr r.0 r.1)
-end_ends old new p x threads joined count (Some v) ex w f e st mo pe wa fi gr names h = (let r = h x (x ∷ []) e.crew (inl refl) names in end_found old new p x threads v.items ex w f e st mo fi r.1)
+    → numbers_of new.finals ≡ numbers_of old.finals ++ (p ∷ []) → new.groups ≡ old.groups + suc count → Names old.store.paths threads (joint (x ∷ [])) joined
+    → Assembles old.store.events old.store.paths threads (numbers_of old.finals ++ (p ∷ [])) joined count found
+    → TellThreads old.store.paths new.finals → EndsSo new threads found
+end_ends old new p x threads joined count None ex w f e st mo pe wa fi gr names h told_so =
+    (let r = h x (x ∷ []) e.crew (inl refl) names in end_done old new p x threads count ex w f e st mo pe wa fi gr r.0 r.1 told_so)
+end_ends old new p x threads joined count (Some v) ex w f e st mo pe wa fi gr names h told_so =
+    (let r = h x (x ∷ []) e.crew (inl refl) names in end_found old new p x threads v.items ex w f e st mo fi r.1)
 
 -- ---- where a path stands
 
@@ -371,24 +386,25 @@ gains_grow old new news g =
 -- ---- the last path that is still to be worked on is taken in hand
 
 pub taken_in_hand : (old new : Work) (p : ℕ) → IsWork old → new.store ≡ old.store → new.moves.items ≡ old.moves.items → new.waiting ≡ old.waiting
-    → new.finals.items ≡ old.finals.items → new.groups ≡ old.groups → old.pending.items ≡ new.pending.items ++ (p ∷ []) → IsWorkOn new p
+    → new.finals ≡ old.finals → new.groups ≡ old.groups → old.pending.items ≡ new.pending.items ++ (p ∷ []) → IsWorkOn new p
 taken_in_hand old new p w st mo wa fi gr pe = record {
   search = subst (λ t. IsSearch t.events t.paths (paths_by t.paths new.pending.items ++ (path_at t.paths p ∷ [])) (paths_by t.paths (paths_of new.waiting))
-      (paths_by t.paths new.finals.items)) (sym st)
+      (paths_by t.paths (numbers_of new.finals))) (sym st)
       (subst (λ k. IsSearch old.store.events old.store.paths (paths_by old.store.paths new.pending.items ++ (path_at old.store.paths p ∷ []))
-      (paths_by old.store.paths (paths_of k)) (paths_by old.store.paths new.finals.items)) (sym wa)
+      (paths_by old.store.paths (paths_of k)) (paths_by old.store.paths (numbers_of new.finals))) (sym wa)
       (subst (λ k. IsSearch old.store.events old.store.paths (paths_by old.store.paths new.pending.items ++ (path_at old.store.paths p ∷ []))
-      (paths_by old.store.paths (paths_of old.waiting)) (paths_by old.store.paths k)) (sym fi)
-      (subst (λ k. IsSearch old.store.events old.store.paths k (paths_by old.store.paths (paths_of old.waiting)) (paths_by old.store.paths old.finals.items))
+      (paths_by old.store.paths (paths_of old.waiting)) (paths_by old.store.paths (numbers_of k))) (sym fi)
+      (subst (λ k. IsSearch old.store.events old.store.paths k (paths_by old.store.paths (paths_of old.waiting)) (paths_by old.store.paths (numbers_of old.finals)))
       (ap (paths_by old.store.paths) pe ∙ map_both (path_at old.store.paths) new.pending.items (p ∷ [])) w.search)));
   pending_low = subst (λ t. AreLow t.paths new.pending.items) (sym st) (λ i n e. w.pending_low i n (ap (λ k. slice_get k i) pe ∙ get_more new.pending.items (p ∷ []) i n e));
   waits_low = subst (λ t. AreLow t.paths (paths_of new.waiting)) (sym st) (subst (λ k. AreLow old.store.paths (paths_of k)) (sym wa) w.waits_low);
-  finals_low = subst (λ t. AreLow t.paths new.finals.items) (sym st) (subst (AreLow old.store.paths) (sym fi) w.finals_low);
+  finals_low = subst (λ t. AreLow t.paths (numbers_of new.finals)) (sym st) (subst (λ k. AreLow old.store.paths (numbers_of k)) (sym fi) w.finals_low);
+  finals_told = subst (λ t. TellThreads t.paths new.finals) (sym st) (subst (TellThreads old.store.paths) (sym fi) w.finals_told);
   ends = subst (λ t. AreEnds t.events t.paths new.waiting) (sym st) (subst (AreEnds old.store.events old.store.paths) (sym wa) w.ends);
   told_are = ap (map told) mo ∙ w.told_are ∙ ap (λ t. map labels_of_move t.paths) (sym st);
-  counted = subst (λ t. IsCounted t.events t.paths (paths_by t.paths new.finals.items) new.groups) (sym st)
-      (subst (λ k. IsCounted old.store.events old.store.paths (paths_by old.store.paths k) new.groups) (sym fi)
-      (subst (IsCounted old.store.events old.store.paths (paths_by old.store.paths old.finals.items)) (sym gr) w.counted));
+  counted = subst (λ t. IsCounted t.events t.paths (paths_by t.paths (numbers_of new.finals)) new.groups) (sym st)
+      (subst (λ k. IsCounted old.store.events old.store.paths (paths_by old.store.paths (numbers_of k)) new.groups) (sym fi)
+      (subst (IsCounted old.store.events old.store.paths (paths_by old.store.paths (numbers_of old.finals))) (sym gr) w.counted));
 }
 
 at_last : (xs : List ℕ) (p : ℕ) → slice_get (xs ++ (p ∷ [])) (length xs) ≡ Some p

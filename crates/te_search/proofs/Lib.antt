@@ -10,6 +10,7 @@ pub mod ListsChange
 pub mod TableTells
 pub mod WorkDone
 pub mod PartialLaws
+pub mod FinalsTold
 pub mod Trying
 pub mod Working
 pub mod Meeting

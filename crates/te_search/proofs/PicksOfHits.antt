@@ -4,6 +4,7 @@ use Rattle.te_terms.specs.Steps.{Member}
 use Rattle.te_trail.specs.Paths.{Path, thread_of, move_of, IsAbove}
 use Rattle.te_trail.specs.Stores.{Holds, any_rests_on}
 use Rattle.te_search.specs.declared.work.Work.{Work}
+use Rattle.te_search.specs.Finals.{numbers_of}
 use Rattle.te_search.specs.Groups.{IsFinal}
 use Rattle.te_search.specs.Assemblies.{joint, Numbers, IsOfThreads, Reaches, starts, takes, AreNumbers}
 use Rattle.te_search.specs.Works.{IsHit}
@@ -23,7 +24,8 @@ holds_number (s ∷ ss) (suc i) t e = inr (holds_number ss i t e)
 -- what is named is final
 all_final : (w : Work) (threads : List ℕ) (out : List (Option ℕ)) → (h : IsHit w threads out) → (t : ℕ) (x : Path) → joint h.found.members t ≡ Some x → IsFinal w.store.events x
 all_final w threads out h t x e =
-    let i : (i : ℕ) × (slice_get threads i ≡ Some t) = joined_threads w.store.events w.store.paths threads w.finals.items h.found.members h.stand h.found.crew t x e in
+    let i : (i : ℕ) × (slice_get threads i ≡ Some t) = joined_threads w.store.events w.store.paths threads
+    (numbers_of w.finals) h.found.members h.stand h.found.crew t x e in
     let o : (o : Option ℕ) × (slice_get out i.0 ≡ Some o) = get_some out i.0
     (let l : i.0 < length threads = get_low threads t i.0 i.1 in let s : length out ≡ length threads = h.found.names.wide in omega (arith, l, s)) in
     go i.0 i.1 o.0 o.1 (h.found.names.each i.0 t o.0 i.1 o.1)
@@ -49,11 +51,12 @@ hit_picks w threads out h = (
   where
     c : Closed w.store.events (Holds w.store.paths) (IsFinal w.store.events) h.start h.found.members threads
     c = close w.store.events (Holds w.store.paths) (IsFinal w.store.events) h.start h.stand.store.sound h.stand.store.state
-        (λ y hy fy. stands_top w.store.events w.store.paths threads w.finals.items h.stand y fy) threads h.found.members h.found.crew (h.found.reached (starts h.start))
+        (λ y hy fy. stands_top w.store.events w.store.paths threads (numbers_of w.finals) h.stand y fy) threads
+        h.found.members h.found.crew (h.found.reached (starts h.start))
         (all_final w threads out h)
 
     listed : IsOfThreads threads (joint c.members)
-    listed = joined_threads w.store.events w.store.paths threads w.finals.items c.members h.stand c.crew
+    listed = joined_threads w.store.events w.store.paths threads (numbers_of w.finals) c.members h.stand c.crew
 
     picked : (t : ℕ) (x : Path) → joint c.members t ≡ Some x → (y : Path) × Holds c.members y × (thread_of y ≡ t) → Holds c.members x
     picked t x e (y, hy, ty) = (let n : joint c.members t ≡ Some y = subst (λ k. joint c.members k ≡ Some y) ty

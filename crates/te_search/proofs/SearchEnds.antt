@@ -1,5 +1,5 @@
 -- What a search of some of the parked events says of all of them.
-use Rattle.std.proofs.Common.{◌≡◌, ◌≢◌, ◌≤◌, ◌<◌, inl, ℕ, zero, suc, ◌+◌, List, [], ◌∷◌, ◌++◌, map, length, Bool}
+use Rattle.std.proofs.Common.{◌≡◌, ◌≢◌, ◌≤◌, inl, ℕ, zero, suc, ◌+◌, List, [], ◌∷◌, ◌++◌, map, length, Bool}
 use Rattle.std.proofs.Common.{true, false, cond, Option, Some, None, slice_get, refl, ap, sym, ◌∙◌, subst, subst₂, arith, nat_eq, eq-eqb, length-append}
 use Rattle.te_terms.specs.declared.event.Outcome.{Outcome}
 use Rattle.te_terms.specs.declared.event.Parked.{Parked}
@@ -9,6 +9,7 @@ use Rattle.te_trail.specs.Paths.{Path, planted}
 use Rattle.te_trail.specs.Stores.{Holds, IsStore}
 use Rattle.te_pair.specs.Ends.{paths_of}
 use Rattle.te_search.specs.declared.work.Work.{Work}
+use Rattle.te_search.specs.Finals.{numbers_of}
 use Rattle.te_search.specs.declared.stack.Stack.{Stack}
 use Rattle.te_search.specs.declared.finding.SearchFault.TheVariants as faults
 use Rattle.te_search.specs.Searching.{paths_by}
@@ -73,9 +74,10 @@ parked_at (p ∷ parked) zero t e = (p, refl, (let one : p.thread ≡ t = cc in 
 parked_at (p ∷ parked) (suc i) t e = parked_at parked i t e
 
 pub blocked : (s : Stack) → IsStack s → ((i : ℕ) (p : Parked) → slice_get s.parked i ≡ Some p → has_number s.threads p.thread ≡ true) → ¬ CanCommit s.parked
-blocked s w all c = nothing_commits (as_group s.parked) s.work.store.paths (paths_by s.work.store.paths (paths_of s.work.waiting)) (paths_by s.work.store.paths s.work.finals.items)
+blocked s w all c = nothing_commits (as_group s.parked) s.work.store.paths
+    (paths_by s.work.store.paths (paths_of s.work.waiting)) (paths_by s.work.store.paths (numbers_of s.work.finals))
     (search_more s.work.store.events (as_group s.parked) s.work.store.paths [] (paths_by s.work.store.paths (paths_of s.work.waiting))
-    (paths_by s.work.store.paths s.work.finals.items) w.levels.among w.whole.search) plants (commits s.parked c)
+    (paths_by s.work.store.paths (numbers_of s.work.finals)) w.levels.among w.whole.search) plants (commits s.parked c)
   where
     plants : (t : ℕ) (e : Member) → member_of t (as_group s.parked) ≡ Some e → Holds s.work.store.paths (planted t)
     plants t e h =
@@ -141,7 +143,7 @@ whole_used_up s place budget w left sum = subst (IsUsedUp s.parked budget (lengt
     own = planted left.0.thread ∷ []
 
     finals : List Path
-    finals = paths_by s.work.store.paths s.work.finals.items
+    finals = paths_by s.work.store.paths (numbers_of s.work.finals)
 
     store : IsStore (as_group s.parked) s.work.store.paths
     store = store_more s.work.store.events (as_group s.parked) s.work.store.paths w.levels.among w.whole.search.store

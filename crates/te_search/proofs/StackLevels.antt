@@ -8,6 +8,7 @@ use Rattle.te_trail.specs.Paths.{Path}
 use Rattle.te_trail.specs.Trails.{Mark, back_at}
 use Rattle.te_trail.proofs.RecordsRead.{take_low, take_get, take_all}
 use Rattle.te_pair.specs.declared.end.End.{End}
+use Rattle.te_search.specs.declared.finals.Final.{Final}
 use Rattle.te_search.specs.declared.stack.Level.{Level}
 use Rattle.te_search.specs.declared.stack.Stack.{Stack}
 use Rattle.te_search.specs.Works.{threads_of}
@@ -43,13 +44,13 @@ taken_among (m ∷ ms) (suc n) t e h = go (taken_among ms n t e) (nat_eq m.threa
 
 -- ---- going back
 
-abbrev as_lists : List Member → List Path → List (Option Move) → List End → List ℕ → Lists
+abbrev as_lists : List Member → List Path → List (Option Move) → List End → List Final → Lists
 as_lists e p m w a = record { events = e; paths = p; moves = m; waiting = w; finals = a }
 
 abbrev as_extent : ℕ → ℕ → ℕ → ℕ → ℕ → Extent
 as_extent e p m w a = record { events = e; paths = p; moves = m; waiting = w; finals = a }
 
-lists_same : (e f : List Member) (p q : List Path) (m n : List (Option Move)) (w v : List End) (a b : List ℕ) → e ≡ f → p ≡ q → m ≡ n → w ≡ v → a ≡ b
+lists_same : (e f : List Member) (p q : List Path) (m n : List (Option Move)) (w v : List End) (a b : List Final) → e ≡ f → p ≡ q → m ≡ n → w ≡ v → a ≡ b
     → as_lists e p m w a ≡ as_lists f q n v b
 lists_same e f p q m n w v a b r s t u o = cc
 
@@ -81,7 +82,7 @@ pub record Extends (old new : Lists) : Type 0 where
   pub moves : new.moves ≡ old.moves ++ more_moves
   pub more_waiting : List End
   pub waiting : new.waiting ≡ old.waiting ++ more_waiting
-  pub more_finals : List ℕ
+  pub more_finals : List Final
   pub finals : new.finals ≡ old.finals ++ more_finals
 
 back_more : (x : Extent) (old new : Lists) → Extends old new → IsBefore x (extent_of old) → back_to x new ≡ back_to x old
@@ -135,7 +136,7 @@ levels_back now levels marks i l m a el em = record {
 
 pub cut_stack : (s t : Stack) (i : ℕ) (l : Level) (m : Mark) → HasLevels s → slice_get s.levels.items i ≡ Some l → slice_get s.work.store.marks i ≡ Some m → t.parked ≡ s.parked
     → t.threads ≡ take i s.threads → t.levels.items ≡ take i s.levels.items → t.work.store ≡ back_at s.work.store i m
-    → t.work.moves.items ≡ take l.moves s.work.moves.items → t.work.waiting ≡ take l.waiting s.work.waiting → t.work.finals.items ≡ take l.finals s.work.finals.items
+    → t.work.moves.items ≡ take l.moves s.work.moves.items → t.work.waiting ≡ take l.waiting s.work.waiting → t.work.finals ≡ take l.finals s.work.finals
     → t.work.pending.items ≡ [] → t.work.groups ≡ l.groups → IsStack t
 cut_stack s t i l m h el em pa th le st mo wa fi pe gr = record {
   levels = record {
@@ -168,7 +169,7 @@ cut_stack s t i l m h el em pa th le st mo wa fi pe gr = record {
 
     lists : lists_of t.work ≡ back_to (extent_at l m) (lists_of s.work)
     lists = lists_same t.work.store.events (take m.events s.work.store.events) t.work.store.paths (take m.paths s.work.store.paths) t.work.moves.items
-        (take l.moves s.work.moves.items) t.work.waiting (take l.waiting s.work.waiting) t.work.finals.items (take l.finals s.work.finals.items)
+        (take l.moves s.work.moves.items) t.work.waiting (take l.waiting s.work.waiting) t.work.finals (take l.finals s.work.finals)
         (ap (λ q. q.events) st) paths mo wa fi
 
     low : i ≤ length s.threads

@@ -12,10 +12,12 @@ use Rattle.te_trail.specs.Trails.{Mark, with_mark, unplanted}
 use Rattle.te_pair.specs.declared.end.End.{End}
 use Rattle.te_pair.specs.Ends.{paths_of}
 use Rattle.te_search.specs.declared.work.Work.{Work}
+use Rattle.te_search.specs.declared.finals.Final.{Final}
 use Rattle.te_search.specs.declared.stack.Level.{Level}
 use Rattle.te_search.specs.declared.stack.Stack.{Stack}
 use Rattle.te_search.specs.Groups.{Partial, IsPartial}
 use Rattle.te_search.specs.Searching.{paths_by, IsSearch}
+use Rattle.te_search.specs.Finals.{numbers_of}
 use Rattle.te_search.specs.Works.{told, threads_of, IsWork, Keeps}
 use Rattle.te_search.specs.Findings.{HasThread, put_in, without}
 use Rattle.te_search.specs.Stacks.{Lists, lists_of, IsWhole, Extent, extent_of, extent_at, AreLevels}
@@ -37,22 +39,22 @@ by_length [] = refl
 by_length (x ∷ g) = ap suc (by_length g)
 
 same_lists : (a b : Work) → a.store.events ≡ b.store.events → a.store.paths ≡ b.store.paths → a.moves.items ≡ b.moves.items → a.waiting ≡ b.waiting
-    → a.finals.items ≡ b.finals.items → lists_of a ≡ lists_of b
-same_lists a b e p m w f = go a.store.events b.store.events a.store.paths b.store.paths a.moves.items b.moves.items a.waiting b.waiting a.finals.items b.finals.items e p m w f
+    → a.finals ≡ b.finals → lists_of a ≡ lists_of b
+same_lists a b e p m w f = go a.store.events b.store.events a.store.paths b.store.paths a.moves.items b.moves.items a.waiting b.waiting a.finals b.finals e p m w f
   where
-    as_lists : List Member → List Path → List (Option Move) → List End → List ℕ → Lists
+    as_lists : List Member → List Path → List (Option Move) → List End → List Final → Lists
     as_lists e p m w f = record { events = e; paths = p; moves = m; waiting = w; finals = f }
 
-    go : (e e2 : List Member) (p p2 : List Path) (m m2 : List (Option Move)) (w w2 : List End) (f f2 : List ℕ) → e ≡ e2 → p ≡ p2 → m ≡ m2 → w ≡ w2 → f ≡ f2
+    go : (e e2 : List Member) (p p2 : List Path) (m m2 : List (Option Move)) (w w2 : List End) (f f2 : List Final) → e ≡ e2 → p ≡ p2 → m ≡ m2 → w ≡ w2 → f ≡ f2
         → as_lists e p m w f ≡ as_lists e2 p2 m2 w2 f2
     go e e2 p p2 m m2 w w2 f f2 a b c d k = cc
 
 -- ---- a level begins
 
 pub begin_stack : (s t : Stack) (l : Level) → IsStack s → t.parked ≡ s.parked → t.threads ≡ s.threads → t.levels.items ≡ s.levels.items ++ (l ∷ [])
-    → t.work.store ≡ with_mark s.work.store → t.work.moves.items ≡ s.work.moves.items → t.work.waiting ≡ s.work.waiting → t.work.finals.items ≡ s.work.finals.items
+    → t.work.store ≡ with_mark s.work.store → t.work.moves.items ≡ s.work.moves.items → t.work.waiting ≡ s.work.waiting → t.work.finals ≡ s.work.finals
     → t.work.pending.items ≡ s.work.pending.items → t.work.groups ≡ s.work.groups
-    → l.moves ≡ length s.work.moves.items → l.waiting ≡ length s.work.waiting → l.finals ≡ length s.work.finals.items → l.groups ≡ s.work.groups → IsBegun s t
+    → l.moves ≡ length s.work.moves.items → l.waiting ≡ length s.work.waiting → l.finals ≡ length s.work.finals → l.groups ≡ s.work.groups → IsBegun s t
 begin_stack s t l k pa th le st mo wa fi pe gr lm lw lf lg = record {
   ready = record {
     levels = record {
@@ -90,7 +92,7 @@ begin_stack s t l k pa th le st mo wa fi pe gr lm lw lf lg = record {
     long = sym (by_length s.work.store.events) ∙ ap length (sym k.levels.threads_are) ∙ sym k.as_many
 
     here : extent_at l mark ≡ extent_of (lists_of s.work)
-    here = extents l.moves (length s.work.moves.items) l.waiting (length s.work.waiting) l.finals (length s.work.finals.items) lm lw lf
+    here = extents l.moves (length s.work.moves.items) l.waiting (length s.work.waiting) l.finals (length s.work.finals) lm lw lf
       where
         as_extent : ℕ → ℕ → ℕ → Extent
         as_extent m w f = record { events = length s.work.store.events; paths = length s.work.store.paths; moves = m; waiting = w; finals = f }
@@ -115,7 +117,7 @@ pub record PutsOne (s t : Stack) (p : Parked) : Type 0 where
   pub more_moves : List (Option Move)
   pub moves : t.work.moves.items ≡ s.work.moves.items ++ more_moves
   pub waiting : t.work.waiting ≡ s.work.waiting
-  pub finals : t.work.finals.items ≡ s.work.finals.items
+  pub finals : t.work.finals ≡ s.work.finals
 
 pub put_levels : (s t : Stack) (p : Parked) → HasLevels s → PutsOne s t p → HasLevels t
 put_levels s t p h k = record {
@@ -136,7 +138,7 @@ put_levels s t p h k = record {
     more_waiting = [];
     waiting = k.waiting ∙ sym (append-nil s.work.waiting);
     more_finals = [];
-    finals = k.finals ∙ sym (append-nil s.work.finals.items);
+    finals = k.finals ∙ sym (append-nil s.work.finals);
   }) h.levels);
 }
 
@@ -211,9 +213,10 @@ settled_stack s t x pa th le k w idle = record {
       t.work.store.paths ≡ length s.work.store.paths + length k.more_paths = ap length k.paths ∙ length-append s.work.store.paths k.more_paths in omega (arith, a, b, c));
   whole = record {
     search = subst (λ l. IsSearch t.work.store.events t.work.store.paths (paths_by t.work.store.paths l) (paths_by t.work.store.paths (paths_of t.work.waiting))
-        (paths_by t.work.store.paths t.work.finals.items)) idle w.search;
+        (paths_by t.work.store.paths (numbers_of t.work.finals))) idle w.search;
     waits_low = w.waits_low;
     finals_low = w.finals_low;
+    finals_told = w.finals_told;
     ends = w.ends;
     told_are = w.told_are;
     counted = w.counted;
@@ -291,6 +294,7 @@ empty_whole = record {
   search = empty_search;
   waits_low = λ i n e. cc;
   finals_low = λ i n e. cc;
+  finals_told = λ i f x ef ex. cc;
   ends = λ i e x ee ex. cc;
   told_are = refl;
   counted = record { tried = []; count_is = refl; are = record { partial = tt; once = tt }; starts = tt };
@@ -298,7 +302,7 @@ empty_whole = record {
 }
 
 pub empty_stack : (t : Stack) → IsGroup (as_group t.parked) → t.threads ≡ [] → t.levels.items ≡ [] → t.work.store ≡ unplanted [] → t.work.moves.items ≡ []
-    → t.work.pending.items ≡ [] → t.work.waiting ≡ [] → t.work.finals.items ≡ [] → t.work.groups ≡ 0 → IsStack t
+    → t.work.pending.items ≡ [] → t.work.waiting ≡ [] → t.work.finals ≡ [] → t.work.groups ≡ 0 → IsStack t
 empty_stack t rise th le st mo pe wa fi gr = record {
   levels = record {
     rise = rise;
@@ -316,12 +320,13 @@ empty_stack t rise th le st mo pe wa fi gr = record {
     events = ap (λ q. q.events) st
 
     lists : lists_of t.work ≡ record { events = []; paths = []; moves = []; waiting = []; finals = [] }
-    lists = go t.work.store.events t.work.store.paths t.work.moves.items t.work.waiting t.work.finals.items events (ap (λ q. q.paths) st) mo wa fi
+    lists = go t.work.store.events t.work.store.paths t.work.moves.items t.work.waiting t.work.finals events (ap (λ q. q.paths) st) mo wa fi
       where
-        as_lists : List Member → List Path → List (Option Move) → List End → List ℕ → Lists
+        as_lists : List Member → List Path → List (Option Move) → List End → List Final → Lists
         as_lists e p m w f = record { events = e; paths = p; moves = m; waiting = w; finals = f }
 
-        go : (e : List Member) (p : List Path) (m : List (Option Move)) (w : List End) (f : List ℕ) → e ≡ [] → p ≡ [] → m ≡ [] → w ≡ [] → f ≡ [] → as_lists e p m w f ≡ as_lists [] [] [] [] []
+        go : (e : List Member) (p : List Path) (m : List (Option Move)) (w : List End) (f : List Final) → e ≡ []
+            → p ≡ [] → m ≡ [] → w ≡ [] → f ≡ [] → as_lists e p m w f ≡ as_lists [] [] [] [] []
         go e p m w f a b c d k = cc
 
 -- where none is planted nothing is used

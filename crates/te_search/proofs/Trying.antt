@@ -20,6 +20,7 @@ use Rattle.te_search.specs.Groups.{IsFinal}
 use Rattle.te_search.specs.Searching.{path_at, paths_by, AreUp, Fails}
 use Rattle.te_search.specs.Assemblies.{Tries, TriesBy, Numbers, Names, later_number, joint, IsTop, Crew, IsLined, Stand, AreNumbers}
 use Rattle.te_search.specs.Assemblies.{AreNone, TellsFinal, IsOpenAt, IsOfThreads, TellsLined, TakesIn, Reaches, takes, IsFound, Assembles, TriesOnly}
+use Rattle.te_search.proofs.FinalsTold.{HasAllOf}
 use Rattle.te_search.proofs.ListLaws.{holds_at, place_of}
 use Rattle.te_search.proofs.WorkDone.{final_is_last}
 use Rattle.te_search.proofs.JoinedPasts.{joint_in, joint_past, joint_deep, crew_open, crew_more, fails_open}
@@ -286,32 +287,38 @@ numbers_more paths p t out own there low cl ths nums i m e = elim (last_or_befor
 
 -- ---- final path by final path
 
--- the first n final paths have been tried for the open thread
-abbrev pub TriedTo : List Member → List Path → List ℕ → List ℕ → List (Option ℕ) → ℕ → ℕ → ℕ → Type 0
-TriedTo g paths threads finals joined t n count = (start : Path) (ps : List Path) → Crew g (Holds paths) (IsFinal g) ps → Holds ps start → Names paths threads (joint ps) joined
-    → TriesBy g paths start ps (paths_by paths finals) t n count × ((j p : ℕ) (x : Path) → j < n → slice_get finals j ≡ Some p → slice_get paths p ≡ Some x → thread_of x ≡ t
+-- of these final paths the first n have been tried for the open thread
+abbrev pub TriedTo : List Member → List Path → List ℕ → List ℕ → List ℕ → List (Option ℕ) → ℕ → ℕ → ℕ → Type 0
+TriedTo g paths threads finals there joined t n count = (start : Path) (ps : List Path)
+    → Crew g (Holds paths) (IsFinal g) ps → Holds ps start → Names paths threads (joint ps) joined
+    → TriesBy g paths start ps (paths_by paths there) t n count
+    × ((j p : ℕ) (x : Path) → j < n → slice_get there j ≡ Some p → slice_get paths p ≡ Some x → thread_of x ≡ t
     → IsLined x (joint ps) → Fails (Holds (paths_by paths finals)) (x ∷ ps))
 
-pub tried_none : (g : List Member) (paths : List Path) (threads finals : List ℕ) (joined : List (Option ℕ)) (t : ℕ) → TriedTo g paths threads finals joined t 0 0
-tried_none g paths threads finals joined t start ps crew hs nm = (tries_none g paths start ps (paths_by paths finals) t, λ j p x h ej ex tx line. absurd (omega (arith, h)))
+pub tried_none : (g : List Member) (paths : List Path) (threads finals there : List ℕ) (joined : List (Option ℕ))
+    (t : ℕ) → TriedTo g paths threads finals there joined t 0 0
+tried_none g paths threads finals there joined t start ps crew hs nm =
+    (tries_none g paths start ps (paths_by paths there) t, λ j p x h ej ex tx line. absurd (omega (arith, h)))
 
-tried_next : (g : List Member) (paths : List Path) (threads finals : List ℕ) (joined : List (Option ℕ)) (t n p count : ℕ) → slice_get finals n ≡ Some p
-    → TriedTo g paths threads finals joined t n count
+tried_next : (g : List Member) (paths : List Path) (threads finals there : List ℕ) (joined : List (Option ℕ)) (t n p count : ℕ) → slice_get there n ≡ Some p
+    → TriedTo g paths threads finals there joined t n count
     → ((ps : List Path) → Crew g (Holds paths) (IsFinal g) ps → Names paths threads (joint ps) joined → (x : Path) → slice_get paths p ≡ Some x → thread_of x ≡ t
-    → ¬ IsLined x (joint ps)) → TriedTo g paths threads finals joined t (n + 1) count
-tried_next g paths threads finals joined t n p count ep tried off start ps crew hs nm = let r : TriesBy g paths start ps (paths_by paths finals) t n count ×
-    ((j p : ℕ) (x : Path) → j < n → slice_get finals j ≡ Some p → slice_get paths p ≡ Some x → thread_of x ≡ t → IsLined x (joint ps)
+    → ¬ IsLined x (joint ps)) → TriedTo g paths threads finals there joined t (n + 1) count
+tried_next g paths threads finals there joined t n p count ep tried off start ps crew hs nm = let r : TriesBy g paths start ps (paths_by paths there) t n count ×
+    ((j p : ℕ) (x : Path) → j < n → slice_get there j ≡ Some p → slice_get paths p ≡ Some x → thread_of x ≡ t → IsLined x (joint ps)
     → Fails (Holds (paths_by paths finals)) (x ∷ ps)) = tried start ps crew hs nm in (
-      tries_skip g paths start ps (paths_by paths finals) t n count r.0,
+      tries_skip g paths start ps (paths_by paths there) t n count r.0,
       λ j q x h ej ex tx line. elim (eq-or-lt_of_le (let k : j ≤ n = omega (arith, h) in k)) [
-        | inl e ↦ (let same : p ≡ q = (let f : slice_get finals n ≡ Some q = subst (λ i. slice_get finals i ≡ Some q) e ej in cc) in absurd (off ps crew nm x (ap (slice_get paths) same ∙ ex) tx line))
+        | inl e ↦ (let same : p ≡ q = (let f : slice_get there n ≡ Some q = subst (λ i. slice_get there i ≡ Some q) e ej in cc) in
+            absurd (off ps crew nm x (ap (slice_get paths) same ∙ ex) tx line))
         | inr l ↦ r.1 j q x l ej ex tx line
       ],
     )
 
-pub tried_thread : (g : List Member) (paths : List Path) (threads finals : List ℕ) (joined : List (Option ℕ)) (t n p s count : ℕ) → slice_get finals n ≡ Some p
-    → IsThread paths p s → (¬ (s ≡ t)) → TriedTo g paths threads finals joined t n count → TriedTo g paths threads finals joined t (n + 1) count
-tried_thread g paths threads finals joined t n p s count ep th ne tried = tried_next g paths threads finals joined t n p count ep tried (λ ps crew nm x ex tx line. ne (sym (th x ex) ∙ tx))
+pub tried_thread : (g : List Member) (paths : List Path) (threads finals there : List ℕ) (joined : List (Option ℕ)) (t n p s count : ℕ) → slice_get there n ≡ Some p
+    → IsThread paths p s → (¬ (s ≡ t)) → TriedTo g paths threads finals there joined t n count → TriedTo g paths threads finals there joined t (n + 1) count
+tried_thread g paths threads finals there joined t n p s count ep th ne tried = tried_next g paths threads finals there
+    joined t n p count ep tried (λ ps crew nm x ex tx line. ne (sym (th x ex) ∙ tx))
 
 -- ---- what a store has
 
@@ -331,11 +338,11 @@ joined_threads g paths threads finals ps st crew t c e =
     let i : (i : ℕ) × (slice_get (map (λ m. m.thread) g) i ≡ Some (thread_of c)) = member_place (thread_of c) g m.0 m.1 in
     (i.0, ap (λ l. slice_get l i.0) st.threads_are ∙ i.1 ∙ ap Some (clock_thread y.0 t c y.2))
 
-pub tried_off : (g : List Member) (paths : List Path) (threads finals : List ℕ) (joined : List (Option ℕ)) (t n p count : ℕ) → Stand g paths threads finals
-    → slice_get finals n ≡ Some p → TellsLined paths threads p joined false → TriedTo g paths threads finals joined t n count
-    → TriedTo g paths threads finals joined t (n + 1) count
-tried_off g paths threads finals joined t n p count st ep lined tried = tried_next g paths threads finals joined t n p count ep tried
-    (λ ps crew nm x ex tx line. true≢false (sym ((lined x (joint ps) ex nm (joined_threads g paths threads finals ps st crew)).1 line)))
+pub tried_off : (g : List Member) (paths : List Path) (threads finals there : List ℕ) (joined : List (Option ℕ)) (t n p count : ℕ) → Stand g paths threads there
+    → slice_get there n ≡ Some p → TellsLined paths threads p joined false → TriedTo g paths threads finals there joined t n count
+    → TriedTo g paths threads finals there joined t (n + 1) count
+tried_off g paths threads finals there joined t n p count st ep lined tried = tried_next g paths threads finals there joined t n p count ep tried
+    (λ ps crew nm x ex tx line. true≢false (sym ((lined x (joint ps) ex nm (joined_threads g paths threads there ps st crew)).1 line)))
 
 -- the open thread's named path isn't final
 open_named : (g : List Member) (paths : List Path) (threads finals : List ℕ) (joined : List (Option ℕ)) (ps : List Path) (i t : ℕ) → slice_get threads i ≡ Some t
@@ -442,74 +449,82 @@ pub open_low : (g : List Member) (paths : List Path) (threads : List ℕ) (joine
 open_low g paths threads joined i wide op = open_in g paths threads joined [] i wide op
 
 -- the final path is taken in, and from there nothing is found
-pub tried_fails : (g : List Member) (paths : List Path) (threads finals : List ℕ) (joined out : List (Option ℕ)) (i t n p count more total : ℕ) → Stand g paths threads finals
-    → slice_get threads i ≡ Some t → IsOpenAt g paths joined (Some i) → slice_get finals n ≡ Some p → IsThread paths p t → TellsLined paths threads p joined true
+pub tried_fails : (g : List Member) (paths : List Path) (threads finals there : List ℕ) (joined out : List (Option ℕ))
+    (i t n p count more total : ℕ) → Stand g paths threads there
+    → slice_get threads i ≡ Some t → IsOpenAt g paths joined (Some i) → slice_get there n ≡ Some p → IsThread paths p t → TellsLined paths threads p joined true
     → TakesIn paths threads p joined out
-    → Assembles g paths threads finals out more None → total ≡ count + suc more → TriedTo g paths threads finals joined t n count → TriedTo g paths threads finals joined t (n + 1) total
-tried_fails g paths threads finals joined out i t n p count more total st et op ep th lined taken fails is tried start ps crew hs nm =
-    let r : TriesBy g paths start ps (paths_by paths finals) t n count × ((j p : ℕ) (x : Path) → j < n → slice_get finals j ≡ Some p → slice_get paths p ≡ Some x → thread_of x ≡ t
+    → Assembles g paths threads finals out more None → total ≡ count + suc more
+    → TriedTo g paths threads finals there joined t n count
+    → TriedTo g paths threads finals there joined t (n + 1) total
+tried_fails g paths threads finals there joined out i t n p count more total st et op ep th lined taken fails is tried start ps crew hs nm =
+    let r : TriesBy g paths start ps (paths_by paths there) t n count
+    × ((j p : ℕ) (x : Path) → j < n → slice_get there j ≡ Some p → slice_get paths p ≡ Some x → thread_of x ≡ t
     → IsLined x (joint ps) → Fails (Holds (paths_by paths finals)) (x ∷ ps)) = tried start ps crew hs nm in
     let x : (x : Path) × (slice_get paths p ≡ Some x) = get_some paths p (st.finals_low n p ep) in
-    let line : IsLined x.0 (joint ps) = (lined x.0 (joint ps) x.1 nm (joined_threads g paths threads finals ps st crew)).0 refl in
-    let o : Onward g paths threads finals start ps n x.0 t = onward g paths threads finals joined start ps i t n p x.0 st crew hs nm et op ep x.1 (th x.0 x.1) line in
+    let line : IsLined x.0 (joint ps) = (lined x.0 (joint ps) x.1 nm (joined_threads g paths threads there ps st crew)).0 refl in
+    let o : Onward g paths threads there start ps n x.0 t = onward g paths threads there joined start ps i t n p x.0 st crew hs nm et op ep x.1 (th x.0 x.1) line in
     let s : Tries g paths start (x.0 ∷ ps) more × Fails (Holds (paths_by paths finals)) (x.0 ∷ ps) = fails start (x.0 ∷ ps) o.crew (inr hs) (taken x.0 (joint ps) x.1 nm line) in (
-      subst (TriesBy g paths start ps (paths_by paths finals) t (n + 1)) (sym is) (tries_more g paths start ps (paths_by paths finals) t n count more x.0 o.adds r.0 s.0),
+      subst (TriesBy g paths start ps (paths_by paths there) t (n + 1)) (sym is) (tries_more g paths start ps (paths_by paths there) t n count more x.0 o.adds r.0 s.0),
       λ j q y h ej ey ty ly. elim (eq-or-lt_of_le (let k : j ≤ n = omega (arith, h) in k)) [
-        | inl e ↦ (let same : p ≡ q = (let f : slice_get finals n ≡ Some q = subst (λ i. slice_get finals i ≡ Some q) e ej in cc) in let one : x.0 ≡ y =
+        | inl e ↦ (let same : p ≡ q = (let f : slice_get there n ≡ Some q = subst (λ i. slice_get there i ≡ Some q) e ej in cc) in let one : x.0 ≡ y =
             (let f : Some x.0 ≡ Some y = sym x.1 ∙ ap (slice_get paths) same ∙ ey in cc) in subst (λ z. Fails (Holds (paths_by paths finals)) (z ∷ ps)) one s.1)
         | inr l ↦ r.1 j q y l ej ey ty ly
       ],
     )
 
-pub tried_all : (g : List Member) (paths : List Path) (threads finals : List ℕ) (joined : List (Option ℕ)) (i t count : ℕ) → Stand g paths threads finals
-    → slice_get threads i ≡ Some t → IsOpenAt g paths joined (Some i) → TriedTo g paths threads finals joined t (length finals) count
+pub tried_all : (g : List Member) (paths : List Path) (threads finals there : List ℕ) (joined : List (Option ℕ)) (i t count : ℕ) → Stand g paths threads finals
+    → slice_get threads i ≡ Some t → IsOpenAt g paths joined (Some i) → HasAllOf paths finals there t → TriedTo g paths threads finals there joined t (length there) count
     → Assembles g paths threads finals joined count None
-tried_all g paths threads finals joined i t count st et op tried start ps crew hs nm =
-    let r : TriesBy g paths start ps (paths_by paths finals) t (length finals) count ×
-    ((j p : ℕ) (x : Path) → j < length finals → slice_get finals j ≡ Some p → slice_get paths p ≡ Some x → thread_of x ≡ t → IsLined x (joint ps)
+tried_all g paths threads finals there joined i t count st et op has tried start ps crew hs nm =
+    let r : TriesBy g paths start ps (paths_by paths there) t (length there) count ×
+    ((j p : ℕ) (x : Path) → j < length there → slice_get there j ≡ Some p → slice_get paths p ≡ Some x → thread_of x ≡ t → IsLined x (joint ps)
     → Fails (Holds (paths_by paths finals)) (x ∷ ps)) = tried start ps crew hs nm in
     let w : (x : Path) × (joint ps t ≡ Some x) × (¬ IsFinal g x) = open_named g paths threads finals joined ps i t et nm op in (
-      tries_all g paths start ps (paths_by paths finals) t (length finals) count r.0,
+      tries_all g paths start ps (paths_by paths there) t (length there) count r.0,
       fails_open g (Holds paths) (IsFinal g) (Holds (paths_by paths finals)) ps crew t w.0 w.1 w.2
-          (λ f av tf line. (let l : (i : ℕ) × (n : ℕ) × (slice_get finals i ≡ Some n) × (slice_get paths n ≡ Some f) = listed paths finals st.finals_low f av in r.1 l.0 l.1 f
-          (get_low finals l.1 l.0 l.2) l.2 l.3 tf line)),
+          (λ f av tf line. (let l : (i : ℕ) × (n : ℕ) × (slice_get finals i ≡ Some n) × (slice_get paths n ≡ Some f) = listed paths finals st.finals_low f av in
+          let h : (j : ℕ) × (slice_get there j ≡ Some l.1) = has l.0 l.1 f l.2 l.3 tf in r.1 h.0 l.1 f (get_low there l.1 h.0 h.1) h.1 l.3 tf line)),
     )
 
 -- what was tried so far and the one to be taken in now, where there is nothing left to spend
-pub tried_spent : (g : List Member) (paths : List Path) (threads finals : List ℕ) (joined : List (Option ℕ)) (i t n p count total : ℕ) → Stand g paths threads finals
-    → slice_get threads i ≡ Some t → IsOpenAt g paths joined (Some i) → slice_get finals n ≡ Some p → IsThread paths p t → TellsLined paths threads p joined true
-    → total ≡ count + 1 → TriedTo g paths threads finals joined t n count → TriesOnly g paths threads joined total
-tried_spent g paths threads finals joined i t n p count total st et op ep th lined is tried start ps crew hs nm =
+pub tried_spent : (g : List Member) (paths : List Path) (threads finals there : List ℕ) (joined : List (Option ℕ)) (i t n p count total : ℕ) → Stand g paths threads there
+    → slice_get threads i ≡ Some t → IsOpenAt g paths joined (Some i) → slice_get there n ≡ Some p → IsThread paths p t → TellsLined paths threads p joined true
+    → total ≡ count + 1 → TriedTo g paths threads finals there joined t n count → TriesOnly g paths threads joined total
+tried_spent g paths threads finals there joined i t n p count total st et op ep th lined is tried start ps crew hs nm =
     let x : (x : Path) × (slice_get paths p ≡ Some x) = get_some paths p (st.finals_low n p ep) in
-    let line : IsLined x.0 (joint ps) = (lined x.0 (joint ps) x.1 nm (joined_threads g paths threads finals ps st crew)).0 refl in
-    let o : Onward g paths threads finals start ps n x.0 t = onward g paths threads finals joined start ps i t n p x.0 st crew hs nm et op ep x.1 (th x.0 x.1) line in
-    subst (Tries g paths start ps) (sym is) (tries_all g paths start ps (paths_by paths finals) t (n + 1) (count + 1)
-    (tries_more g paths start ps (paths_by paths finals) t n count 0 x.0 o.adds (tried start ps crew hs nm).0 (tries_zero g paths start (x.0 ∷ ps))))
+    let line : IsLined x.0 (joint ps) = (lined x.0 (joint ps) x.1 nm (joined_threads g paths threads there ps st crew)).0 refl in
+    let o : Onward g paths threads there start ps n x.0 t = onward g paths threads there joined start ps i t n p x.0 st crew hs nm et op ep x.1 (th x.0 x.1) line in
+    subst (Tries g paths start ps) (sym is) (tries_all g paths start ps (paths_by paths there) t (n + 1) (count + 1)
+    (tries_more g paths start ps (paths_by paths there) t n count 0 x.0 o.adds (tried start ps crew hs nm).0 (tries_zero g paths start (x.0 ∷ ps))))
 
 -- and beyond the last that was taken in
-pub tried_beyond : (g : List Member) (paths : List Path) (threads finals : List ℕ) (joined out : List (Option ℕ)) (i t n p count more total : ℕ) → Stand g paths threads finals
-    → slice_get threads i ≡ Some t → IsOpenAt g paths joined (Some i) → slice_get finals n ≡ Some p → IsThread paths p t → TellsLined paths threads p joined true
+pub tried_beyond : (g : List Member) (paths : List Path) (threads finals there : List ℕ) (joined out : List (Option ℕ))
+    (i t n p count more total : ℕ) → Stand g paths threads there
+    → slice_get threads i ≡ Some t → IsOpenAt g paths joined (Some i) → slice_get there n ≡ Some p → IsThread paths p t → TellsLined paths threads p joined true
     → TakesIn paths threads p joined out
-    → TriesOnly g paths threads out more → total ≡ count + suc more → TriedTo g paths threads finals joined t n count → TriesOnly g paths threads joined total
-tried_beyond g paths threads finals joined out i t n p count more total st et op ep th lined taken tries is tried start ps crew hs nm =
+    → TriesOnly g paths threads out more → total ≡ count + suc more → TriedTo g paths threads finals there joined t n count → TriesOnly g paths threads joined total
+tried_beyond g paths threads finals there joined out i t n p count more total st et op ep th lined taken tries is tried start ps crew hs nm =
     let x : (x : Path) × (slice_get paths p ≡ Some x) = get_some paths p (st.finals_low n p ep) in
-    let line : IsLined x.0 (joint ps) = (lined x.0 (joint ps) x.1 nm (joined_threads g paths threads finals ps st crew)).0 refl in
-    let o : Onward g paths threads finals start ps n x.0 t = onward g paths threads finals joined start ps i t n p x.0 st crew hs nm et op ep x.1 (th x.0 x.1) line in
-    subst (Tries g paths start ps) (sym is) (tries_all g paths start ps (paths_by paths finals) t (n + 1) (count + suc more)
-    (tries_more g paths start ps (paths_by paths finals) t n count more x.0 o.adds (tried start ps crew hs nm).0 (tries start (x.0 ∷ ps) o.crew (inr hs) (taken x.0 (joint ps) x.1 nm line))))
+    let line : IsLined x.0 (joint ps) = (lined x.0 (joint ps) x.1 nm (joined_threads g paths threads there ps st crew)).0 refl in
+    let o : Onward g paths threads there start ps n x.0 t = onward g paths threads there joined start ps i t n p x.0 st crew hs nm et op ep x.1 (th x.0 x.1) line in
+    subst (Tries g paths start ps) (sym is) (tries_all g paths start ps (paths_by paths there) t (n + 1) (count + suc more)
+    (tries_more g paths start ps (paths_by paths there) t n count more x.0 o.adds (tried start ps crew hs nm).0
+    (tries start (x.0 ∷ ps) o.crew (inr hs) (taken x.0 (joint ps) x.1 nm line))))
 
 -- the final path is taken in, and from there a group is found
-pub tried_found : (g : List Member) (paths : List Path) (threads finals : List ℕ) (joined out : List (Option ℕ)) (i t n p count more total : ℕ) (v : Vec (Option ℕ) Global)
-    → Stand g paths threads finals → slice_get threads i ≡ Some t → IsOpenAt g paths joined (Some i) → slice_get finals n ≡ Some p → IsThread paths p t
+pub tried_found : (g : List Member) (paths : List Path) (threads finals there : List ℕ) (joined out : List (Option ℕ))
+    (i t n p count more total : ℕ) (v : Vec (Option ℕ) Global)
+    → Stand g paths threads there → slice_get threads i ≡ Some t → IsOpenAt g paths joined (Some i) → slice_get there n ≡ Some p → IsThread paths p t
     → TellsLined paths threads p joined true → TakesIn paths threads p joined out
-    → Assembles g paths threads finals out more (Some v) → total ≡ count + suc more → TriedTo g paths threads finals joined t n count → Assembles g paths threads finals joined total (Some v)
-tried_found g paths threads finals joined out i t n p count more total v st et op ep th lined taken found is tried start ps crew hs nm =
+    → Assembles g paths threads finals out more (Some v) → total ≡ count + suc more
+    → TriedTo g paths threads finals there joined t n count → Assembles g paths threads finals joined total (Some v)
+tried_found g paths threads finals there joined out i t n p count more total v st et op ep th lined taken found is tried start ps crew hs nm =
     let x : (x : Path) × (slice_get paths p ≡ Some x) = get_some paths p (st.finals_low n p ep) in
-    let line : IsLined x.0 (joint ps) = (lined x.0 (joint ps) x.1 nm (joined_threads g paths threads finals ps st crew)).0 refl in
-    let o : Onward g paths threads finals start ps n x.0 t = onward g paths threads finals joined start ps i t n p x.0 st crew hs nm et op ep x.1 (th x.0 x.1) line in
+    let line : IsLined x.0 (joint ps) = (lined x.0 (joint ps) x.1 nm (joined_threads g paths threads there ps st crew)).0 refl in
+    let o : Onward g paths threads there start ps n x.0 t = onward g paths threads there joined start ps i t n p x.0 st crew hs nm et op ep x.1 (th x.0 x.1) line in
     let s : Tries g paths start (x.0 ∷ ps) more × IsFound g paths threads start (x.0 ∷ ps) v.items = found start (x.0 ∷ ps) o.crew (inr hs) (taken x.0 (joint ps) x.1 nm line) in (
-      subst (Tries g paths start ps) (sym is) (tries_all g paths start ps (paths_by paths finals) t (n + 1) (count + suc more)
-          (tries_more g paths start ps (paths_by paths finals) t n count more x.0 o.adds (tried start ps crew hs nm).0 s.0)),
+      subst (Tries g paths start ps) (sym is) (tries_all g paths start ps (paths_by paths there) t (n + 1) (count + suc more)
+          (tries_more g paths start ps (paths_by paths there) t n count more x.0 o.adds (tried start ps crew hs nm).0 s.0)),
       record { members = s.1.members; crew = s.1.crew; names = s.1.names; reached = λ r. s.1.reached (o.reached r); all = s.1.all },
     )
 

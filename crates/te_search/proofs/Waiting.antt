@@ -13,11 +13,13 @@ use Rattle.te_trail.proofs.MovesChain.{mapped}
 use Rattle.te_trail.proofs.MembersMove.{Handing, handing}
 use Rattle.te_pair.specs.Ends.{path_of, paths_of}
 use Rattle.te_search.specs.declared.work.Work.{Work}
+use Rattle.te_search.specs.Finals.{numbers_of, TellThreads}
 use Rattle.te_pair.specs.declared.end.End.{End}
 use Rattle.te_search.specs.Groups.{IsFinal}
 use Rattle.te_search.specs.Searching.{path_at, paths_by, AreUp, AllFail, IsSearch}
 use Rattle.te_search.specs.Works.{AreLow, AreEnds, told, pending_of, IsCounted, IsWork, IsWorkOn, met_paths, StandsAs, others_of, IsMeeting}
 use Rattle.te_search.proofs.ListLaws.{holds_left, holds_right, holds_which, holds_one, holds_at, once_by_places}
+use Rattle.te_search.proofs.FinalsTold.{told_more}
 use Rattle.te_search.proofs.WorkDone.{IsStep, step_done}
 use Rattle.te_search.proofs.Trying.{listed, paths_at, get_low, path_there}
 use Rattle.te_search.proofs.Working.{map_both, at_more, get_more, by_more, low_more, low_both, counted_more, last_or_old, ends_more}
@@ -101,21 +103,25 @@ end_of (d ∷ ends) (suc i) n e = end_of ends i n e
 -- the work of which a path in hand has met all partners, with the path kept
 pub wait_done : (old mid new : Work) (p : ℕ) (x : Path) (channel : ℕ) (sends : Bool) → slice_get old.store.paths p ≡ Some x → IsWorkOn old p
     → StandsAs old.store.events x channel sends → IsMeeting old mid x sends (others_of old channel sends) (length (others_of old channel sends))
-    → new.store ≡ mid.store → new.moves.items ≡ mid.moves.items → new.pending.items ≡ mid.pending.items → new.finals.items ≡ mid.finals.items → new.groups ≡ mid.groups
+    → new.store ≡ mid.store → new.moves.items ≡ mid.moves.items → new.pending.items ≡ mid.pending.items → new.finals ≡ mid.finals → new.groups ≡ mid.groups
     → new.waiting ≡ mid.waiting ++ (record { path = p; channel = channel; sends = sends } ∷ []) → IsWork new
 wait_done old mid new p x channel sends ex w stands m st mo pe fi gr wa = record {
-  search = subst (λ e. IsSearch e new.store.paths (pending_of new) (paths_by new.store.paths (paths_of new.waiting)) (paths_by new.store.paths new.finals.items))
+  search = subst (λ e. IsSearch e new.store.paths (pending_of new) (paths_by new.store.paths (paths_of new.waiting)) (paths_by new.store.paths (numbers_of new.finals)))
       (sym events) (search_of (step_done old.store.events old.store.paths (pending_of old) waits finals x m.news (x ∷ []) [] before step));
   pending_low = subst (AreLow new.store.paths) (sym pe) (subst (λ t. AreLow t.paths mid.pending.items) (sym st) m.gains.pending_low);
   waits_low = subst (λ q. AreLow q (paths_of new.waiting)) (sym paths)
       (subst (AreLow (old.store.paths ++ m.news)) (sym numbers)
       (low_both (old.store.paths ++ m.news) (paths_of old.waiting) (p ∷ []) (low_more old.store.paths m.news (paths_of old.waiting) w.waits_low) p_low));
-  finals_low = subst (AreLow new.store.paths) (sym (fi ∙ m.gains.finals)) (subst (λ q. AreLow q old.finals.items) (sym paths) (low_more old.store.paths m.news old.finals.items w.finals_low));
+  finals_low = subst (λ k. AreLow new.store.paths (numbers_of k)) (sym (fi ∙ m.gains.finals))
+      (subst (λ q. AreLow q (numbers_of old.finals)) (sym paths)
+      (low_more old.store.paths m.news (numbers_of old.finals) w.finals_low));
+  finals_told = subst (TellThreads new.store.paths) (sym (fi ∙ m.gains.finals))
+      (subst (λ q. TellThreads q old.finals) (sym paths) (told_more old.store.paths m.news old.finals w.finals_low w.finals_told));
   ends = subst (λ e. AreEnds e new.store.paths new.waiting) (sym events)
       (subst (AreEnds old.store.events new.store.paths) (sym waiting) (subst (λ q. AreEnds old.store.events q (old.waiting ++ (own ∷ []))) (sym paths) ends_are));
   told_are = ap (map told) mo ∙ m.gains.moves ∙ ap (λ k. k ++ map labels_of_move m.news) w.told_are ∙ sym (map_both labels_of_move old.store.paths m.news) ∙ ap (map labels_of_move) (sym paths);
-  counted = subst (λ e. IsCounted e new.store.paths (paths_by new.store.paths new.finals.items) new.groups) (sym events)
-      (subst (IsCounted old.store.events new.store.paths (paths_by new.store.paths new.finals.items)) (sym (gr ∙ m.gains.groups))
+  counted = subst (λ e. IsCounted e new.store.paths (paths_by new.store.paths (numbers_of new.finals)) new.groups) (sym events)
+      (subst (IsCounted old.store.events new.store.paths (paths_by new.store.paths (numbers_of new.finals))) (sym (gr ∙ m.gains.groups))
       (subst (λ f. IsCounted old.store.events new.store.paths f old.groups) (sym finals_same)
       (subst (λ q. IsCounted old.store.events q finals old.groups) (sym paths) (counted_more old.store.events old.store.paths m.news finals old.groups w.counted))));
 }
@@ -127,7 +133,7 @@ wait_done old mid new p x channel sends ex w stands m st mo pe fi gr wa = record
     waits = paths_by old.store.paths (paths_of old.waiting)
 
     finals : List Path
-    finals = paths_by old.store.paths old.finals.items
+    finals = paths_by old.store.paths (numbers_of old.finals)
 
     paths : new.store.paths ≡ old.store.paths ++ m.news
     paths = ap (λ t. t.paths) st ∙ m.gains.paths
@@ -156,8 +162,8 @@ wait_done old mid new p x channel sends ex w stands m st mo pe fi gr wa = record
         ∙ ap₂ (λ a b. a ++ (b ∷ [])) (by_more old.store.paths m.news (paths_of old.waiting) w.waits_low)
         (at_more old.store.paths m.news p p_in ∙ path_there old.store.paths p x ex)
 
-    finals_same : paths_by new.store.paths new.finals.items ≡ finals
-    finals_same = ap₂ paths_by paths (fi ∙ m.gains.finals) ∙ by_more old.store.paths m.news old.finals.items w.finals_low
+    finals_same : paths_by new.store.paths (numbers_of new.finals) ≡ finals
+    finals_same = ap₂ (λ q k. paths_by q (numbers_of k)) paths (fi ∙ m.gains.finals) ∙ by_more old.store.paths m.news (numbers_of old.finals) w.finals_low
 
     pending_same : pending_of new ≡ pending_of old ++ m.news
     pending_same = ap₂ paths_by (ap (λ t. t.paths) st) pe ∙ m.gains.pending
@@ -254,8 +260,13 @@ wait_done old mid new p x channel sends ex w stands m st mo pe fi gr wa = record
         both_kept q r y hy (inr (a, b)) = (holds_left waits (x ∷ []) q (subst (Holds waits) (sym a) hy), holds_right waits (x ∷ []) r (inl b))
 
     search_of : IsSearch old.store.events (old.store.paths ++ m.news) (pending_of old ++ m.news) (waits ++ (x ∷ [])) (finals ++ [])
-        → IsSearch old.store.events new.store.paths (pending_of new) (paths_by new.store.paths (paths_of new.waiting)) (paths_by new.store.paths new.finals.items)
-    search_of s = subst (λ q. IsSearch old.store.events q (pending_of new) (paths_by new.store.paths (paths_of new.waiting)) (paths_by new.store.paths new.finals.items)) (sym paths)
-        (subst (λ d. IsSearch old.store.events (old.store.paths ++ m.news) d (paths_by new.store.paths (paths_of new.waiting)) (paths_by new.store.paths new.finals.items)) (sym pending_same)
-        (subst (λ a. IsSearch old.store.events (old.store.paths ++ m.news) (pending_of old ++ m.news) a (paths_by new.store.paths new.finals.items)) (sym waits_same)
+        → IsSearch old.store.events new.store.paths (pending_of new) (paths_by new.store.paths (paths_of new.waiting)) (paths_by new.store.paths (numbers_of new.finals))
+    search_of s = subst (λ q. IsSearch old.store.events q (pending_of new)
+        (paths_by new.store.paths (paths_of new.waiting)) (paths_by new.store.paths (numbers_of new.finals)))
+        (sym paths)
+        (subst (λ d. IsSearch old.store.events (old.store.paths ++ m.news) d
+        (paths_by new.store.paths (paths_of new.waiting)) (paths_by new.store.paths (numbers_of new.finals)))
+        (sym pending_same)
+        (subst (λ a. IsSearch old.store.events (old.store.paths ++ m.news) (pending_of old ++ m.news) a
+        (paths_by new.store.paths (numbers_of new.finals))) (sym waits_same)
         (subst (IsSearch old.store.events (old.store.paths ++ m.news) (pending_of old ++ m.news) (waits ++ (x ∷ []))) (append-nil finals ∙ sym finals_same) s)))

@@ -1,13 +1,14 @@
 -- What was there stays where it stood.
-use Rattle.std.proofs.Common.{◌≡◌, ℕ, List, [], ◌∷◌, ◌++◌, Option, ap, sym, ◌∙◌, subst, refl, append_assoc, append-nil}
+use Rattle.std.proofs.Common.{◌≡◌, List, [], ◌∷◌, ◌++◌, Option, ap, sym, ◌∙◌, subst, refl, append_assoc, append-nil}
 use Rattle.te_trail.specs.declared.moves.Move.{Move}
 use Rattle.te_trail.specs.Paths.{Path}
 use Rattle.te_pair.specs.declared.end.End.{End}
 use Rattle.te_search.specs.declared.work.Work.{Work}
+use Rattle.te_search.specs.declared.finals.Final.{Final}
 use Rattle.te_search.specs.Works.{Keeps}
 
 -- nothing is new
-pub keeps_same : (old new : Work) → new.store ≡ old.store → new.moves.items ≡ old.moves.items → new.waiting ≡ old.waiting → new.finals.items ≡ old.finals.items → Keeps old new
+pub keeps_same : (old new : Work) → new.store ≡ old.store → new.moves.items ≡ old.moves.items → new.waiting ≡ old.waiting → new.finals ≡ old.finals → Keeps old new
 keeps_same old new st mo wa fi = record {
   events = ap (λ t. t.events) st;
   marks = ap (λ t. t.marks) st;
@@ -18,7 +19,7 @@ keeps_same old new st mo wa fi = record {
   more_waiting = [];
   waiting = wa ∙ sym (append-nil old.waiting);
   more_finals = [];
-  finals = fi ∙ sym (append-nil old.finals.items);
+  finals = fi ∙ sym (append-nil old.finals);
 }
 
 pub keeps_self : (old new : Work) → new ≡ old → Keeps old new
@@ -38,13 +39,13 @@ keeps_both a b c k l = record {
   more_waiting = k.more_waiting ++ l.more_waiting;
   waiting = both_more a.waiting b.waiting c.waiting k.more_waiting l.more_waiting k.waiting l.waiting;
   more_finals = k.more_finals ++ l.more_finals;
-  finals = both_more a.finals.items b.finals.items c.finals.items k.more_finals l.more_finals k.finals l.finals;
+  finals = both_more a.finals b.finals c.finals k.more_finals l.more_finals k.finals l.finals;
 }
 
 -- new paths and their moves alone
 pub keeps_paths : (old new : Work) (xs : List Path) (ms : List (Option Move)) → new.store.events ≡ old.store.events → new.store.marks ≡ old.store.marks
     → new.store.paths ≡ old.store.paths ++ xs → new.moves.items ≡ old.moves.items ++ ms
-    → new.waiting ≡ old.waiting → new.finals.items ≡ old.finals.items → Keeps old new
+    → new.waiting ≡ old.waiting → new.finals ≡ old.finals → Keeps old new
 keeps_paths old new xs ms ev mk ps mo wa fi = record {
   events = ev;
   marks = mk;
@@ -55,13 +56,13 @@ keeps_paths old new xs ms ev mk ps mo wa fi = record {
   more_waiting = [];
   waiting = wa ∙ sym (append-nil old.waiting);
   more_finals = [];
-  finals = fi ∙ sym (append-nil old.finals.items);
+  finals = fi ∙ sym (append-nil old.finals);
 }
 
 -- one more final path, or waiting end
-pub keeps_final : (old new : Work) (p : ℕ) → new.store ≡ old.store → new.moves.items ≡ old.moves.items → new.waiting ≡ old.waiting
-    → new.finals.items ≡ old.finals.items ++ (p ∷ []) → Keeps old new
-keeps_final old new p st mo wa fi = record {
+pub keeps_final : (old new : Work) (f : Final) → new.store ≡ old.store → new.moves.items ≡ old.moves.items → new.waiting ≡ old.waiting
+    → new.finals ≡ old.finals ++ (f ∷ []) → Keeps old new
+keeps_final old new f st mo wa fi = record {
   events = ap (λ t. t.events) st;
   marks = ap (λ t. t.marks) st;
   more_paths = [];
@@ -70,12 +71,12 @@ keeps_final old new p st mo wa fi = record {
   moves = mo ∙ sym (append-nil old.moves.items);
   more_waiting = [];
   waiting = wa ∙ sym (append-nil old.waiting);
-  more_finals = p ∷ [];
+  more_finals = f ∷ [];
   finals = fi;
 }
 
 pub keeps_end : (old new : Work) (e : End) → new.store ≡ old.store → new.moves.items ≡ old.moves.items → new.waiting ≡ old.waiting ++ (e ∷ [])
-    → new.finals.items ≡ old.finals.items → Keeps old new
+    → new.finals ≡ old.finals → Keeps old new
 keeps_end old new e st mo wa fi = record {
   events = ap (λ t. t.events) st;
   marks = ap (λ t. t.marks) st;
@@ -86,5 +87,5 @@ keeps_end old new e st mo wa fi = record {
   more_waiting = e ∷ [];
   waiting = wa;
   more_finals = [];
-  finals = fi ∙ sym (append-nil old.finals.items);
+  finals = fi ∙ sym (append-nil old.finals);
 }

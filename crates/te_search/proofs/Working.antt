@@ -14,11 +14,13 @@ use Rattle.te_trail.specs.States.{chosen, state_of, HasState}
 use Rattle.te_trail.proofs.MembersMove.{Handing, handing}
 use Rattle.te_pair.specs.Ends.{paths_of}
 use Rattle.te_search.specs.declared.work.Work.{Work}
+use Rattle.te_search.specs.Finals.{numbers_of, TellThreads}
 use Rattle.te_pair.specs.declared.end.End.{End}
 use Rattle.te_search.specs.Groups.{IsFinal, Partial, IsPartial}
 use Rattle.te_search.specs.Searching.{path_at, paths_by, AreUp, NoneTwice, AllFail, MayMeet, IsSearch}
 use Rattle.te_search.specs.Works.{AreLow, AreEnds, told, pending_of, IsCounted, IsWork, IsWorkOn, Gains, IsShort, IsSpentAt}
 use Rattle.te_search.proofs.ListLaws.{holds_left, holds_right, holds_which, holds_one, holds_at, place_of, once_by_places}
+use Rattle.te_search.proofs.FinalsTold.{told_more}
 use Rattle.te_search.proofs.WorkDone.{IsStep, step_done, final_cannot_choose}
 use Rattle.te_search.proofs.PartialLaws.{all_by}
 use Rattle.te_search.proofs.Trying.{get_low, get_some, path_there}
@@ -62,7 +64,7 @@ at_end (y ∷ paths) x more = at_end paths x more
 
 pub gains_one : (old new : Work) (x : Path) → new.store ≡ with_paths old.store (x ∷ []) → IsStore new.store.events new.store.paths
     → new.pending.items ≡ old.pending.items ++ (length old.store.paths ∷ []) → map told new.moves.items ≡ map told old.moves.items ++ (labels_of_move x ∷ [])
-    → new.waiting ≡ old.waiting → new.finals.items ≡ old.finals.items → new.groups ≡ old.groups → AreLow old.store.paths old.pending.items → Gains old new (x ∷ [])
+    → new.waiting ≡ old.waiting → new.finals ≡ old.finals → new.groups ≡ old.groups → AreLow old.store.paths old.pending.items → Gains old new (x ∷ [])
 gains_one old new x is store pending moves waiting finals groups low = record {
   paths = ps;
   events = ap (λ t. t.events) is;
@@ -92,7 +94,7 @@ two_same a b c d e f = ap₂ (λ u v. u ∷ (v ∷ [])) e f
 pub gains_two : (old new : Work) (x y : Path) → new.store ≡ with_paths old.store (x ∷ (y ∷ [])) → IsStore new.store.events new.store.paths
     → new.pending.items ≡ old.pending.items ++ (length old.store.paths ∷ ((length old.store.paths + 1) ∷ [])) → map told new.moves.items ≡ map told old.moves.items ++
     (labels_of_move x ∷ (labels_of_move y ∷ []))
-    → new.waiting ≡ old.waiting → new.finals.items ≡ old.finals.items → new.groups ≡ old.groups → AreLow old.store.paths old.pending.items → Gains old new (x ∷ (y ∷ []))
+    → new.waiting ≡ old.waiting → new.finals ≡ old.finals → new.groups ≡ old.groups → AreLow old.store.paths old.pending.items → Gains old new (x ∷ (y ∷ []))
 gains_two old new x y is store pending moves waiting finals groups low = record {
   paths = ps;
   events = ap (λ t. t.events) is;
@@ -193,18 +195,22 @@ pub work_gained : (old new : Work) (p : ℕ) (x : Path) (news : List Path) → s
     → (¬ IsFinal old.store.events x)
     → ((q : Path) (l : Bool) → Holds news (branched q l) → q ≡ x) → ((q r : Path) → ¬ Holds news (sent q r)) → IsWork new
 work_gained old new p x news ex w g ups chooses meets_not final_not branches none_met = record {
-  search = subst (λ e. IsSearch e new.store.paths (pending_of new) (paths_by new.store.paths (paths_of new.waiting)) (paths_by new.store.paths new.finals.items))
+  search = subst (λ e. IsSearch e new.store.paths (pending_of new) (paths_by new.store.paths (paths_of new.waiting)) (paths_by new.store.paths (numbers_of new.finals)))
       (sym g.events) (search_of (step_done old.store.events old.store.paths (pending_of old) waits finals x news [] [] before step));
   pending_low = g.pending_low;
   waits_low = subst (λ k. AreLow new.store.paths (paths_of k)) (sym g.waiting)
       (subst (λ q. AreLow q (paths_of old.waiting)) (sym g.paths) (low_more old.store.paths news (paths_of old.waiting) w.waits_low));
-  finals_low = subst (AreLow new.store.paths) (sym g.finals) (subst (λ q. AreLow q old.finals.items) (sym g.paths) (low_more old.store.paths news old.finals.items w.finals_low));
+  finals_low = subst (λ k. AreLow new.store.paths (numbers_of k)) (sym g.finals)
+      (subst (λ q. AreLow q (numbers_of old.finals)) (sym g.paths)
+      (low_more old.store.paths news (numbers_of old.finals) w.finals_low));
+  finals_told = subst (TellThreads new.store.paths) (sym g.finals)
+      (subst (λ q. TellThreads q old.finals) (sym g.paths) (told_more old.store.paths news old.finals w.finals_low w.finals_told));
   ends = subst (λ e. AreEnds e new.store.paths new.waiting) (sym g.events)
       (subst (AreEnds old.store.events new.store.paths) (sym g.waiting)
       (subst (λ q. AreEnds old.store.events q old.waiting) (sym g.paths) (ends_more old.store.events old.store.paths news old.waiting w.waits_low w.ends)));
   told_are = g.moves ∙ ap (λ m. m ++ map labels_of_move news) w.told_are ∙ sym (map_both labels_of_move old.store.paths news) ∙ ap (map labels_of_move) (sym g.paths);
-  counted = subst (λ e. IsCounted e new.store.paths (paths_by new.store.paths new.finals.items) new.groups) (sym g.events)
-      (subst (IsCounted old.store.events new.store.paths (paths_by new.store.paths new.finals.items)) (sym g.groups)
+  counted = subst (λ e. IsCounted e new.store.paths (paths_by new.store.paths (numbers_of new.finals)) new.groups) (sym g.events)
+      (subst (IsCounted old.store.events new.store.paths (paths_by new.store.paths (numbers_of new.finals))) (sym g.groups)
       (subst (λ f. IsCounted old.store.events new.store.paths f old.groups) (sym finals_same)
       (subst (λ q. IsCounted old.store.events q finals old.groups) (sym g.paths) (counted_more old.store.events old.store.paths news finals old.groups w.counted))));
 }
@@ -213,13 +219,13 @@ work_gained old new p x news ex w g ups chooses meets_not final_not branches non
     waits = paths_by old.store.paths (paths_of old.waiting)
 
     finals : List Path
-    finals = paths_by old.store.paths old.finals.items
+    finals = paths_by old.store.paths (numbers_of old.finals)
 
     waits_same : paths_by new.store.paths (paths_of new.waiting) ≡ waits
     waits_same = ap₂ (λ q k. paths_by q (paths_of k)) g.paths g.waiting ∙ by_more old.store.paths news (paths_of old.waiting) w.waits_low
 
-    finals_same : paths_by new.store.paths new.finals.items ≡ finals
-    finals_same = ap₂ paths_by g.paths g.finals ∙ by_more old.store.paths news old.finals.items w.finals_low
+    finals_same : paths_by new.store.paths (numbers_of new.finals) ≡ finals
+    finals_same = ap₂ (λ q k. paths_by q (numbers_of k)) g.paths g.finals ∙ by_more old.store.paths news (numbers_of old.finals) w.finals_low
 
     before : IsSearch old.store.events old.store.paths (pending_of old ++ (x ∷ [])) waits finals
     before = subst (λ y. IsSearch old.store.events old.store.paths (pending_of old ++ (y ∷ [])) waits finals) (path_there old.store.paths p x ex) w.search
@@ -249,10 +255,15 @@ work_gained old new p x news ex w g ups chooses meets_not final_not branches non
     }
 
     search_of : IsSearch old.store.events (old.store.paths ++ news) (pending_of old ++ news) (waits ++ []) (finals ++ [])
-        → IsSearch old.store.events new.store.paths (pending_of new) (paths_by new.store.paths (paths_of new.waiting)) (paths_by new.store.paths new.finals.items)
-    search_of s = subst (λ q. IsSearch old.store.events q (pending_of new) (paths_by new.store.paths (paths_of new.waiting)) (paths_by new.store.paths new.finals.items)) (sym g.paths)
-        (subst (λ d. IsSearch old.store.events (old.store.paths ++ news) d (paths_by new.store.paths (paths_of new.waiting)) (paths_by new.store.paths new.finals.items)) (sym g.pending)
-        (subst (λ a. IsSearch old.store.events (old.store.paths ++ news) (pending_of old ++ news) a (paths_by new.store.paths new.finals.items)) (append-nil waits ∙ sym waits_same)
+        → IsSearch old.store.events new.store.paths (pending_of new) (paths_by new.store.paths (paths_of new.waiting)) (paths_by new.store.paths (numbers_of new.finals))
+    search_of s = subst (λ q. IsSearch old.store.events q (pending_of new)
+        (paths_by new.store.paths (paths_of new.waiting)) (paths_by new.store.paths (numbers_of new.finals)))
+        (sym g.paths)
+        (subst (λ d. IsSearch old.store.events (old.store.paths ++ news) d
+        (paths_by new.store.paths (paths_of new.waiting)) (paths_by new.store.paths (numbers_of new.finals)))
+        (sym g.pending)
+        (subst (λ a. IsSearch old.store.events (old.store.paths ++ news) (pending_of old ++ news) a
+        (paths_by new.store.paths (numbers_of new.finals))) (append-nil waits ∙ sym waits_same)
         (subst (IsSearch old.store.events (old.store.paths ++ news) (pending_of old ++ news) (waits ++ [])) (append-nil finals ∙ sym finals_same) s)))
 
 clash : {A : Type 0} (o : Option A) (a : A) → o ≡ None → o ≡ Some a → ⊥
@@ -363,14 +374,14 @@ spent_short w events finals budget same store c s = record {
 
 -- spent after a gain
 pub spent_gained : (old mid : Work) (p : ℕ) (news : List Path) (budget : ℕ) → IsWorkOn old p → Gains old mid news → IsShort mid budget → IsSpentAt mid old.store.events budget
-spent_gained old mid p news budget w a s = spent_short mid old.store.events (paths_by old.store.paths old.finals.items) budget a.events
+spent_gained old mid p news budget w a s = spent_short mid old.store.events (paths_by old.store.paths (numbers_of old.finals)) budget a.events
     (subst (λ e. IsStore e mid.store.paths) a.events a.store)
-    (subst (IsCounted old.store.events mid.store.paths (paths_by old.store.paths old.finals.items)) (sym a.groups)
-    (subst (λ q. IsCounted old.store.events q (paths_by old.store.paths old.finals.items) old.groups) (sym a.paths)
-    (counted_more old.store.events old.store.paths news (paths_by old.store.paths old.finals.items) old.groups w.counted))) s
+    (subst (IsCounted old.store.events mid.store.paths (paths_by old.store.paths (numbers_of old.finals))) (sym a.groups)
+    (subst (λ q. IsCounted old.store.events q (paths_by old.store.paths (numbers_of old.finals)) old.groups) (sym a.paths)
+    (counted_more old.store.events old.store.paths news (paths_by old.store.paths (numbers_of old.finals)) old.groups w.counted))) s
 
 pub spent_here : (old : Work) (p : ℕ) (budget : ℕ) → IsWorkOn old p → IsShort old budget → IsSpentAt old old.store.events budget
-spent_here old p budget w s = spent_short old old.store.events (paths_by old.store.paths old.finals.items) budget refl w.search.store w.counted s
+spent_here old p budget w s = spent_short old old.store.events (paths_by old.store.paths (numbers_of old.finals)) budget refl w.search.store w.counted s
 
 pub on_ok : {A E : Type 0} (P Q : Type 0) (r : Result A E) → (P → Q) → OnOk r P → OnOk r Q
 on_ok P Q (Ok a) f h = f h

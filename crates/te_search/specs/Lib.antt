@@ -1,6 +1,7 @@
 pub mod Groups
 pub mod Searching
 pub mod Assemblies
+pub mod Finals
 pub mod Works
 pub mod Findings
 pub mod Plantings

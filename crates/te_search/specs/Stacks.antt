@@ -1,5 +1,5 @@
 -- How a kept search keeps its levels. No public clause cites this module.
-use Rattle.std.specs.Prelude.{◌≡◌, ◌≢◌, ◌≤◌, ◌<◌, ◌+◌, ℕ, suc, List, [], ◌∷◌, map, take, length, Bool, true, false, cond, nat_eq, ◌||◌, Option, Some, None, slice_get, MatchOption}
+use Rattle.std.specs.Prelude.{◌≡◌, ◌≢◌, ◌≤◌, ◌<◌, ◌+◌, ℕ, suc, List, [], ◌∷◌, map, take, length, Bool, true, false, cond, Option, Some, None, slice_get, MatchOption}
 use Rattle.te_terms.specs.declared.event.Parked.{Parked}
 use Rattle.te_terms.specs.Steps.{Member}
 use Rattle.te_terms.specs.Joint.{IsGroup, as_group, member_of}
@@ -10,6 +10,8 @@ use Rattle.te_trail.specs.Stores.{Holds, labels_of_move}
 use Rattle.te_pair.specs.declared.end.End.{End}
 use Rattle.te_pair.specs.Ends.{paths_of}
 use Rattle.te_search.specs.declared.work.Work.{Work}
+use Rattle.te_search.specs.declared.finals.Final.{Final}
+use Rattle.te_search.specs.Finals.{numbers_of, TellThreads}
 use Rattle.te_search.specs.declared.stack.Level.{Level}
 use Rattle.te_search.specs.declared.stack.Stack.{Stack}
 use Rattle.te_search.specs.Searching.{paths_by, IsSearch}
@@ -23,19 +25,20 @@ pub record Lists : Type 0 where
   pub paths : List Path
   pub moves : List (Option Move)
   pub waiting : List End
-  pub finals : List ℕ
+  pub finals : List Final
 
 abbrev pub lists_of : Work → Lists
-lists_of w = record { events = w.store.events; paths = w.store.paths; moves = w.moves.items; waiting = w.waiting; finals = w.finals.items }
+lists_of w = record { events = w.store.events; paths = w.store.paths; moves = w.moves.items; waiting = w.waiting; finals = w.finals }
 
 -- a search with nothing left to do, every event planted
 pub record IsWhole (l : Lists) (groups : ℕ) : Type 0 where
-  pub search : IsSearch l.events l.paths [] (paths_by l.paths (paths_of l.waiting)) (paths_by l.paths l.finals)
+  pub search : IsSearch l.events l.paths [] (paths_by l.paths (paths_of l.waiting)) (paths_by l.paths (numbers_of l.finals))
   pub waits_low : AreLow l.paths (paths_of l.waiting)
-  pub finals_low : AreLow l.paths l.finals
+  pub finals_low : AreLow l.paths (numbers_of l.finals)
+  pub finals_told : TellThreads l.paths l.finals
   pub ends : AreEnds l.events l.paths l.waiting
   pub told_are : map told l.moves ≡ map labels_of_move l.paths
-  pub counted : IsCounted l.events l.paths (paths_by l.paths l.finals) groups
+  pub counted : IsCounted l.events l.paths (paths_by l.paths (numbers_of l.finals)) groups
   pub planted_all : (t : ℕ) (e : Member) → member_of t l.events ≡ Some e → Holds l.paths (planted t)
 
 -- ---- going back

@@ -14,6 +14,8 @@ use Rattle.te_trail.specs.Stores.{Holds, IsStore, labels_of_move}
 use Rattle.te_pair.specs.declared.end.End.{End}
 use Rattle.te_pair.specs.Ends.{paths_of, paths_at}
 use Rattle.te_search.specs.declared.work.Work.{Work}
+use Rattle.te_search.specs.declared.finals.Final.{Final}
+use Rattle.te_search.specs.Finals.{numbers_of, TellThreads}
 use Rattle.te_search.specs.Groups.{IsFinal, Partial, AreTried}
 use Rattle.te_search.specs.Assemblies.{Stand, IsFound}
 use Rattle.te_search.specs.Searching.{path_at, paths_by, AreUp, IsSearch}
@@ -45,13 +47,14 @@ pub record IsCounted (g : List Member) (paths finals : List Path) (count : ℕ) 
 
 -- the paths that are still to be worked on are these, and perhaps others in hand
 pub record IsWorkOf (w : Work) (pending : List Path) : Type 0 where
-  pub search : IsSearch w.store.events w.store.paths pending (paths_by w.store.paths (paths_of w.waiting)) (paths_by w.store.paths w.finals.items)
+  pub search : IsSearch w.store.events w.store.paths pending (paths_by w.store.paths (paths_of w.waiting)) (paths_by w.store.paths (numbers_of w.finals))
   pub pending_low : AreLow w.store.paths w.pending.items
   pub waits_low : AreLow w.store.paths (paths_of w.waiting)
-  pub finals_low : AreLow w.store.paths w.finals.items
+  pub finals_low : AreLow w.store.paths (numbers_of w.finals)
+  pub finals_told : TellThreads w.store.paths w.finals
   pub ends : AreEnds w.store.events w.store.paths w.waiting
   pub told_are : map told w.moves.items ≡ map labels_of_move w.store.paths
-  pub counted : IsCounted w.store.events w.store.paths (paths_by w.store.paths w.finals.items) w.groups
+  pub counted : IsCounted w.store.events w.store.paths (paths_by w.store.paths (numbers_of w.finals)) w.groups
 
 abbrev pub pending_of : Work → List Path
 pending_of w = paths_by w.store.paths w.pending.items
@@ -72,7 +75,7 @@ pub record Gains (old new : Work) (news : List Path) : Type 0 where
   pub pending_low : AreLow new.store.paths new.pending.items
   pub moves : map told new.moves.items ≡ map told old.moves.items ++ map labels_of_move news
   pub waiting : new.waiting ≡ old.waiting
-  pub finals : new.finals.items ≡ old.finals.items
+  pub finals : new.finals ≡ old.finals
   pub groups : new.groups ≡ old.groups
 
 -- as many paths more are still to be worked on as were made
@@ -149,7 +152,7 @@ pub record IsSpentAt (w : Work) (events : List Member) (budget : ℕ) : Type 0 w
 
 -- a group was found: final paths that agree, whose joined past names only final paths
 pub record IsHit (w : Work) (threads : List ℕ) (out : List (Option ℕ)) : Type 0 where
-  pub stand : Stand w.store.events w.store.paths threads w.finals.items
+  pub stand : Stand w.store.events w.store.paths threads (numbers_of w.finals)
   pub start : Path
   pub final : IsFinal w.store.events start
   pub made : Holds w.store.paths start
@@ -179,5 +182,5 @@ pub record Keeps (old new : Work) : Type 0 where
   pub moves : new.moves.items ≡ old.moves.items ++ more_moves
   pub more_waiting : List End
   pub waiting : new.waiting ≡ old.waiting ++ more_waiting
-  pub more_finals : List ℕ
-  pub finals : new.finals.items ≡ old.finals.items ++ more_finals
+  pub more_finals : List Final
+  pub finals : new.finals ≡ old.finals ++ more_finals

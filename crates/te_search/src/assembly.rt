@@ -2,10 +2,12 @@
 
 ghost use Rattle.std.specs.Prelude.{◌≡◌, ◌≤◌, ◌<◌, ◌+◌, ◌-◌, length, ◌∷◌, [], slice_get, Some, Err, IfOk};
 ghost use Rattle.te_search.specs.Assemblies.{Stand, TellsFinal, AreNumbers, IsOpenAt, TellsLined, TakesIn, Assembles, TriesOnly, Names, joint, AreNone, later_number};
+ghost use Rattle.te_search.specs.Finals.{numbers_of, TellThreads};
 ghost use Rattle.te_trail.specs.Paths.{Path};
 ghost use Rattle.te_search.specs.Searching.{AreUp};
 ghost use Rattle.te_search.specs.declared.assembly.Refused.TheVariants as refusals;
 
+use crate::finals::Finals;
 use std::alloc::Global;
 use te_path::Stop;
 use te_terms::NoMemory;
@@ -146,15 +148,16 @@ pub(crate) fn assemble(
     alloc: Global,
     store: &TrailStore,
     threads: &[u32],
-    finals: &[u32],
+    finals: &Finals,
     joined: &[Option<u32>],
     left: &mut u64,
 ) -> Result<Option<Vec<Option<u32>>>, Refused>
-    requires stand { Stand store.now.events store.now.paths threads.now finals.now }
+    requires stand { Stand store.now.events store.now.paths threads.now (numbers_of finals.now) }
+    requires told { TellThreads store.now.paths finals.now }
     requires wide { length joined.now ≡ length threads.now }
     requires numbers { AreNumbers store.now.paths joined.now }
     ensures falls { left.new ≤ left.old }
-    ensures ok { IfOk result (Assembles store.now.events store.now.paths threads.now finals.now joined.now (left.old - left.new)) }
+    ensures ok { IfOk result (Assembles store.now.events store.now.paths threads.now (numbers_of finals.now) joined.now (left.old - left.new)) }
     ensures spent { result ≡ Err refusals.Spent → left.new ≡ 0 }
     ensures tried { result ≡ Err refusals.Spent → TriesOnly store.now.events store.now.paths threads.now joined.now (left.old - left.new + 1) }
 {
@@ -165,7 +168,8 @@ pub(crate) fn assemble(
         };
     };
     let thread = threads[place];
-    'tries: for f in finals {
+    let there = finals.bucket(thread);
+    'tries: for f in there {
         let p = *f;
         if store.thread(p) != thread {
             continue;

@@ -13,6 +13,7 @@ ghost use Rattle.te_search.specs.declared.finding.SearchFault.TheVariants as fau
 ghost use Rattle.te_search.specs.declared.kept.KeptFound.TheVariants as answers;
 ghost use Rattle.te_search.specs.declared.finding.Found.TheVariants as finds;
 
+use crate::finals::Finals;
 use crate::finding::{Found, SearchFault};
 use crate::listed::ParkedList;
 use crate::planted::PlantedThreads;
@@ -41,7 +42,7 @@ fn stack_of(alloc: Global, parked: ParkedList) -> Result<Stack, NoMemory>
             moves: Vec::new(alloc),
             pending: Vec::new(alloc),
             waiting: Waiting::new(alloc),
-            finals: Vec::new(alloc),
+            finals: Finals::new(alloc),
             groups: 0,
         },
     })

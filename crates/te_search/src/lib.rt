@@ -4,6 +4,7 @@
 mod assembly;
 mod bound;
 mod certifying;
+mod finals;
 mod finding;
 mod kept;
 mod listed;

@@ -44,7 +44,7 @@ impl Stack {
         self.work.store.cut(i);
         self.work.moves.truncate(level.moves);
         self.work.waiting.cut(level.waiting);
-        self.work.finals.truncate(level.finals);
+        self.work.finals.cut(level.finals);
         self.work.pending.clear();
         self.work.groups = level.groups;
         self.threads.cut(i);

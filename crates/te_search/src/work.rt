@@ -10,6 +10,7 @@ ghost use Rattle.te_trail.specs.Stores.{IsStore};
 ghost use Rattle.te_trail.specs.Trails.{IsAtChoice, IsUnmade, AreEnds, AreAgreeing, AreUnmet};
 
 use crate::assembly::{Refused, assemble, past_of};
+use crate::finals::Finals;
 use std::alloc::Global;
 use te_pair::Waiting;
 use te_path::Stop;
@@ -24,7 +25,7 @@ pub(crate) struct Work {
     pub(crate) moves: Vec<Option<Move>>,
     pub(crate) pending: Vec<u32>,
     pub(crate) waiting: Waiting,
-    pub(crate) finals: Vec<u32>,
+    pub(crate) finals: Finals,
     pub(crate) groups: u64,
 }
 
@@ -256,7 +257,8 @@ impl Work {
         let Ok(joined) = past_of(alloc, &self.store, threads, p) else {
             return Err(Refused::Memory);
         };
-        let Ok(()) = self.finals.push(p) else {
+        let thread = self.store.thread(p);
+        let Ok(()) = self.finals.push(p, thread) else {
             return Err(Refused::Memory);
         };
         let answer = assemble(

@@ -1,4 +1,9 @@
-ghost use Rattle.std.specs.Prelude.{◌≡◌, ℕ, [], OnOk, IfErr};
+ghost use Rattle.std.specs.Prelude.{◌≡◌, ◌≢◌, ◌≤◌, ℕ, [], Err, OnOk, IfErr};
+ghost use Rattle.te_terms.specs.Joint.{as_group};
+ghost use Rattle.te_board.specs.Boards.{state_of};
+ghost use Rattle.te_history.specs.State.{parked_list};
+ghost use Rattle.te_search.specs.Bounds.{enough_for};
+ghost use Rattle.te_serial.specs.declared.fault.FinishFault.TheVariants as faults;
 ghost use Rattle.te_history.specs.Follows.{IsLegal};
 ghost use Rattle.te_report.specs.Whole.{IsWhole};
 ghost use Rattle.te_search.specs.Findings.{IsBudget};
@@ -54,10 +59,11 @@ fn finish_cores(
 /// Conditions: one core a caller, each where the outcomes that its caller has taken leave it; the history is of the
 /// cores' texts; the budget of each search is 1 to 1,000,000 paths and partial groups.
 ///
-/// Refused with `Spent` where a search has used up its budget; with `Full` where the board has no room for the post of an
-/// idle caller; and with `Memory` for want of memory. What was appended by then stands: the history is legal and begins with
-/// the earlier one, no withdrawal, no rest and no commit but a tight one was appended, each core has its old text and is
-/// where its takes leave it. So the conditions of a further call are met again, which goes on from there.
+/// Refused with `Spent` where a search has used up its budget, which is then less than `enough` of the list that is parked;
+/// with `Full` where the board has no room for the post of an idle caller; and with `Memory` for want of memory. What was
+/// appended by then stands: the history is legal and begins with the earlier one, no withdrawal, no rest and no commit but a
+/// tight one was appended, each core has its old text and is where its takes leave it. So the conditions of a further call
+/// are met again, which goes on from there.
 pub fn finish(
     alloc: Global,
     board: &mut Board,
@@ -71,6 +77,7 @@ pub fn finish(
     ensures whole { OnOk result (IsWhole board.new.callers board.new.entries) }
     ensures rounds { OnOk result (board.old.entries ≡ [] → IsInRounds board.new.callers board.new.entries) }
     ensures cause { IfErr result (λ fault. HasCause board.new cores.new budget fault) }
+    ensures enough { enough_for (as_group (parked_list (state_of board.new))) ≤ budget → (front paths groups : ℕ) → result ≢ Err (faults.Spent front paths groups) }
 {
     let mut list = mem::replace(cores, Rows::new(alloc)).into_vec();
     let finished = finish_cores(alloc, board, &mut list, budget);

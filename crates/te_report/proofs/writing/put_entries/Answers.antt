@@ -1,10 +1,6 @@
-use Rattle.std.proofs.Common.{◌≡◌, ◌++◌, [], ◌∷◌, ap, sym, ◌∙◌, subst, take, suc, List, ℕ, Some, Option, append_assoc, arith}
-use Rattle.std.specs.List.{slice_get}
+use Rattle.std.proofs.Common.{sym, ◌∙◌, subst, List}
 use Rattle.te_script.specs.Cores.{At}
-use Rattle.te_script.specs.declared.wish.Site.{Site}
-use Rattle.te_history.specs.declared.entry.Entry.{Entry}
-use Rattle.te_report.specs.Report.{second, entry_lines}
-use Rattle.te_report.specs.Following.{HasCore, cores_from, followed}
+use Rattle.te_report.specs.Following.{HasCore}
 use Rattle.te_report.proofs.PutLines.{ready, goes_on}
 use Rattle.te_report.proofs.writing.put_entries.Goals as goal
 

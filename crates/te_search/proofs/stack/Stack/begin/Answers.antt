@@ -5,7 +5,6 @@ use Rattle.te_search.proofs.stack.Stack.begin.Goals as goal
 pub returns-clause-ok : goal.returns-clause-ok
 returns-clause-ok c =
     let a : vec_len c.args.self.now.work.moves ≡ length c.args.self.now.work.moves.items = search rules in
-    let d : vec_len c.args.self.now.work.finals ≡ length c.args.self.now.work.finals.items = search rules in
     begin_stack c.args.self.now _ (record {
       moves = c.len.result;
       waiting = c.mark-2.result;
@@ -18,4 +17,4 @@ returns-clause-ok c =
       finals = c.len-2.result;
       groups = c.args.self.now.work.groups;
     } ∷ [])) c.in_ok-reserve.ensures.items)
-    c.in_ok-mark.ensures.ok refl refl refl refl refl (c.len.ensures ∙ a) c.mark-2.ensures (c.len-2.ensures ∙ d) refl
+    c.in_ok-mark.ensures.ok refl refl refl refl refl (c.len.ensures ∙ a) c.mark-2.ensures c.len-2.ensures refl

@@ -1,0 +1,71 @@
+ghost use Rattle.std.specs.Prelude.{◌≡◌, ◌<◌, ◌≤◌, length, map, IfOk, IfSome};
+ghost use Rattle.te_script.specs.Scripts.{thread_names, IsScript};
+ghost use Rattle.te_report.specs.Sayings.{place_of, said_thread};
+
+use std::alloc::Global;
+use te_script::Script;
+use te_terms::{Name, NoMemory, Rows};
+
+/// The names of a script's threads and channels, by number.
+#[derive(Drop)]
+pub(crate) struct Called {
+    pub(crate) threads: Rows<Name>,
+    pub(crate) channels: Rows<Name>,
+}
+
+fn thread_names(alloc: Global, script: &Script) -> Result<Rows<Name>, NoMemory>
+    ensures { IfOk result (λ names. names ≡ thread_names script.now.threads) }
+{
+    let mut names = Rows::new(alloc);
+    for text in script.threads.as_slice() {
+        names.push(text.name)?;
+    }
+    Ok(names)
+}
+
+fn copied(alloc: Global, names: &[Name]) -> Result<Rows<Name>, NoMemory>
+    ensures { IfOk result (λ copy. copy ≡ names.now) }
+{
+    let mut copy = Vec::new(alloc);
+    copy.extend_from_slice(names)?;
+    Ok(Rows::from(copy))
+}
+
+// The script is one that can be spelled.
+fn keeps(script: &Script)
+    ensures { IsScript script.now }
+{
+    let _ = script.threads.len();
+}
+
+/// The names of a script's threads and channels.
+pub(crate) fn names_of(alloc: Global, script: &Script) -> Result<Called, NoMemory>
+    ensures threads { IfOk result (λ names. names.threads ≡ thread_names script.now.threads) }
+    ensures channels { IfOk result (λ names. names.channels ≡ script.now.channels) }
+    ensures script { IsScript script.now }
+{
+    keeps(script);
+    let threads = thread_names(alloc, script)?;
+    let channels = copied(alloc, script.channels.as_slice())?;
+    Ok(Called { threads, channels })
+}
+
+/// The first place of a name in a list.
+#[tactic(auto, unfolding(crate::specs::Sayings::place_of))]
+pub(crate) fn place_of(names: &[Name], name: &[u8]) -> Option<usize>
+    ensures value { result ≡ place_of names.now name.now }
+    ensures below { IfSome result (λ i. i < length names.now) }
+{
+    names.iter().position(|x| x.bytes() == name)
+}
+
+/// The thread of a name; the first where there is none.
+pub(crate) fn thread(called: &Called, name: &[u8]) -> u32
+    requires { length called.now.threads ≤ 64 }
+    ensures { result ≡ said_thread called.now.threads name.now }
+{
+    match place_of(called.threads.as_slice(), name) {
+        Some(i) => i as u32,
+        None => 0,
+    }
+}
