@@ -7,7 +7,7 @@ use Rattle.std.proofs.lemmas.Option.{slice_get-map, cond_some}
 use Rattle.te_terms.specs.Steps.{Member, giving, with_head}
 use Rattle.te_terms.specs.Joint.{Label, meeting, Message, IsGroup, with_member, sending, receiving}
 use Rattle.te_cert.specs.declared.cert.Meeting.{Meeting}
-use Rattle.te_cert.specs.Play.{Player, Table, Advance, advanced, with_term, Ends, met_by, met, ends_advance, meets, all_meet}
+use Rattle.te_cert.specs.Play.{Player, Table, Advance, advanced, player_with_term, Ends, met_by, met, ends_advance, meets, all_meet}
 use Rattle.te_cert.proofs.MembersReplaced.{threads_stay, group_stays}
 use Rattle.te_cert.proofs.PlacesOfThreads.{thread_at, found_at, set_at_thread}
 use Rattle.te_cert.proofs.MembersMove.{Moves, advance_moves}
@@ -18,7 +18,7 @@ use Rattle.te_cert.proofs.AllAdvance.{members, through, Comes, comes_on}
 
 -- the ends of a meeting, once each has its value
 abbrev pub ends_of : Player → Player → Message → Ends
-ends_of s r sent = record { sender = with_term s (with_head (giving []) s.member.term); receiver = with_term r (with_head (giving sent.value) r.member.term) }
+ends_of s r sent = record { sender = player_with_term s (with_head (giving []) s.member.term); receiver = player_with_term r (with_head (giving sent.value) r.member.term) }
 
 -- two players at these places met so
 pub record Met (x y : Option Player) (e : Ends) : Type 0 where

@@ -13,7 +13,7 @@ use Rattle.te_cert.specs.declared.cert.Meeting.{Meeting}
 use Rattle.te_cert.specs.Play.{Player, Table, Ends, met, met_by, meets, ends_advance, advanced, no_letter, no_meeting}
 use Rattle.te_cert.specs.declared.cert.CertFault.{CertFault}
 use Rattle.te_cert.specs.declared.cert.CertFault.TheVariants as faults
-use Rattle.te_cert.specs.Players.{handed, passing, GoesOn, Lacks, TellsFault, BecomesTable}
+use Rattle.te_cert.specs.Players.{player_handed, passing, PlayerGoesOn, Lacks, TellsFault, BecomesTable}
 use Rattle.te_cert.proofs.SeatsByPlace.{Standing}
 use Rattle.te_cert.proofs.Places.{get_set_other}
 
@@ -58,7 +58,7 @@ passing_receives _ _ v p = absurd cc
 -- ---- both ends move by what passes
 
 abbrev both : Player → Player → List Atom → Ends
-both p q v = record { sender = handed [] p; receiver = handed v q }
+both p q v = record { sender = player_handed [] p; receiver = player_handed v q }
 
 on_channels : (p q : Player) (v : List Atom) (same : Bool) → cond {A = Option Ends} same (Some (both p q v)) None ≡ option_map (both p q) (cond {A = Option (List Atom)} same (Some v) None)
 on_channels p q v true = refl
@@ -106,12 +106,12 @@ module _ (j : ℕ) (mt : Meeting) (ps : List Player) (a b : Stop) (sender : Stan
     pub sender_fails : (e : CertFault) → (e ≡ faults.Memory) ⊎ ((e ≡ faults.Choices mt.sender) × Lacks mt.sender [] ps) → (word : List Label) → TellsFault (meets j mt (at word)) e
     sender_fails e (inl memory) word = inl memory
     sender_fails e (inr lacks) word =
-        let so : advanced mt.sender (handed [] p) ≡ Err (no_letter mt.sender) = ap (λ x. advanced mt.sender (handed [] x)) (sym (one_sender lacks.1.player lacks.1.is_there)) ∙ lacks.1.lacks in
+        let so : advanced mt.sender (player_handed [] p) ≡ Err (no_letter mt.sender) = ap (λ x. advanced mt.sender (player_handed [] x)) (sym (one_sender lacks.1.player lacks.1.is_there)) ∙ lacks.1.lacks in
         inr (no_letter mt.sender, they_go word ∙ rw so refl, lacks.0)
 
-    module _ (apart : mt.sender ≢ mt.receiver) (after : List Player) (went : GoesOn mt.sender [] ps after) where
-      sender_goes : advanced mt.sender (handed [] p) ≡ Ok (record { player = went.end; word = went.word })
-      sender_goes = ap (λ x. advanced mt.sender (handed [] x)) (sym (one_sender went.player went.is_there)) ∙ went.advances
+    module _ (apart : mt.sender ≢ mt.receiver) (after : List Player) (went : PlayerGoesOn mt.sender [] ps after) where
+      sender_goes : advanced mt.sender (player_handed [] p) ≡ Ok (record { player = went.end; word = went.word })
+      sender_goes = ap (λ x. advanced mt.sender (player_handed [] x)) (sym (one_sender went.player went.is_there)) ∙ went.advances
 
       -- the receiver's stays while the sender goes on
       one_receiver : (x : Player) → slice_get after mt.receiver ≡ Some x → x ≡ q
@@ -128,18 +128,18 @@ module _ (j : ℕ) (mt : Meeting) (ps : List Player) (a b : Stop) (sender : Stan
       receiver_fails : (e : CertFault) → (e ≡ faults.Memory) ⊎ ((e ≡ faults.Choices mt.receiver) × Lacks mt.receiver v after) → (word : List Label) → TellsFault (meets j mt (at word)) e
       receiver_fails e (inl memory) word = inl memory
       receiver_fails e (inr lacks) word =
-          let so : advanced mt.receiver (handed v q) ≡ Err (no_letter mt.receiver) = ap (λ x. advanced mt.receiver (handed v x)) (sym (one_receiver lacks.1.player lacks.1.is_there)) ∙ lacks.1.lacks in
+          let so : advanced mt.receiver (player_handed v q) ≡ Err (no_letter mt.receiver) = ap (λ x. advanced mt.receiver (player_handed v x)) (sym (one_receiver lacks.1.player lacks.1.is_there)) ∙ lacks.1.lacks in
           inr (no_letter mt.receiver, they_go word ∙ rw (sender_goes, so) refl, lacks.0)
 
-      both_go : (last : List Player) → GoesOn mt.receiver v after last → (word : List Label) → BecomesTable (meets j mt (at word)) last
+      both_go : (last : List Player) → PlayerGoesOn mt.receiver v after last → (word : List Label) → BecomesTable (meets j mt (at word)) last
       both_go last got word =
-          let so : advanced mt.receiver (handed v q) ≡ Ok (record { player = got.end; word = got.word }) = ap (λ x. advanced mt.receiver (handed v x))
+          let so : advanced mt.receiver (player_handed v q) ≡ Ok (record { player = got.end; word = got.word }) = ap (λ x. advanced mt.receiver (player_handed v x))
           (sym (one_receiver got.player got.is_there)) ∙ got.advances in
           let players : slice_set (slice_set ps mt.sender went.end) mt.receiver got.end ≡ last = sym (got.then_so ∙ ap (λ xs. slice_set xs mt.receiver got.end) went.then_so) in
           (word ++ (meeting p.member.thread q.member.thread ∷ went.word) ++ got.word, they_go word ∙ rw (sender_goes, so, players) refl)
 
       -- both by the answer of the receiver's
-      pub both_go_so : (last : List Player) (r : Result (Unit {0}) CertFault) → OnOk r (GoesOn mt.receiver v after last) → OnOk r ((word : List Label) → BecomesTable (meets j mt (at word)) last)
+      pub both_go_so : (last : List Player) (r : Result (Unit {0}) CertFault) → OnOk r (PlayerGoesOn mt.receiver v after last) → OnOk r ((word : List Label) → BecomesTable (meets j mt (at word)) last)
       both_go_so last (Ok u) got = both_go last got
       both_go_so last (Err e) got = tt
 

@@ -12,7 +12,7 @@ use Rattle.te_path.specs.Paths.{StepsTo}
 use Rattle.te_cert.specs.declared.cert.CertFault.TheVariants as faults
 use Rattle.te_cert.specs.declared.seat.Seat.{Seat}
 use Rattle.te_cert.specs.Play.{Player, advanced, ending, no_letter, letters_left}
-use Rattle.te_cert.specs.Players.{Entering, start_of, seat_of, IsSeat, IsSeatedAt, TakesSeat, Comes, handed, PassesOn, TellsFault, Tells}
+use Rattle.te_cert.specs.Players.{Entering, start_of, seat_of, IsSeat, IsSeatedAt, TakesSeat, Comes, player_handed, PassesOn, TellsFault, TellsPart}
 use Rattle.te_cert.specs.Advances.{by_letters}
 use Rattle.te_cert.proofs.Advancing.{advanced_is}
 use Rattle.te_cert.proofs.Letters.{by_settled, settles_twice}
@@ -33,11 +33,11 @@ passes_on v p q (Some x) some to letters =
     let same : to.next ≡ with_head (giving v) p.member.term = let both : Some (with_head (giving v) p.member.term) ≡ Some to.next = to.steps in cc in
     record { settles = ap (λ t. settled (at_term p.member t)) (sym same) ∙ to.settles; letters = letters }
 
-handed_comes : (v : List Atom) (p q r : Player) (done : Bool) → PassesOn v p q → Comes q done r → Comes (handed v p) done r
+handed_comes : (v : List Atom) (p q r : Player) (done : Bool) → PassesOn v p q → Comes q done r → Comes (player_handed v p) done r
 handed_comes v p q r done on comes =
-    comes_from (handed v p) q r done (sym (settles_twice (handed v p).member) ∙ ap settled on.settles) on.letters comes
+    comes_from (player_handed v p) q r done (sym (settles_twice (player_handed v p).member) ∙ ap settled on.settles) on.letters comes
 
-pub handed_comes_so : (v : List Atom) (p q r : Player) (done : Result Bool NoMemory) → PassesOn v p q → IfOk done (λ d. Comes q d r) → IfOk done (λ d. Comes (handed v p) d r)
+pub handed_comes_so : (v : List Atom) (p q r : Player) (done : Result Bool NoMemory) → PassesOn v p q → IfOk done (λ d. Comes q d r) → IfOk done (λ d. Comes (player_handed v p) d r)
 handed_comes_so v p q r (Ok d) on comes = handed_comes v p q r d on comes
 handed_comes_so v p q r (Err e) on comes = tt
 
@@ -68,5 +68,5 @@ over : (i : ℕ) (o : Outcome) (letters : List Bool) → 0 < length letters → 
 over i o [] some = absurd (omega arith)
 over i o (l ∷ ls) some = refl
 
-pub letters_over : (i : ℕ) (t : Option Outcome) (o : Outcome) (letters : List Bool) → t ≡ Some o → 0 < length letters → Tells (ending i t letters) (Err (faults.Choices i))
+pub letters_over : (i : ℕ) (t : Option Outcome) (o : Outcome) (letters : List Bool) → t ≡ Some o → 0 < length letters → TellsPart (ending i t letters) (Err (faults.Choices i))
 letters_over i t o letters final some = rw (final, over i o letters some) refl

@@ -13,7 +13,7 @@ use Rattle.te_cert.specs.declared.cert.Member.{Member}
 use Rattle.te_cert.specs.declared.lent.Lent.{Lent}
 use Rattle.te_cert.specs.declared.seat.Seat.{Seat}
 use Rattle.te_cert.specs.Play.{Player}
-use Rattle.te_cert.specs.Players.{Entering, entering, all_entering, IsSeat, AreSeated, seats_of, seat_of, Comes, handed, GoesOn, Lacks}
+use Rattle.te_cert.specs.Players.{Entering, entering, all_entering, IsSeat, AreSeated, seats_of, seat_of, Comes, player_handed, PlayerGoesOn, Lacks}
 use Rattle.te_cert.proofs.Advancing.{advanced_is}
 
 -- ---- who enters
@@ -137,7 +137,7 @@ standing cells ms ls ks i k many seated within is =
 
 module _ (old new : Cells) (es : List Entering) (ks : List Seat) (i : ℕ) (e : Entering) (k : Seat) (v : List Atom) (seated : AreSeated old es ks)
     (e_is : slice_get es i ≡ Some e) (k_is : slice_get ks i ≡ Some k) where
-  pub went_on : (end : Seat) → Grows old new → Comes (handed v (seat_of old e k)) true (seat_of new e end) → GoesOn i v (seats_of old es ks) (seats_of new es (slice_set ks i end))
+  pub went_on : (end : Seat) → Grows old new → Comes (player_handed v (seat_of old e k)) true (seat_of new e end) → PlayerGoesOn i v (seats_of old es ks) (seats_of new es (slice_set ks i end))
   went_on end grows comes =
       let there = comes i in
       record {
@@ -145,13 +145,13 @@ module _ (old new : Cells) (es : List Entering) (ks : List Seat) (i : ℕ) (e : 
         is_there = seat_there old es ks i e k e_is k_is;
         end = seat_of new e end;
         word = there.0;
-        advances = advanced_is i (handed v (seat_of old e k)) ∙ there.1;
+        advances = advanced_is i (player_handed v (seat_of old e k)) ∙ there.1;
         then_so = seat_set new es ks i e end e_is ∙ ap (λ ps. slice_set ps i (seat_of new e end)) (seats_stay old new es ks grows seated);
       }
 
-  pub lacked : (q : Player) → Comes (handed v (seat_of old e k)) false q → Lacks i v (seats_of old es ks)
+  pub lacked : (q : Player) → Comes (player_handed v (seat_of old e k)) false q → Lacks i v (seats_of old es ks)
   lacked q comes = record {
     player = seat_of old e k;
     is_there = seat_there old es ks i e k e_is k_is;
-    lacks = advanced_is i (handed v (seat_of old e k)) ∙ comes i;
+    lacks = advanced_is i (player_handed v (seat_of old e k)) ∙ comes i;
   }

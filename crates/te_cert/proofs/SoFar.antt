@@ -12,7 +12,7 @@ use Rattle.te_cert.specs.declared.cert.Meeting.{Meeting}
 use Rattle.te_cert.specs.declared.cert.CertFault.{CertFault}
 use Rattle.te_cert.specs.declared.seat.Seat.{Seat}
 use Rattle.te_cert.specs.Play.{PlayFault, Player, Table, ◌>>=◌, advanced, all_advanced, meets, all_meet, ending, endings}
-use Rattle.te_cert.specs.Players.{Entering, IsSeat, AreSeated, IsSeatedAt, start_of, starts_of, seat_of, seats_of, BecomesTable, players_before, outcomes_before, TellsFault, Tells}
+use Rattle.te_cert.specs.Players.{Entering, IsSeat, AreSeated, IsSeatedAt, start_of, starts_of, seat_of, seats_of, BecomesTable, players_before, outcomes_before, TellsFault, TellsPart}
 use Rattle.te_cert.proofs.SeatsByPlace.{seated_stay, seats_stay}
 
 -- ---- a list by its place
@@ -140,11 +140,11 @@ ends_on : (i : ℕ) (os : List Outcome) (o : Outcome) (p : Player) (ps : List Pl
     outcomes_before os (endings i (p ∷ ps)) ≡ outcomes_before (os ++ o ∷ []) (endings (suc i) ps)
 ends_on i os o p ps e = rw e (more_outcomes os o (endings (suc i) ps))
 
-tells_ok : {A : Type 0} (r : Result A PlayFault) (x : A) → Tells r (Ok x) → r ≡ Ok x
+tells_ok : {A : Type 0} (r : Result A PlayFault) (x : A) → TellsPart r (Ok x) → r ≡ Ok x
 tells_ok (Ok y) x told = let same : x ≡ y = cc in ap Ok (sym same)
 tells_ok (Err f) x told = absurd cc
 
-tells_err : {A : Type 0} (r : Result A PlayFault) (fault : CertFault) → Tells r (Err fault) → TellsFault r fault
+tells_err : {A : Type 0} (r : Result A PlayFault) (fault : CertFault) → TellsPart r (Err fault) → TellsFault r fault
 tells_err (Ok y) fault told = absurd cc
 tells_err (Err f) fault told = let same : fault ≡ _ = cc in inr (f, refl, same)
 
@@ -163,14 +163,14 @@ module _ (cells : Cells) (es : List Entering) (ks : List Seat) (os : List Outcom
       ∙ ap (λ x. outcomes_before os (endings i (seats_of cells x (drop i ks)))) (from_here es i e e_is)
       ∙ ap (λ x. outcomes_before os (endings i (seats_of cells (e ∷ drop (suc i) es) x))) (from_here ks i k k_is)
 
-  pub ended_on : (o : Outcome) → Tells (ending i (outcome_of (seat_of cells e k).member.term) (seat_of cells e k).letters) (Ok o) →
+  pub ended_on : (o : Outcome) → TellsPart (ending i (outcome_of (seat_of cells e k).member.term) (seat_of cells e k).letters) (Ok o) →
       r ≡ outcomes_before (os ++ o ∷ []) (endings (i + 1) (seats_of cells (drop (i + 1) es) (drop (i + 1) ks)))
   ended_on o told =
       here_so
       ∙ ends_on i os o (seat_of cells e k) (seats_of cells (drop (suc i) es) (drop (suc i) ks)) (tells_ok (ending i (outcome_of (seat_of cells e k).member.term) (seat_of cells e k).letters) o told)
       ∙ rw (add-one i) refl
 
-  pub ended_fails : (fault : CertFault) → Tells (ending i (outcome_of (seat_of cells e k).member.term) (seat_of cells e k).letters) (Err fault) → TellsFault r fault
+  pub ended_fails : (fault : CertFault) → TellsPart (ending i (outcome_of (seat_of cells e k).member.term) (seat_of cells e k).letters) (Err fault) → TellsFault r fault
   ended_fails fault told =
       rw here_so
       (ends_badly i os (seat_of cells e k) (seats_of cells (drop (suc i) es) (drop (suc i) ks)) fault

@@ -5,7 +5,7 @@ use Rattle.te_terms.specs.Terms.{Term}
 use Rattle.te_terms.specs.Steps.{Member, giving, with_head, at_term}
 use Rattle.te_terms.specs.Joint.{Label, choice, meeting, Message, sending, receiving, IsGroup, member_of, with_member}
 use Rattle.te_terms.proofs.OneThing.{send_is_alone, receive_is_alone}
-use Rattle.te_cert.specs.Play.{Player, with_term, meets, all_meet, endings, advanced, ◌>>=◌}
+use Rattle.te_cert.specs.Play.{Player, player_with_term, meets, all_meet, endings, advanced, ◌>>=◌}
 use Rattle.te_cert.specs.Certs.{place_of, meetings_of}
 use Rattle.te_cert.specs.declared.cert.Meeting.{Meeting}
 use Rattle.te_cert.proofs.Advancing.{advanced_is}
@@ -59,8 +59,8 @@ before_choice word t left g h results group c plays =
 -- both ends stand as they were, and go on to where these players stand
 meet_so : (j a b : ℕ) (ps qs : List Player) (word : List Label) (s r s' r' : Player) (ws wr : List Label) (m : Message) (c : ℕ) →
     slice_get qs a ≡ Some s → slice_get qs b ≡ Some r → sending s.member.term ≡ Some m → receiving r.member.term ≡ Some c → (m.channel == c) ≡ true →
-    advanced a (with_term s (with_head (giving []) s.member.term)) ≡ Ok (record { player = s'; word = ws }) →
-    advanced b (with_term r (with_head (giving m.value) r.member.term)) ≡ Ok (record { player = r'; word = wr }) →
+    advanced a (player_with_term s (with_head (giving []) s.member.term)) ≡ Ok (record { player = s'; word = ws }) →
+    advanced b (player_with_term r (with_head (giving m.value) r.member.term)) ≡ Ok (record { player = r'; word = wr }) →
     slice_set (slice_set qs a s') b r' ≡ ps →
     (played : List Label) × (meets j (record { sender = a; receiver = b }) (record { players = qs; word = word }) ≡ Ok (record { players = ps; word = played }))
 meet_so j a b ps qs word s r s' r' ws wr m c s_at r_at sends receives fits s_goes r_goes same =
@@ -68,8 +68,8 @@ meet_so j a b ps qs word s r s' r' ws wr m c s_at r_at sends receives fits s_goe
 
 -- an end advances as its letters lead
 advances : (at : ℕ) (word : List Label) (m : Member) (u : Term) (p : Player) (goes : IsAhead word (at_term m u) p) →
-    advanced at (with_term (as_it_stands word m) u) ≡ Ok (record { player = p; word = goes.word })
-advances at word m u p goes = advanced_is at (with_term (as_it_stands word m) u) ∙ goes.goes at
+    advanced at (player_with_term (as_it_stands word m) u) ≡ Ok (record { player = p; word = goes.word })
+advances at word m u p goes = advanced_is at (player_with_term (as_it_stands word m) u) ∙ goes.goes at
 
 -- what the ends become takes the place of what they were
 set_back : (ps : List Player) (a b : ℕ) (s r s' r' : Player) → slice_get ps b ≡ Some r' → slice_get (slice_set ps b r) a ≡ Some s' →

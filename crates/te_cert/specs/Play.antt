@@ -85,8 +85,8 @@ all_advanced i (p ∷ ps) = do
 
 -- ---- meetings
 
-abbrev pub with_term : Player → Term → Player
-with_term p t = record p { member = at_term p.member t }
+abbrev pub player_with_term : Player → Term → Player
+player_with_term p t = record p { member = at_term p.member t }
 
 -- both ends of a meeting move
 pub record Ends : Type 0 where
@@ -96,8 +96,8 @@ pub record Ends : Type 0 where
 abbrev pub met_by : Player → Player → Option Message → Option ℕ → Option Ends
 met_by s r (Some m) (Some c) =
     if m.channel == c then Some (record {
-      sender = with_term s (with_head (giving []) s.member.term);
-      receiver = with_term r (with_head (giving m.value) r.member.term);
+      sender = player_with_term s (with_head (giving []) s.member.term);
+      receiver = player_with_term r (with_head (giving m.value) r.member.term);
     }) else None
 met_by s r _ _ = None
 

@@ -22,7 +22,7 @@ use Rattle.te_cert.specs.declared.group.Group.{Group}
 use Rattle.te_cert.specs.declared.seat.Seat.{Seat}
 use Rattle.te_cert.specs.declared.seat.End.{End}
 use Rattle.te_cert.specs.declared.seat.End.TheVariants as ends
-use Rattle.te_cert.specs.Play.{PlayFault, no_letter, no_meeting, unfinished, letters_left, Player, Advance, Table, Played, ◌>>=◌, with_label, with_term, advanced, all_advanced, all_meet, endings}
+use Rattle.te_cert.specs.Play.{PlayFault, no_letter, no_meeting, unfinished, letters_left, Player, Advance, Table, Played, ◌>>=◌, with_label, player_with_term, advanced, all_advanced, all_meet, endings}
 use Rattle.te_cert.specs.Advances.{by_letters}
 
 -- ---- who enters
@@ -114,8 +114,8 @@ pub record TakesSeat (i : ℕ) (e : Entering) (cells : Cells) (before after : Li
 -- ---- meetings
 
 -- it goes on from its head with this value
-abbrev pub handed : List Atom → Player → Player
-handed v p = with_term p (with_head (giving v) p.member.term)
+abbrev pub player_handed : List Atom → Player → Player
+player_handed v p = player_with_term p (with_head (giving v) p.member.term)
 
 abbrev pub value_at : End → List Atom
 value_at ends.Sender = []
@@ -127,7 +127,7 @@ StandsAtEnd (ends.Receiver v) t = IsSome (receiving t)
 
 -- with its quiet steps done it is the other, its letters as before
 pub record PassesOn (v : List Atom) (p q : Player) : Type 0 where
-  pub settles : settled (handed v p).member ≡ q.member
+  pub settles : settled (player_handed v p).member ≡ q.member
   pub letters : p.letters ≡ q.letters
 
 -- what the one passes to the other where they stand so
@@ -136,19 +136,19 @@ passing (stops.Send c v) (stops.Recv d) = if c == d then Some v else None
 passing _ _ = None
 
 -- the member at place i goes on with the value and advances
-pub record GoesOn (i : ℕ) (v : List Atom) (before after : List Player) : Type 0 where
+pub record PlayerGoesOn (i : ℕ) (v : List Atom) (before after : List Player) : Type 0 where
   pub player : Player
   pub is_there : slice_get before i ≡ Some player
   pub end : Player
   pub word : List Label
-  pub advances : advanced i (handed v player) ≡ Ok (record { player = end; word = word })
+  pub advances : advanced i (player_handed v player) ≡ Ok (record { player = end; word = word })
   pub then_so : after ≡ slice_set before i end
 
 -- it lacks a letter then
 pub record Lacks (i : ℕ) (v : List Atom) (before : List Player) : Type 0 where
   pub player : Player
   pub is_there : slice_get before i ≡ Some player
-  pub lacks : advanced i (handed v player) ≡ Err (no_letter i)
+  pub lacks : advanced i (player_handed v player) ≡ Err (no_letter i)
 
 -- ---- tables
 
@@ -191,9 +191,9 @@ abbrev pub TellsFault : {A : Type 0} → Result A PlayFault → CertFault → Ty
 TellsFault r e = (e ≡ faults.Memory) ⊎ ((f : PlayFault) × (r ≡ Err f) × (e ≡ told f))
 
 -- the answer is that of a part of the play
-abbrev pub Tells : {A : Type 0} → Result A PlayFault → Result A CertFault → Type 0
-Tells (Ok x) answer = answer ≡ Ok x
-Tells (Err f) answer = answer ≡ Err (told f)
+abbrev pub TellsPart : {A : Type 0} → Result A PlayFault → Result A CertFault → Type 0
+TellsPart (Ok x) answer = answer ≡ Ok x
+TellsPart (Err f) answer = answer ≡ Err (told f)
 
 -- the answer has the outcomes of the play, or tells its fault
 abbrev pub PlaysTo : Result Played PlayFault → Result (List Outcome) CertFault → Type 0

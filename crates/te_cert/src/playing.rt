@@ -7,7 +7,7 @@ ghost use Rattle.te_cert.specs.declared.cert.CertFault.TheVariants as faults;
 ghost use Rattle.te_cert.specs.Play.{Player, meets, all_advanced, all_meet, endings};
 ghost use Rattle.te_cert.specs.Checks.{IsBetween, AreBetween};
 ghost use Rattle.te_cert.specs.Lending.{AreLent};
-ghost use Rattle.te_cert.specs.Players.{of_group, starts_of, seats_of, AreSeated, table_of, BecomesTable, GoesOn, Lacks, value_at, StandsAtEnd, passing, played_by, PlaysTo, TellsFault};
+ghost use Rattle.te_cert.specs.Players.{of_group, starts_of, seats_of, AreSeated, table_of, BecomesTable, PlayerGoesOn, Lacks, value_at, StandsAtEnd, passing, played_by, PlaysTo, TellsFault};
 
 use crate::cert::{CertFault, Meeting};
 use crate::group::Group;
@@ -152,7 +152,7 @@ fn go_on(
     requires stands { (p : Player) → slice_get (seats_of cells.old (of_group group.now) seats.old) i ≡ Some p → StandsAtEnd end p.member.term }
     ensures grows { Grows cells.old cells.new }
     ensures seated { OnOk result (AreSeated cells.new (of_group group.now) seats.new) }
-    ensures ok { OnOk result (GoesOn i (value_at end) (seats_of cells.old (of_group group.now) seats.old) (seats_of cells.new (of_group group.now) seats.new)) }
+    ensures ok { OnOk result (PlayerGoesOn i (value_at end) (seats_of cells.old (of_group group.now) seats.old) (seats_of cells.new (of_group group.now) seats.new)) }
     ensures err { IfErr result (λ e. (e ≡ faults.Memory) ⊎ ((e ≡ faults.Choices i) × Lacks i (value_at end) (seats_of cells.old (of_group group.now) seats.old))) }
 {
     let mut seat = seats[i as usize];

@@ -6,7 +6,7 @@ ghost use Rattle.te_path.specs.declared.spot.Stop.TheVariants.{Choice};
 ghost use Rattle.te_path.specs.Growth.{AreLinked, Grows};
 ghost use Rattle.te_path.specs.Spots.{spelled};
 ghost use Rattle.te_cert.specs.Play.{advanced, ending};
-ghost use Rattle.te_cert.specs.Players.{IsEntering, entered, start_of, seat_of, IsSeat, TakesSeat, Comes, handed, value_at, StandsAtEnd, PassesOn, TellsFault, Tells};
+ghost use Rattle.te_cert.specs.Players.{IsEntering, entered, start_of, seat_of, IsSeat, TakesSeat, Comes, player_handed, value_at, StandsAtEnd, PassesOn, TellsFault, TellsPart};
 
 use crate::cert::CertFault;
 use crate::group::Entrant;
@@ -69,7 +69,7 @@ pub(crate) fn hand(
     requires stands { StandsAtEnd end (spelled (entered entrant.now).origin cells.old seat.old.spot).term }
     ensures grows { Grows cells.old cells.new }
     ensures seat { IfOk result (λ done. IsSeat cells.new (entered entrant.now) seat.new) }
-    ensures comes { IfOk result (λ done. Comes (handed (value_at end) (seat_of cells.old (entered entrant.now) seat.old)) done (seat_of cells.new (entered entrant.now) seat.new)) }
+    ensures comes { IfOk result (λ done. Comes (player_handed (value_at end) (seat_of cells.old (entered entrant.now) seat.old)) done (seat_of cells.new (entered entrant.now) seat.new)) }
 {
     pass_on(cells, entrant, seat, end)?;
     advance(cells, entrant, seat)
@@ -123,7 +123,7 @@ pub(crate) fn ending(
     seat: &Seat,
 ) -> Result<Outcome, CertFault>
     requires { IsSeat cells.now (entered entrant.now) seat.now }
-    ensures { Tells (ending i (outcome_of (spelled (entered entrant.now).origin cells.now seat.now.spot).term) (drop seat.now.used (entered entrant.now).letters)) result }
+    ensures { TellsPart (ending i (outcome_of (spelled (entered entrant.now).origin cells.now seat.now.spot).term) (drop seat.now.used (entered entrant.now).letters)) result }
 {
     let outcome = match seat.spot.stop() {
         Stop::Done(value) => Outcome::Gives(value),

@@ -14,7 +14,7 @@ use Rattle.te_terms.specs.Expressions.{Variable, register, name, known, Primitiv
 use Rattle.te_terms.specs.Terms.{Term, always, never, fresh, throw, send, recv, and_then, choose, catch, when, name_to, bound}
 use Rattle.te_terms.specs.Steps.{Member, come_to, giving, raising, given_by, raised_by, outcome_of, thrown, send_trap, recv_trap, decided, under_then, under_catch, goes_on, is_caught, quiet_step_of, quiet_step, head, with_head}
 use Rattle.te_terms.specs.Joint.{Message, message, chosen_from, after_choice, sent_from, channel_at, received_on, sending, receiving}
-use Rattle.te_forms.specs.Rings.{IsRing, IsOf}
+use Rattle.te_forms.specs.Rings.{IsRing, IsOnRing}
 use Rattle.te_forms.specs.Privacy.{AtomAvoids, ValueAvoids, VariableAvoids, PrimitiveAvoids, CalculationAvoids, ExpressionAvoids, TermAvoids}
 
 pub all_at : {X : Type 0} (P : X → Type 0) (xs : List X) (i : ℕ) (x : X) → AllByRecursion P xs → slice_get xs i ≡ Some x → P x
@@ -69,12 +69,12 @@ module _ (ring : List ℕ) where
   expression_avoids (whole (name n)) v h e = absurd cc
   expression_avoids (tuple cs) v h e = calculated_avoid cs v h e
 
-  channel_avoids : (p : Primitive) (c : ℕ) → PrimitiveAvoids ring p → channel_value p ≡ Ok c → ¬ IsOf ring c
+  channel_avoids : (p : Primitive) (c : ℕ) → PrimitiveAvoids ring p → channel_value p ≡ Ok c → ¬ IsOnRing ring c
   channel_avoids p c h e = let atom = through (primitive_atom p) channel_of c e in by_atom atom.0 (primitive_avoids p atom.0 h atom.1) atom.2
     where
-      by_atom : (a : Atom) → AtomAvoids ring a → channel_of a ≡ Ok c → ¬ IsOf ring c
+      by_atom : (a : Atom) → AtomAvoids ring a → channel_of a ≡ Ok c → ¬ IsOnRing ring c
       by_atom (Int z) k is = absurd cc
-      by_atom (Chan d) k is = let same : d ≡ c = cc in subst (λ (x : ℕ). ¬ IsOf ring x) same k
+      by_atom (Chan d) k is = let same : d ≡ c = cc in subst (λ (x : ℕ). ¬ IsOnRing ring x) same k
 
   trap_avoids : (t : Trap) → TermAvoids ring (raising (trap_value t))
   trap_avoids Range = (tt, tt)
@@ -172,23 +172,23 @@ module _ (ring : List ℕ) where
   message_avoids (Ok c) (Ok v) m e = let is : record { channel = c; value = v } ≡ m = cc in (ap (λ (x : Message). Ok x.channel) is, ap (λ (x : Message). Ok x.value) is)
   message_avoids _ _ m e = absurd cc
 
-  sent_avoids : (t : Term) (m : Message) → TermAvoids ring t → sent_from t ≡ Some m → (¬ IsOf ring m.channel) × ValueAvoids ring m.value
+  sent_avoids : (t : Term) (m : Message) → TermAvoids ring t → sent_from t ≡ Some m → (¬ IsOnRing ring m.channel) × ValueAvoids ring m.value
   sent_avoids (send p e) m h is =
       let both = message_avoids (channel_value p) (value_of e) m is in (channel_avoids p m.channel h.0 both.0, expression_avoids e m.value h.1 both.1)
   sent_avoids _ m h is = absurd cc
 
-  pub sending_avoids : (t : Term) (m : Message) → TermAvoids ring t → sending t ≡ Some m → (¬ IsOf ring m.channel) × ValueAvoids ring m.value
+  pub sending_avoids : (t : Term) (m : Message) → TermAvoids ring t → sending t ≡ Some m → (¬ IsOnRing ring m.channel) × ValueAvoids ring m.value
   sending_avoids t m h is = sent_avoids (head t) m (head_avoids t h) is
 
   on_channel : (r : Result ℕ Trap) (c : ℕ) → channel_at r ≡ Some c → r ≡ Ok c
   on_channel (Ok d) c e = let is : d ≡ c = cc in ap Ok is
   on_channel (Err t) c e = absurd cc
 
-  received_avoids : (t : Term) (c : ℕ) → TermAvoids ring t → received_on t ≡ Some c → ¬ IsOf ring c
+  received_avoids : (t : Term) (c : ℕ) → TermAvoids ring t → received_on t ≡ Some c → ¬ IsOnRing ring c
   received_avoids (recv p) c h is = channel_avoids p c h (on_channel (channel_value p) c is)
   received_avoids _ c h is = absurd cc
 
-  pub receiving_avoids : (t : Term) (c : ℕ) → TermAvoids ring t → receiving t ≡ Some c → ¬ IsOf ring c
+  pub receiving_avoids : (t : Term) (c : ℕ) → TermAvoids ring t → receiving t ≡ Some c → ¬ IsOnRing ring c
   receiving_avoids t c h is = received_avoids (head t) c (head_avoids t h) is
 
   -- ---- choices
@@ -213,7 +213,7 @@ module _ (ring : List ℕ) where
     far : (x y : ℕ) → (2 ^ 30 + x + y) < 256 → ⊥
     far x y lt = omega arith
 
-    fresh_avoids : ¬ IsOf ring (fresh_channel thread ticket count)
+    fresh_avoids : ¬ IsOnRing ring (fresh_channel thread ticket count)
     fresh_avoids h = far _ count (is_ring.low h.0 _ h.1)
 
     come : (t : Term) (n : Member) → TermAvoids ring t → Some (come_to thread ticket count t) ≡ Some n → TermAvoids ring n.term

@@ -12,7 +12,7 @@ use Rattle.te_history.specs.Follows.{Stands, AreEvents}
 use Rattle.te_forms.specs.declared.form.Form.{Form}
 use Rattle.te_forms.specs.Rings.{IsRing}
 use Rattle.te_forms.specs.Forms.{IsForm}
-use Rattle.te_forms.specs.Privacy.{Fits, IsPrivate}
+use Rattle.te_forms.specs.Privacy.{FitsRing, IsPrivate}
 use Rattle.te_forms.specs.Handing.{FormMember}
 use Rattle.te_forms.specs.Reading.{form_in, form_at, marks_of}
 use Rattle.te_forms.proofs.Places.{one_event}
@@ -25,7 +25,7 @@ use Rattle.te_forms.proofs.Turns.{kind, kinds, kind_at}
 -- ---- where the ring is private, the events of a group fit
 
 module _ (ring : List ℕ) (callers : ℕ) (history : List Entry) (n : ℕ) (private_so : IsPrivate ring history) where
-  event_fits : (t k : ℕ) (e : Term) → Stands (state callers (take n history)) t (parked k e) → Fits ring e
+  event_fits : (t k : ℕ) (e : Term) → Stands (state callers (take n history)) t (parked k e) → FitsRing ring e
   event_fits t k e stands =
       let posted = posted_there t (take n history) e (parked_posted callers (take n history) t k e stands) in
       private_so posted.place t posted.ticket e (in_beginning n history posted.place _ posted.is_there)
@@ -42,7 +42,7 @@ module _ (ring : List ℕ) (callers : ℕ) (history : List Entry) (n : ℕ) (pri
 pub record PlaceAt (ring : List ℕ) (s : State) (members : List Member) (seats : List Seat) (i : ℕ) : Type 0 where
   pub member : Member
   pub event : Term
-  pub fit : Fits ring event
+  pub fit : FitsRing ring event
   pub member_at : slice_get members i ≡ Some member
   pub stands : Stands s member.thread (parked member.ticket event)
   pub seat_at : slice_get seats i ≡ Some (first_seat ring event fit)
@@ -80,11 +80,11 @@ module _ (ring : List ℕ) (is_ring : IsRing ring) (s : State) (members : List M
   pub kind_of : (i : ℕ) (p : PlaceAt ring s members seats i) → slice_get (kinds seats) i ≡ Some (kind (first_seat ring p.event p.fit))
   kind_of i p = kind_at seats i (first_seat ring p.event p.fit) p.seat_at
 
-  form_kind : (e : Term) (fit : Fits ring e) (f : Form) → IsForm ring f e → kind (first_seat ring e fit) ≡ Some f
+  form_kind : (e : Term) (fit : FitsRing ring e) (f : Form) → IsForm ring f e → kind (first_seat ring e fit) ≡ Some f
   form_kind e (inl own) f is = ap Some (one_form ring is_ring own.form f e own.is_form is)
   form_kind e (inr avoids) f is = absurd (form_names ring is_ring f e is avoids)
 
-  pub kind_form : (e : Term) (fit : Fits ring e) (f : Form) → kind (first_seat ring e fit) ≡ Some f → IsForm ring f e
+  pub kind_form : (e : Term) (fit : FitsRing ring e) (f : Form) → kind (first_seat ring e fit) ≡ Some f → IsForm ring f e
   kind_form e (inl own) f is = let same : own.form ≡ f = cc in subst (λ (x : Form). IsForm ring x e) same own.is_form
   kind_form e (inr avoids) f is = absurd cc
 
@@ -103,7 +103,7 @@ module _ (ring : List ℕ) (is_ring : IsRing ring) (s : State) (members : List M
   pub member_seat : (p : FormMember ring s members) → PlaceAt ring s members seats p.place → slice_get seats p.place ≡ Some (acting p.form begun)
   member_seat p q = q.seat_at ∙ ap Some (as_seat q.event q.fit p.form (subst (IsForm ring p.form) (same_event p q) p.is_form))
     where
-      as_seat : (e : Term) (fit : Fits ring e) (f : Form) → IsForm ring f e → first_seat ring e fit ≡ acting f begun
+      as_seat : (e : Term) (fit : FitsRing ring e) (f : Form) → IsForm ring f e → first_seat ring e fit ≡ acting f begun
       as_seat e (inl own) f is = ap (λ (x : Form). acting x begun) (one_form ring is_ring own.form f e own.is_form is)
       as_seat e (inr avoids) f is = absurd (form_names ring is_ring f e is avoids)
 
@@ -116,7 +116,7 @@ module _ (ring : List ℕ) (is_ring : IsRing ring) (s : State) (members : List M
 
   -- ---- marks
 
-  read_kind : (e : Term) (fit : Fits ring e) → form_in ring e ≡ kind (first_seat ring e fit)
+  read_kind : (e : Term) (fit : FitsRing ring e) → form_in ring e ≡ kind (first_seat ring e fit)
   read_kind e (inl own) = is_read ring is_ring own.form e own.is_form
   read_kind e (inr avoids) = by_reading (form_in ring e) refl
     where

@@ -9,12 +9,12 @@ use Rattle.te_terms.specs.Shape.{IsForest}
 use Rattle.te_forms.specs.declared.form.Form.{Form}
 use Rattle.te_forms.specs.declared.form.Form.TheVariants.{Swap, Barrier}
 use Rattle.te_forms.specs.declared.reading.Sent.{Sent}
-use Rattle.te_forms.specs.Reading.{under, both_under, parts_at, sent_by, received_by, gives_name, gives_unit, form_if, is_on, role_on, last_channel, waits_first, after_sending, sends_first, by_end, by_role, by_sent, receives_first, by_first, by_parts, form_in}
+use Rattle.te_forms.specs.Reading.{replaced_under, both_under, parts_at, sent_by, received_by, gives_name, gives_unit, form_if, is_on, role_on, last_channel, waits_first, form_after_sending, sends_first, by_end, by_role, by_sent, receives_first, by_first, by_parts, form_in}
 use Rattle.te_forms.proofs.NodesRead.{under_node}
 
 -- the children of a `then` are its parts
 pub then_parts : (code : List Node) (i a b : ℕ) → IsForest code → Some (nodes.Then a b) ≡ slice_get code i → (regs : List (List Atom)) (level : ℕ)
-    → parts_at level (under code regs level i) ≡ Some (both_under code regs level (a, b))
+    → parts_at level (replaced_under code regs level i) ≡ Some (both_under code regs level (a, b))
 then_parts code i a b forest at regs level =
     ap (parts_at level) (under_node code regs i (Some (nodes.Then a b)) forest at level)
     ∙ ap (λ (test : Bool). cond {A = Option (Term × Term)} test (Some (both_under code regs level (a, b))) None) (eq-eqb level level refl)
@@ -54,13 +54,13 @@ module _ (ring : List ℕ) (s : Sent) (t : Term) where
 
   pub sends_elsewhere : (first : ℕ) → first ≡ slice_index ring 0 → s.channel ≢ first → sending ≡ None
   sends_elsewhere first is other =
-      ap (λ (test : Bool). cond {A = Option Form} test (after_sending ring s (received_by t) (parts_at 1 t)) None) (ne_eqb s.channel (slice_index ring 0) (λ same. other (same ∙ sym is)))
+      ap (λ (test : Bool). cond {A = Option Form} test (form_after_sending ring s (received_by t) (parts_at 1 t)) None) (ne_eqb s.channel (slice_index ring 0) (λ same. other (same ∙ sym is)))
 
   module _ (first : ℕ) (is : first ≡ slice_index ring 0) (same : s.channel ≡ first) where
-    by_second : (o : Option ℕ) → received_by t ≡ o → sending ≡ after_sending ring s o (parts_at 1 t)
+    by_second : (o : Option ℕ) → received_by t ≡ o → sending ≡ form_after_sending ring s o (parts_at 1 t)
     by_second o received =
-        ap (λ (test : Bool). cond {A = Option Form} test (after_sending ring s (received_by t) (parts_at 1 t)) None) (eq-eqb s.channel (slice_index ring 0) (same ∙ is))
-        ∙ ap (λ (x : Option ℕ). after_sending ring s x (parts_at 1 t)) received
+        ap (λ (test : Bool). cond {A = Option Form} test (form_after_sending ring s (received_by t) (parts_at 1 t)) None) (eq-eqb s.channel (slice_index ring 0) (same ∙ is))
+        ∙ ap (λ (x : Option ℕ). form_after_sending ring s x (parts_at 1 t)) received
 
     pub sends_then_waits : (o : Option Form) → received_by t ≡ None → waiting ≡ o → sending ≡ o
     sends_then_waits o received so = by_second None received ∙ so

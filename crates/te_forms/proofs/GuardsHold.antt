@@ -18,14 +18,14 @@ use Rattle.te_terms.specs.Steps as steps
 use Rattle.te_terms.specs.Joint.{Message, sending, receiving}
 use Rattle.te_cert.specs.declared.cert.Member.{Member}
 use Rattle.te_cert.specs.declared.cert.Meeting.{Meeting}
-use Rattle.te_cert.specs.Play.{Player, Table, Advance, Ends, with_term, advanced, advance_within, met, ends_advance, meets, all_meet}
+use Rattle.te_cert.specs.Play.{Player, Table, Advance, Ends, player_with_term, advanced, advance_within, met, ends_advance, meets, all_meet}
 use Rattle.te_cert.proofs.AllAdvance.{through}
 use Rattle.te_cert.proofs.AllMeet.{who_met, ends_of}
 use Rattle.te_cert.proofs.Places.{get_set_same, get_set_other}
 use Rattle.te_history.specs.State.{state}
 use Rattle.te_history.proofs.Commits.{same_or_other}
 use Rattle.te_forms.specs.Forms.{guarded_term}
-use Rattle.te_forms.specs.Guards.{IsGuarded, IsHeld}
+use Rattle.te_forms.specs.Guards.{IsGuarded, GuardHolds}
 use Rattle.te_forms.proofs.Places.{group_at, one_event, player_at, outcome_at, parts_of}
 use Rattle.te_forms.proofs.Posts.{commits_so}
 
@@ -50,17 +50,17 @@ module _ (channel place : ℕ) (test : Test) (bound : ℤ) where
 
   -- ---- its steps
 
-  waits : (i : ℕ) (p : Player) → advanced i (with_term p (guarded_term channel place test bound)) ≡ Ok (record { player = with_term p (guarded_term channel place test bound); word = [] })
+  waits : (i : ℕ) (p : Player) → advanced i (player_with_term p (guarded_term channel place test bound)) ≡ Ok (record { player = player_with_term p (guarded_term channel place test bound); word = [] })
   waits i p = refl
 
   decides : (i : ℕ) (p : Player) (v : List Atom) (r : Result Bool Trap)
-      → advance_within 8 i (with_term p (decided r (giving v) never)) ≡ Ok (record { player = with_term p (decided r (giving v) never); word = [] })
+      → advance_within 8 i (player_with_term p (decided r (giving v) never)) ≡ Ok (record { player = player_with_term p (decided r (giving v) never); word = [] })
   decides i p v (Ok true) = refl
   decides i p v (Ok false) = refl
   decides i p v (Err Range) = refl
   decides i p v (Err Kind) = refl
 
-  receives : (i : ℕ) (p : Player) (v : List Atom) → advanced i (with_term p (with_head (giving v) (guarded_term channel place test bound))) ≡ Ok (record { player = with_term p (after v); word = [] })
+  receives : (i : ℕ) (p : Player) (v : List Atom) → advanced i (player_with_term p (with_head (giving v) (guarded_term channel place test bound))) ≡ Ok (record { player = player_with_term p (after v); word = [] })
   receives i p v = decides i p v (tested v)
 
   sends_nothing : (v : List Atom) (r : Result Bool Trap) → sending (decided r (giving v) never) ≡ None
@@ -83,16 +83,16 @@ module _ (channel place : ℕ) (test : Test) (bound : ℤ) where
   -- ---- a meeting
 
   received : (i : ℕ) (p : Player) (a : Advance) (v : List Atom) → p.member.term ≡ guarded_term channel place test bound
-      → advanced i (with_term p (with_head (giving v) p.member.term)) ≡ Ok a → a.player.member.term ≡ after v
+      → advanced i (player_with_term p (with_head (giving v) p.member.term)) ≡ Ok a → a.player.member.term ≡ after v
   received i p a v is goes =
-      let there : advanced i (with_term p (with_head (giving v) p.member.term)) ≡ Ok (record { player = with_term p (after v); word = [] }) =
-      subst (λ (t : Term). advanced i (with_term p (with_head (giving v) t)) ≡ Ok (record { player = with_term p (after v); word = [] })) (sym is) (receives i p v) in
-      let both : Ok a ≡ Ok (record { player = with_term p (after v); word = [] }) = sym goes ∙ there in
-      let same : a ≡ record { player = with_term p (after v); word = [] } = cc in
+      let there : advanced i (player_with_term p (with_head (giving v) p.member.term)) ≡ Ok (record { player = player_with_term p (after v); word = [] }) =
+      subst (λ (t : Term). advanced i (player_with_term p (with_head (giving v) t)) ≡ Ok (record { player = player_with_term p (after v); word = [] })) (sym is) (receives i p v) in
+      let both : Ok a ≡ Ok (record { player = player_with_term p (after v); word = [] }) = sym goes ∙ there in
+      let same : a ≡ record { player = player_with_term p (after v); word = [] } = cc in
       ap (λ (x : Advance). x.player.member.term) same
 
   moved : (i : ℕ) (p : Player) (a : Advance) (v : List Atom) (c : ℕ) → Stand p.member.term → receiving p.member.term ≡ Some c
-      → advanced i (with_term p (with_head (giving v) p.member.term)) ≡ Ok a → Stand a.player.member.term
+      → advanced i (player_with_term p (with_head (giving v) p.member.term)) ≡ Ok a → Stand a.player.member.term
   moved i p a v c (inl is) waiting goes = inr (v, received i p a v is goes)
   moved i p a v c (inr has) waiting goes = absurd (never_receives has.0 p.member.term c has.1 waiting)
 
@@ -102,7 +102,7 @@ module _ (channel place : ℕ) (test : Test) (bound : ℤ) where
   -- both ends have moved
   module _ (i : ℕ) (m : Meeting) (ps : List Player) (s r : Player) (sent : Message) (c : ℕ) (a b : Advance) (at : StandsAt ps i)
       (s_is : slice_get ps m.sender ≡ Some s) (r_is : slice_get ps m.receiver ≡ Some r) (sends : sending s.member.term ≡ Some sent) (waiting : receiving r.member.term ≡ Some c)
-      (r_goes : advanced m.receiver (with_term r (with_head (giving sent.value) r.member.term)) ≡ Ok b) where
+      (r_goes : advanced m.receiver (player_with_term r (with_head (giving sent.value) r.member.term)) ≡ Ok b) where
     abbrev once : List Player
     once = slice_set ps m.sender a.player
 
@@ -136,8 +136,8 @@ module _ (channel place : ℕ) (test : Test) (bound : ℤ) where
   met_so i j m t u (Some ends) at so e =
       let who = who_met (slice_get t.players m.sender) (slice_get t.players m.receiver) ends so in
       let goes : ends_advance j m t (Some (ends_of who.sender who.receiver who.fit.sent)) ≡ Ok u = subst (λ (x : Ends). ends_advance j m t (Some x) ≡ Ok u) (sym who.ends_are) e in
-      let first = through (advanced m.sender (with_term who.sender (with_head (giving []) who.sender.member.term))) _ u goes in
-      let second = through (advanced m.receiver (with_term who.receiver (with_head (giving who.fit.sent.value) who.receiver.member.term))) _ u first.2 in
+      let first = through (advanced m.sender (player_with_term who.sender (with_head (giving []) who.sender.member.term))) _ u goes in
+      let second = through (advanced m.receiver (player_with_term who.receiver (with_head (giving who.fit.sent.value) who.receiver.member.term))) _ u first.2 in
       let made = second.2 in
       let players : slice_set (slice_set t.players m.sender first.0.player) m.receiver second.0.player ≡ u.players = cc in
       subst (λ (ps : List Player). StandsAt ps i) players
@@ -156,10 +156,10 @@ module _ (channel place : ℕ) (test : Test) (bound : ℤ) where
       → advanced k (record { member = g; letters = letters }) ≡ Ok a → slice_get ps i ≡ Some a.player → StandsAt ps i
   starts k i g letters a ps is goes at =
       let p : Player = record { member = g; letters = letters } in
-      let there : advanced k p ≡ Ok (record { player = with_term p (guarded_term channel place test bound); word = [] }) =
-      subst (λ (t : Term). advanced k (with_term p t) ≡ Ok (record { player = with_term p (guarded_term channel place test bound); word = [] })) (sym is) (waits k p) in
-      let both : Ok a ≡ Ok (record { player = with_term p (guarded_term channel place test bound); word = [] }) = sym goes ∙ there in
-      let same : a ≡ record { player = with_term p (guarded_term channel place test bound); word = [] } = cc in
+      let there : advanced k p ≡ Ok (record { player = player_with_term p (guarded_term channel place test bound); word = [] }) =
+      subst (λ (t : Term). advanced k (player_with_term p t) ≡ Ok (record { player = player_with_term p (guarded_term channel place test bound); word = [] })) (sym is) (waits k p) in
+      let both : Ok a ≡ Ok (record { player = player_with_term p (guarded_term channel place test bound); word = [] }) = sym goes ∙ there in
+      let same : a ≡ record { player = player_with_term p (guarded_term channel place test bound); word = [] } = cc in
       record { player = a.player; is_there = at; stands = inl (ap (λ (x : Advance). x.player.member.term) same) }
 
   -- only an atom of another kind, or none, traps
@@ -189,7 +189,7 @@ module _ (channel place : ℕ) (test : Test) (bound : ℤ) where
 
   -- ---- each commit
 
-  pub held : IsHeld place test bound (guarded_term channel place test bound)
+  pub held : GuardHolds place test bound (guarded_term channel place test bound)
   held callers history n by cert outcomes loose at i m m_at stands =
       let commits = commits_so callers history n by cert outcomes loose at in
       let here = group_at (state callers (take n history)) cert.members commits.group i m commits.events m_at in
@@ -204,6 +204,6 @@ module _ (channel place : ℕ) (test : Test) (bound : ℤ) where
 
 -- so is the event that is made of this term
 pub all_held : {E : Type 0} (channel place : ℕ) (test : Test) (bound : ℤ) (r : Result Term E) → IfOk r (λ event. event ≡ guarded_term channel place test bound)
-    → IfOk r (λ event. IsHeld place test bound event)
-all_held channel place test bound (Ok event) is = subst (IsHeld place test bound) (sym is) (held channel place test bound)
+    → IfOk r (λ event. GuardHolds place test bound event)
+all_held channel place test bound (Ok event) is = subst (GuardHolds place test bound) (sym is) (held channel place test bound)
 all_held channel place test bound (Err e) is = tt

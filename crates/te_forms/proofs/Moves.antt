@@ -7,12 +7,12 @@ use Rattle.te_terms.specs.Terms.{Term}
 use Rattle.te_terms.specs.Steps.{giving, with_head}
 use Rattle.te_terms.specs.Joint.{Message, sending, receiving}
 use Rattle.te_cert.specs.declared.cert.Meeting.{Meeting}
-use Rattle.te_cert.specs.Play.{Player, Table, Advance, Ends, with_term, advanced, met, ends_advance, meets, all_meet}
+use Rattle.te_cert.specs.Play.{Player, Table, Advance, Ends, player_with_term, advanced, met, ends_advance, meets, all_meet}
 use Rattle.te_cert.proofs.AllAdvance.{through}
 use Rattle.te_cert.proofs.AllMeet.{who_met, ends_of}
 use Rattle.te_cert.proofs.Places.{set_own}
 use Rattle.te_forms.specs.declared.form.Form.{Form}
-use Rattle.te_forms.specs.Rings.{IsRing, IsOf, role_before}
+use Rattle.te_forms.specs.Rings.{IsRing, IsOnRing, role_before}
 use Rattle.te_forms.specs.Forms.{role_of, offer_of}
 use Rattle.te_forms.proofs.Avoiding.{replaced_avoids, sending_avoids, receiving_avoids}
 use Rattle.te_forms.proofs.AdvancesAvoid.{advance_avoids}
@@ -88,37 +88,37 @@ module _ (ring : List ℕ) (is_ring : IsRing ring) where
     at_receive : (v : List Atom) (c : ℕ) → receiving t ≡ Some c → (next : Stage) × (after_receive (role_of f) v s ≡ Some next) × (own_source ring f ≡ c)
     at_receive v c e = due (after_receive (role_of f) v s) (own_source ring f) c (sym (receives_at ring f v s) ∙ ap receiving (sym is) ∙ e)
 
-  own_channel : (f : Form) → role_of f < length ring → IsOf ring (own_message ring f).channel
+  own_channel : (f : Form) → role_of f < length ring → IsOnRing ring (own_message ring f).channel
   own_channel f lt = (role_of f, in_ring ring (role_of f) lt)
 
-  own_source_in : (f : Form) → role_of f < length ring → IsOf ring (own_source ring f)
+  own_source_in : (f : Form) → role_of f < length ring → IsOnRing ring (own_source ring f)
   own_source_in f lt = (role_before (length ring) (role_of f), in_ring ring (role_before (length ring) (role_of f)) (before_within (length ring) (role_of f) lt))
 
   -- where a player has sent or received, and has advanced
   sender_seated : (i : ℕ) (p : Player) (a : Advance) (f : Form) (s next : Stage) → IsSeated ring (acting f s) p → after_send (role_of f) s ≡ Some next
-      → advanced i (with_term p (with_head (giving []) p.member.term)) ≡ Ok a → IsSeated ring (acting f next) a.player
+      → advanced i (player_with_term p (with_head (giving []) p.member.term)) ≡ Ok a → IsSeated ring (acting f next) a.player
   sender_seated i p a f s next seat due goes =
-      let there : advanced i (with_term p (with_head (giving []) p.member.term)) ≡ Ok (record { player = with_term p (stage_term ring f next); word = [] }) =
-      subst (λ (t : Term). advanced i (with_term p (with_head (giving []) t)) ≡ Ok (record { player = with_term p (stage_term ring f next); word = [] })) (sym seat.1)
+      let there : advanced i (player_with_term p (with_head (giving []) p.member.term)) ≡ Ok (record { player = player_with_term p (stage_term ring f next); word = [] }) =
+      subst (λ (t : Term). advanced i (player_with_term p (with_head (giving []) t)) ≡ Ok (record { player = player_with_term p (stage_term ring f next); word = [] })) (sym seat.1)
       (has_sent ring i p f s next due) in
-      let both : Ok a ≡ Ok (record { player = with_term p (stage_term ring f next); word = [] }) = sym goes ∙ there in
-      let same : a ≡ record { player = with_term p (stage_term ring f next); word = [] } = cc in
+      let both : Ok a ≡ Ok (record { player = player_with_term p (stage_term ring f next); word = [] }) = sym goes ∙ there in
+      let same : a ≡ record { player = player_with_term p (stage_term ring f next); word = [] } = cc in
       (seat.0, ap (λ (x : Advance). x.player.member.term) same)
 
   receiver_seated : (i : ℕ) (p : Player) (a : Advance) (f : Form) (v : List Atom) (s next : Stage) → IsSeated ring (acting f s) p → after_receive (role_of f) v s ≡ Some next
-      → advanced i (with_term p (with_head (giving v) p.member.term)) ≡ Ok a → IsSeated ring (acting f next) a.player
+      → advanced i (player_with_term p (with_head (giving v) p.member.term)) ≡ Ok a → IsSeated ring (acting f next) a.player
   receiver_seated i p a f v s next seat due goes =
-      let there : advanced i (with_term p (with_head (giving v) p.member.term)) ≡ Ok (record { player = with_term p (stage_term ring f next); word = [] }) =
-      subst (λ (t : Term). advanced i (with_term p (with_head (giving v) t)) ≡ Ok (record { player = with_term p (stage_term ring f next); word = [] })) (sym seat.1)
+      let there : advanced i (player_with_term p (with_head (giving v) p.member.term)) ≡ Ok (record { player = player_with_term p (stage_term ring f next); word = [] }) =
+      subst (λ (t : Term). advanced i (player_with_term p (with_head (giving v) t)) ≡ Ok (record { player = player_with_term p (stage_term ring f next); word = [] })) (sym seat.1)
       (has_received ring i p f v s next due) in
-      let both : Ok a ≡ Ok (record { player = with_term p (stage_term ring f next); word = [] }) = sym goes ∙ there in
-      let same : a ≡ record { player = with_term p (stage_term ring f next); word = [] } = cc in
+      let both : Ok a ≡ Ok (record { player = player_with_term p (stage_term ring f next); word = [] }) = sym goes ∙ there in
+      let same : a ≡ record { player = player_with_term p (stage_term ring f next); word = [] } = cc in
       (seat.0, ap (λ (x : Advance). x.player.member.term) same)
 
   module _ (seats : List Seat) (m : Meeting) (ps : List Player) (all : AllSeated ring seats ps) (s r : Player) (sent : Message) (channel : ℕ) (a b : Advance)
       (sends : sending s.member.term ≡ Some sent) (receives : receiving r.member.term ≡ Some channel) (one_channel : sent.channel ≡ channel)
-      (s_goes : advanced m.sender (with_term s (with_head (giving []) s.member.term)) ≡ Ok a)
-      (r_goes : advanced m.receiver (with_term r (with_head (giving sent.value) r.member.term)) ≡ Ok b) where
+      (s_goes : advanced m.sender (player_with_term s (with_head (giving []) s.member.term)) ≡ Ok a)
+      (r_goes : advanced m.receiver (player_with_term r (with_head (giving sent.value) r.member.term)) ≡ Ok b) where
     abbrev players : List Player
     players = slice_set (slice_set ps m.sender a.player) m.receiver b.player
 
@@ -134,11 +134,11 @@ module _ (ring : List ℕ) (is_ring : IsRing ring) where
     by_seats stranger (acting g t) x_at y_at x_is y_is =
         let got = at_receive g t r.member.term y_is.1 sent.value channel receives in
         absurd ((sending_avoids ring s.member.term sent x_is sends).0
-        (subst (IsOf ring) (got.2 ∙ sym one_channel) (own_source_in g y_is.0)))
+        (subst (IsOnRing ring) (got.2 ∙ sym one_channel) (own_source_in g y_is.0)))
     by_seats (acting f t) stranger x_at y_at x_is y_is =
         let gave = at_send f t s.member.term x_is.1 sent sends in
         absurd (receiving_avoids ring r.member.term channel y_is receives
-        (subst (IsOf ring) (ap (λ (x : Message). x.channel) gave.2 ∙ one_channel) (own_channel f x_is.0)))
+        (subst (IsOnRing ring) (ap (λ (x : Message). x.channel) gave.2 ∙ one_channel) (own_channel f x_is.0)))
     by_seats (acting f t) (acting g u) x_at y_at x_is y_is =
         let gave = at_send f t s.member.term x_is.1 sent sends in
         let got = at_receive g u r.member.term y_is.1 (offer_of f) channel receives in
@@ -160,8 +160,8 @@ module _ (ring : List ℕ) (is_ring : IsRing ring) where
           receives = got.1;
         } in
         let a_is = sender_seated m.sender s a f t gave.0 x_is gave.1 s_goes in
-        let goes : advanced m.receiver (with_term r (with_head (giving (offer_of f)) r.member.term)) ≡ Ok b =
-        subst (λ (v : List Atom). advanced m.receiver (with_term r (with_head (giving v) r.member.term)) ≡ Ok b) value r_goes in
+        let goes : advanced m.receiver (player_with_term r (with_head (giving (offer_of f)) r.member.term)) ≡ Ok b =
+        subst (λ (v : List Atom). advanced m.receiver (player_with_term r (with_head (giving v) r.member.term)) ≡ Ok b) value r_goes in
         let b_is = receiver_seated m.receiver r b g (offer_of f) u got.0 y_is got.1 goes in
         comes_on h (seats_set ring (slice_set seats m.sender (acting f gave.0)) (slice_set ps m.sender a.player) m.receiver (acting g got.0) b.player
         (seats_set ring seats ps m.sender (acting f gave.0) a.player all a_is) b_is)
@@ -172,8 +172,8 @@ module _ (ring : List ℕ) (is_ring : IsRing ring) where
   met_comes seats j m t u (Some ends) all so e =
       let who = who_met (slice_get t.players m.sender) (slice_get t.players m.receiver) ends so in
       let goes : ends_advance j m t (Some (ends_of who.sender who.receiver who.fit.sent)) ≡ Ok u = subst (λ (x : Ends). ends_advance j m t (Some x) ≡ Ok u) (sym who.ends_are) e in
-      let first = through (advanced m.sender (with_term who.sender (with_head (giving []) who.sender.member.term))) _ u goes in
-      let second = through (advanced m.receiver (with_term who.receiver (with_head (giving who.fit.sent.value) who.receiver.member.term))) _ u first.2 in
+      let first = through (advanced m.sender (player_with_term who.sender (with_head (giving []) who.sender.member.term))) _ u goes in
+      let second = through (advanced m.receiver (player_with_term who.receiver (with_head (giving who.fit.sent.value) who.receiver.member.term))) _ u first.2 in
       let made = second.2 in
       let players : slice_set (slice_set t.players m.sender first.0.player) m.receiver second.0.player ≡ u.players = cc in
       let x = seat_at ring seats t.players m.sender who.sender all who.sender_is in

@@ -8,9 +8,9 @@ use Rattle.te_history.specs.declared.entry.Entry.{Entry}
 use Rattle.te_history.specs.declared.entry.Entry.TheVariants.{Post}
 use Rattle.std.proofs.lemmas.Option.{slice_get_within}
 use Rattle.te_forms.specs.declared.form.Form.{Form}
-use Rattle.te_forms.specs.Rings.{IsRing, IsOf}
+use Rattle.te_forms.specs.Rings.{IsRing, IsOnRing}
 use Rattle.te_forms.specs.Forms.{offer_of}
-use Rattle.te_forms.specs.Privacy.{ValueAvoids, VariableAvoids, TermAvoids, Fits, IsPrivate}
+use Rattle.te_forms.specs.Privacy.{ValueAvoids, VariableAvoids, TermAvoids, FitsRing, IsPrivate}
 use Rattle.te_forms.specs.Reading.{role_on, form_in, EntryFits}
 use Rattle.te_forms.proofs.Avoiding.{all_at}
 use Rattle.std.proofs.lemmas.Bool.{cases_lt}
@@ -18,10 +18,10 @@ use Rattle.te_forms.proofs.Recognized.{role_found, no_role, is_read, read_is, fo
 
 -- ---- channels
 
-pub is_of : (ring : List ℕ) (c role : ℕ) → Some role ≡ role_on ring c → IsTrue false ↔ ¬ IsOf ring c
+pub is_of : (ring : List ℕ) (c role : ℕ) → Some role ≡ role_on ring c → IsTrue false ↔ ¬ IsOnRing ring c
 is_of ring c role e = (λ t. absurd cc, λ apart. absurd (apart (role, role_found ring c role (sym e))))
 
-pub is_none_of : (ring : List ℕ) (c : ℕ) → None ≡ role_on ring c → IsTrue true ↔ ¬ IsOf ring c
+pub is_none_of : (ring : List ℕ) (c : ℕ) → None ≡ role_on ring c → IsTrue true ↔ ¬ IsOnRing ring c
 is_none_of ring c e = (λ t. λ has. no_role ring c (sym e) has.0 has.1, λ apart. refl)
 
 -- ---- lists of items
@@ -63,23 +63,23 @@ unknown_tells ring regs r at = subst (λ (o : Option (List Atom)). IsTrue true �
 -- ---- events
 
 module _ (ring : List ℕ) (is_ring : IsRing ring) (t : Term) (test : Bool) where
-  pub form_fits : (f : Form) → form_in ring t ≡ Some f → (IsTrue test ↔ ValueAvoids ring (offer_of f)) → IsTrue test ↔ Fits ring t
+  pub form_fits : (f : Form) → form_in ring t ≡ Some f → (IsTrue test ↔ ValueAvoids ring (offer_of f)) → IsTrue test ↔ FitsRing ring t
   form_fits f read tells = (
     λ yes. inl (record { form = f; is_form = read_is ring is_ring t f read; offer_avoids = tells.0 yes }),
     λ fit. tells.1 (by_fit fit),
   )
     where
-      by_fit : Fits ring t → ValueAvoids ring (offer_of f)
+      by_fit : FitsRing ring t → ValueAvoids ring (offer_of f)
       by_fit (inl own) =
           let both : Some own.form ≡ Some f = sym (is_read ring is_ring own.form t own.is_form) ∙ read in
           let same : own.form ≡ f = cc in
           subst (λ (g : Form). ValueAvoids ring (offer_of g)) same own.offer_avoids
       by_fit (inr avoids) = absurd (form_names ring is_ring f t (read_is ring is_ring t f read) avoids)
 
-  pub other_fits : form_in ring t ≡ None → (IsTrue test ↔ TermAvoids ring t) → IsTrue test ↔ Fits ring t
+  pub other_fits : form_in ring t ≡ None → (IsTrue test ↔ TermAvoids ring t) → IsTrue test ↔ FitsRing ring t
   other_fits read tells = (λ yes. inr (tells.0 yes), λ fit. tells.1 (by_fit fit))
     where
-      by_fit : Fits ring t → TermAvoids ring t
+      by_fit : FitsRing ring t → TermAvoids ring t
       by_fit (inl own) = let both : Some own.form ≡ None = sym (is_read ring is_ring own.form t own.is_form) ∙ read in absurd cc
       by_fit (inr avoids) = avoids
 

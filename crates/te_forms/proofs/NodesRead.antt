@@ -10,7 +10,7 @@ use Rattle.te_terms.specs.Shape.{children, IsForest}
 use Rattle.te_terms.specs.Kept.{formed, second_level}
 use Rattle.te_terms.proofs.TermLemmas.{term_at_is}
 use Rattle.te_forms.specs.Privacy.{TermAvoids}
-use Rattle.te_forms.specs.Reading.{under}
+use Rattle.te_forms.specs.Reading.{replaced_under}
 
 -- ---- the term of a node
 
@@ -19,7 +19,7 @@ pub node_at : (code : List Node) (i : ℕ) (o : Option Node) → IsForest code �
 node_at code i o forest at level = term_at_is code forest.earlier level i ∙ ap (over (term_at code) level) (sym at)
 
 pub under_node : (code : List Node) (regs : List (List Atom)) (i : ℕ) (o : Option Node) → IsForest code → o ≡ slice_get code i → (level : ℕ)
-    → under code regs level i ≡ replaced (registers_to regs) (over (term_at code) level o)
+    → replaced_under code regs level i ≡ replaced (registers_to regs) (over (term_at code) level o)
 under_node code regs i o forest at level = ap (replaced (registers_to regs)) (node_at code i o forest at level)
 
 leaf_formed : (f : ℕ → ℕ → Term) (level : ℕ) (m : Node) → children m ≡ [] → over f level (Some m) ≡ formed m level never never
@@ -94,20 +94,20 @@ module _ (ring : List ℕ) (regs : List (List Atom)) where
     whole : (level : ℕ) → term_at code level i ≡ over (term_at code) level (Some m)
     whole level = node_at code i (Some m) forest at level
 
-    pub leaf_tells : (test : Bool) → children m ≡ [] → ((level : ℕ) → IsTrue test ↔ Avoids (formed m level never never)) → (level : ℕ) → IsTrue test ↔ TermAvoids ring (under code regs level i)
+    pub leaf_tells : (test : Bool) → children m ≡ [] → ((level : ℕ) → IsTrue test ↔ Avoids (formed m level never never)) → (level : ℕ) → IsTrue test ↔ TermAvoids ring (replaced_under code regs level i)
     leaf_tells test none tells level =
         subst (λ (t : Term). IsTrue test ↔ Avoids t) (sym (whole level ∙ leaf_formed (term_at code) level m none)) (tells level)
 
     -- where the node itself names one
-    pub node_names : ((level : ℕ) → IsTrue false ↔ Avoids (formed m level never never)) → (level : ℕ) → IsTrue false ↔ TermAvoids ring (under code regs level i)
+    pub node_names : ((level : ℕ) → IsTrue false ↔ Avoids (formed m level never never)) → (level : ℕ) → IsTrue false ↔ TermAvoids ring (replaced_under code regs level i)
     node_names tells level = (λ t. absurd cc, λ all. (tells level).1 (over_avoids (term_at code) level m (subst Avoids (whole level) all)))
 
     inner : (a b : ℕ) → children m ≡ a ∷ b ∷ [] → (level : ℕ) → term_at code level i ≡ formed m level (term_at code level a) (term_at code (second_level m level) b)
     inner a b two level = whole level ∙ two_formed (term_at code) level m a b two
 
     -- where its first part does
-    pub first_names : (a b : ℕ) → children m ≡ a ∷ b ∷ [] → ((level : ℕ) → IsTrue false ↔ TermAvoids ring (under code regs level a))
-        → (level : ℕ) → IsTrue false ↔ TermAvoids ring (under code regs level i)
+    pub first_names : (a b : ℕ) → children m ≡ a ∷ b ∷ [] → ((level : ℕ) → IsTrue false ↔ TermAvoids ring (replaced_under code regs level a))
+        → (level : ℕ) → IsTrue false ↔ TermAvoids ring (replaced_under code regs level i)
     first_names a b two tells level = (
       λ t. absurd cc,
       λ all. (tells level).1 (both_avoid level m a b (term_at code level a) (term_at code (second_level m level) b) two (subst Avoids (inner a b two level) all)).0,
@@ -115,8 +115,8 @@ module _ (ring : List ℕ) (regs : List (List Atom)) where
 
     -- and where only its second part may
     pub second_tells : (test : Bool) (a b : ℕ) → children m ≡ a ∷ b ∷ [] → ((level : ℕ) → IsTrue true ↔ Avoids (formed m level never never))
-        → ((level : ℕ) → IsTrue true ↔ TermAvoids ring (under code regs level a)) → ((level : ℕ) → IsTrue test ↔ TermAvoids ring (under code regs level b))
-        → (level : ℕ) → IsTrue test ↔ TermAvoids ring (under code regs level i)
+        → ((level : ℕ) → IsTrue true ↔ TermAvoids ring (replaced_under code regs level a)) → ((level : ℕ) → IsTrue test ↔ TermAvoids ring (replaced_under code regs level b))
+        → (level : ℕ) → IsTrue test ↔ TermAvoids ring (replaced_under code regs level i)
     second_tells test a b two own first second level = (
       λ t. subst Avoids (sym (inner a b two level))
           (parts_avoid level m a b (term_at code level a) (term_at code (second_level m level) b) two ((own level).0 refl) ((first level).0 refl) ((second (second_level m level)).0 t)),

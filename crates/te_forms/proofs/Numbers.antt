@@ -13,7 +13,7 @@ use Rattle.te_history.proofs.Commits.{same_or_other}
 use Rattle.te_forms.specs.declared.form.Form.{Form}
 use Rattle.te_forms.specs.Rings.{IsRing, role_before}
 use Rattle.te_forms.specs.Forms.{role_of, IsForm}
-use Rattle.te_forms.specs.Privacy.{TermAvoids, Fits}
+use Rattle.te_forms.specs.Privacy.{TermAvoids, FitsRing}
 use Rattle.te_forms.specs.Handing.{FormMember, NumberOf, none, one_more, as_many, HasRole, AreEven}
 use Rattle.te_forms.proofs.Places.{one_event}
 use Rattle.te_forms.proofs.Recognized.{one_form, form_names}
@@ -57,7 +57,7 @@ module _ (ring : List ℕ) (is_ring : IsRing ring) where
     no_form : TermAvoids ring e → HasRole ring s role m → ⊥
     no_form avoids h = form_names ring is_ring h.form e (its_form h) avoids
 
-    counts : (ms : List Member) (rest : ℕ) (fit : Fits ring e) → NumberOf (HasRole ring s role) ms rest
+    counts : (ms : List Member) (rest : ℕ) (fit : FitsRing ring e) → NumberOf (HasRole ring s role) ms rest
         → NumberOf (HasRole ring s role) (m ∷ ms) (leaves roles role (first_seat ring e fit) + rest)
     counts ms rest (inl own) others = by_role (same_or_other (role_of own.form) role)
       where
@@ -90,7 +90,7 @@ module _ (ring : List ℕ) (is_ring : IsRing ring) where
   same_before (suc i) zero lt lt' e = absurd (omega (arith, e, lt, lt'))
   same_before (suc i) (suc j) lt lt' e = ap suc e
 
-  one_awaits : (role : ℕ) → role < roles → (e : Term) (fit : Fits ring e) → awaits roles (role_before roles role) (first_seat ring e fit) ≡ leaves roles role (first_seat ring e fit)
+  one_awaits : (role : ℕ) → role < roles → (e : Term) (fit : FitsRing ring e) → awaits roles (role_before roles role) (first_seat ring e fit) ≡ leaves roles role (first_seat ring e fit)
   one_awaits role lt e (inl own) = by_role (same_or_other (role_of own.form) role)
     where
       by_role : (role_of own.form ≡ role) ⊎ (role_of own.form ≢ role)

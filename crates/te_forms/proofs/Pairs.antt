@@ -13,7 +13,7 @@ use Rattle.te_forms.specs.declared.pair.Handed.{Handed}
 use Rattle.te_forms.specs.declared.form.Form.{Form}
 use Rattle.te_forms.specs.Rings.{IsRing, role_before, role_after}
 use Rattle.te_forms.specs.Forms.{role_of, offer_of}
-use Rattle.te_forms.specs.Handing.{FormMember, HandsOn, AreHanded, nobody, hands_on, others, times_giver, times_taker, IsBetween, NobodyElse, GoRound, outcome_by, AreGiven}
+use Rattle.te_forms.specs.Handing.{FormMember, HandsOn, AreHanded, nobody, hands_on, others, times_giver, times_taker, StandsBetween, NobodyElse, GoRound, outcome_by, AreGiven}
 use Rattle.te_forms.specs.Reading.{pair_if, pair_in}
 use Rattle.te_forms.proofs.Seats.{Seat}
 use Rattle.te_forms.proofs.Turns.{kinds}
@@ -242,10 +242,10 @@ module _ (ring : List ℕ) (s : State) (members : List Member) (marks : List Boo
         record { giver = q.giver; taker = q.taker; gives = ap (λ (x : Handed). x.giver) q.pair; takes = ap (λ (x : Handed). x.taker) q.pair }
 
     -- the pair's own form members are those that a reader finds in it
-    its_giver : (h : Handed) (q : IsPair ring s members os h) (b : IsBetween ring s members h) → (q.giver.place ≡ b.giver.place) × (q.giver.form ≡ b.giver.form)
+    its_giver : (h : Handed) (q : IsPair ring s members os h) (b : StandsBetween ring s members h) → (q.giver.place ≡ b.giver.place) × (q.giver.form ≡ b.giver.form)
     its_giver h q b = same_party q.giver b.giver (sym (ap (λ (x : Handed). x.giver) q.pair) ∙ b.gives)
 
-    its_taker : (h : Handed) (q : IsPair ring s members os h) (b : IsBetween ring s members h) → (q.taker.place ≡ b.taker.place) × (q.taker.form ≡ b.taker.form)
+    its_taker : (h : Handed) (q : IsPair ring s members os h) (b : StandsBetween ring s members h) → (q.taker.place ≡ b.taker.place) × (q.taker.form ≡ b.taker.form)
     its_taker h q b = same_party q.taker b.taker (sym (ap (λ (x : Handed). x.taker) q.pair) ∙ b.takes)
 
     pub go_round : GoRound ring s members (pairs ms)

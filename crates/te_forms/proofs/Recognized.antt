@@ -10,10 +10,10 @@ use Rattle.te_terms.specs.Steps.{giving}
 use Rattle.te_forms.specs.declared.form.Form.{Form}
 use Rattle.te_forms.specs.declared.form.Form.TheVariants.{Swap, Barrier}
 use Rattle.te_forms.specs.declared.reading.Sent.{Sent}
-use Rattle.te_forms.specs.Rings.{IsRing, IsOf}
-use Rattle.te_forms.specs.Forms.{term_of, role_of, IsForm}
+use Rattle.te_forms.specs.Rings.{IsRing, IsOnRing}
+use Rattle.te_forms.specs.Forms.{form_term, role_of, IsForm}
 use Rattle.te_forms.specs.Privacy.{TermAvoids}
-use Rattle.te_forms.specs.Reading.{parts_at, channel_named, constant, sent_so, sent_by, received_by, gives_name, is_unit, gives_unit, form_if, is_on, role_on, last_channel, waits_first, after_sending, sends_first, by_end, by_role, by_sent, receives_first, by_first, by_parts, form_in}
+use Rattle.te_forms.specs.Reading.{parts_at, channel_named, constant, sent_so, sent_by, received_by, gives_name, is_unit, gives_unit, form_if, is_on, role_on, last_channel, waits_first, form_after_sending, sends_first, by_end, by_role, by_sent, receives_first, by_first, by_parts, form_in}
 use Rattle.te_forms.proofs.Moves.{in_ring}
 
 -- ---- parts of terms
@@ -129,7 +129,7 @@ self : (x : ℕ) → (x == x) ≡ true
 self x = eq-eqb x x refl
 
 module _ (ring : List ℕ) (is_ring : IsRing ring) where
-  pub reads : (f : Form) → role_of f < length ring → form_in ring (term_of ring f) ≡ Some f
+  pub reads : (f : Form) → role_of f < length ring → form_in ring (form_term ring f) ≡ Some f
   reads (Swap zero v) within =
       ap (λ (b : Bool). cond {A = Option Form} b (form_if (last_channel ring == last_channel ring) (Swap 0 v)) None) (self (slice_index ring 0))
       ∙ ap (λ (b : Bool). form_if b (Swap 0 v)) (self (last_channel ring))
@@ -190,7 +190,7 @@ module _ (ring : List ℕ) (is_ring : IsRing ring) where
       as_form (Barrier 0) g (and_then (sending_term s) 0 rest) (barrier_first s rest channel (empty s.value ends.0) rest_is) read.1
   waits_so s rest None g channel parts e = absurd cc
 
-  sends_so : (s : Sent) (rest : Term) (c : Option ℕ) (g : Form) → s.channel ≡ slice_index ring 0 → received_by rest ≡ c → after_sending ring s c (parts_at 1 rest) ≡ Some g
+  sends_so : (s : Sent) (rest : Term) (c : Option ℕ) (g : Form) → s.channel ≡ slice_index ring 0 → received_by rest ≡ c → form_after_sending ring s c (parts_at 1 rest) ≡ Some g
       → IsForm ring g (and_then (sending_term s) 0 rest)
   sends_so s rest (Some c) g channel received e =
       let read = if_form (c == last_channel ring) (Swap 0 s.value) g e in
@@ -200,7 +200,7 @@ module _ (ring : List ℕ) (is_ring : IsRing ring) where
 
   first_so : (s : Sent) (rest : Term) (g : Form) → sends_first ring rest s ≡ Some g → IsForm ring g (and_then (sending_term s) 0 rest)
   first_so s rest g e =
-      let read = when_true (s.channel == slice_index ring 0) (after_sending ring s (received_by rest) (parts_at 1 rest)) g e in
+      let read = when_true (s.channel == slice_index ring 0) (form_after_sending ring s (received_by rest) (parts_at 1 rest)) g e in
       sends_so s rest (received_by rest) g (eqb-true s.channel (slice_index ring 0) read.0) refl read.1
 
   -- ---- another role
@@ -272,10 +272,10 @@ module _ (ring : List ℕ) (is_ring : IsRing ring) where
 
   -- ---- forms name the channels of the ring
 
-  not_apart : (i c : ℕ) → slice_get ring i ≡ Some c → ¬ IsOf ring c → ⊥
+  not_apart : (i c : ℕ) → slice_get ring i ≡ Some c → ¬ IsOnRing ring c → ⊥
   not_apart i c at apart = apart (i, at)
 
-  term_names : (f : Form) → role_of f < length ring → TermAvoids ring (term_of ring f) → ⊥
+  term_names : (f : Form) → role_of f < length ring → TermAvoids ring (form_term ring f) → ⊥
   term_names (Swap zero v) lt h = not_apart 0 (slice_index ring 0) (in_ring ring 0 lt) h.0.0
   term_names (Barrier zero) lt h = not_apart 0 (slice_index ring 0) (in_ring ring 0 lt) h.0.0
   term_names (Swap (suc i) v) lt h = not_apart (suc i) (slice_index ring (suc i)) (in_ring ring (suc i) lt) h.1.0.0

@@ -5,8 +5,8 @@ use Rattle.std.specs.Option.{option_map}
 use Rattle.std.proofs.lemmas.Bool.{cases_lt}
 use Rattle.std.proofs.Math.ListN.{length-set}
 use Rattle.std.proofs.lemmas.Option.{slice_get_within}
-use Rattle.te_forms.specs.Rings.{IsRing, IsOf, role_before}
-use Rattle.te_forms.specs.Keeping.{IsKept}
+use Rattle.te_forms.specs.Rings.{IsRing, IsOnRing, role_before}
+use Rattle.te_forms.specs.Keeping.{PlacesAreKept}
 use Rattle.te_forms.specs.Reading.{last_channel, role_on}
 use Rattle.te_forms.proofs.Moves.{in_ring}
 
@@ -57,7 +57,7 @@ module _ (channels : List ℕ) where
   earlier (suc i) (x ∷ xs) zero c at = (at, omega arith)
   earlier (suc i) (x ∷ xs) (suc k) c at = let rest = earlier i xs k c at in (rest.0, omega (arith, rest.1))
 
-  pub twice : (i : ℕ) → i < length channels → IsOf (take i channels) (slice_index channels i) → ¬ IsRing channels
+  pub twice : (i : ℕ) → i < length channels → IsOnRing (take i channels) (slice_index channels i) → ¬ IsRing channels
   twice i lt among ring =
       let before = earlier i channels among.0 (slice_index channels i) among.1 in
       let same = ring.different among.0 i (slice_index channels i) before.0 (in_ring channels i lt) in
@@ -77,7 +77,7 @@ module _ (channels : List ℕ) where
   in_take (suc i) (x ∷ xs) (suc k) lt within = in_take i xs k (omega (arith, lt)) (omega (arith, within))
 
   -- one more
-  pub one_so_far : (kept : List ℕ) (i : ℕ) → i < length channels → i < length kept → slice_index channels i < 256 → ¬ IsOf (take i channels) (slice_index channels i)
+  pub one_so_far : (kept : List ℕ) (i : ℕ) → i < length channels → i < length kept → slice_index channels i < 256 → ¬ IsOnRing (take i channels) (slice_index channels i)
       → SoFar channels kept i → SoFar channels (set kept i (slice_index channels i)) (i + 1)
   one_so_far kept i lt within low new so_far = record {
     same = kept_more kept channels i lt within so_far.same;
@@ -112,7 +112,7 @@ module _ (channels kept : List ℕ) (i : ℕ) (past : length channels ≤ i) (wi
   pub ring_made : IsRing channels
   ring_made = is_made channels kept some few all_so_far
 
-  pub ring_kept : IsKept (length channels) kept
+  pub ring_kept : PlacesAreKept (length channels) kept
   ring_kept =
       let all : take (length channels) kept ≡ channels = all_so_far.same ∙ take_whole channels in
       record { as_long = ap length all; ring = subst IsRing (sym all) ring_made }

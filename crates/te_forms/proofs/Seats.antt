@@ -4,12 +4,12 @@ use Rattle.std.specs.Prelude.{slice_get, slice_set}
 use Rattle.te_terms.specs.declared.event.Outcome.{Outcome}
 use Rattle.te_terms.specs.Terms.{Term}
 use Rattle.te_terms.specs.Steps.{Member, outcome_of}
-use Rattle.te_cert.specs.Play.{Player, Table, Advance, with_term, advanced, all_advanced, ending, endings, seated}
+use Rattle.te_cert.specs.Play.{Player, Table, Advance, player_with_term, advanced, all_advanced, ending, endings, seated}
 use Rattle.te_cert.proofs.AllAdvance.{through}
 use Rattle.te_forms.specs.declared.form.Form.{Form}
 use Rattle.te_forms.specs.Rings.{IsRing}
-use Rattle.te_forms.specs.Forms.{term_of, role_of}
-use Rattle.te_forms.specs.Privacy.{TermAvoids, Fits}
+use Rattle.te_forms.specs.Forms.{form_term, role_of}
+use Rattle.te_forms.specs.Privacy.{TermAvoids, FitsRing}
 use Rattle.te_forms.proofs.AdvancesAvoid.{advance_avoids}
 use Rattle.te_forms.proofs.Places.{ends_so}
 use Rattle.te_forms.proofs.Stages.{Stage, begun, stage_term, begins, Ended, ends_at}
@@ -56,9 +56,9 @@ seats_set ring (l ∷ ls) [] i k p all one = absurd all
 
 abbrev pub AllFit : List ℕ → List Member → Type 0
 AllFit ring [] = Unit {0}
-AllFit ring (g ∷ gs) = Fits ring g.term × AllFit ring gs
+AllFit ring (g ∷ gs) = FitsRing ring g.term × AllFit ring gs
 
-abbrev pub first_seat : (ring : List ℕ) (t : Term) → Fits ring t → Seat
+abbrev pub first_seat : (ring : List ℕ) (t : Term) → FitsRing ring t → Seat
 first_seat ring t (inl own) = acting own.form begun
 first_seat ring t (inr avoids) = stranger
 
@@ -67,16 +67,16 @@ first_seats ring [] fit = []
 first_seats ring (g ∷ gs) fit = first_seat ring g.term fit.0 ∷ first_seats ring gs fit.1
 
 module _ (ring : List ℕ) (is_ring : IsRing ring) where
-  own_seated : (i : ℕ) (p : Player) (a : Advance) (f : Form) → role_of f < length ring → p.member.term ≡ term_of ring f → advanced i p ≡ Ok a
+  own_seated : (i : ℕ) (p : Player) (a : Advance) (f : Form) → role_of f < length ring → p.member.term ≡ form_term ring f → advanced i p ≡ Ok a
       → IsSeated ring (acting f begun) a.player
   own_seated i p a f within is goes =
-      let there : advanced i p ≡ Ok (record { player = with_term p (term_of ring f); word = [] }) =
-      subst (λ (t : Term). advanced i (with_term p t) ≡ Ok (record { player = with_term p (term_of ring f); word = [] })) (sym is) (begins ring i p f) in
-      let both : Ok a ≡ Ok (record { player = with_term p (term_of ring f); word = [] }) = sym goes ∙ there in
-      let same : a ≡ record { player = with_term p (term_of ring f); word = [] } = cc in
+      let there : advanced i p ≡ Ok (record { player = player_with_term p (form_term ring f); word = [] }) =
+      subst (λ (t : Term). advanced i (player_with_term p t) ≡ Ok (record { player = player_with_term p (form_term ring f); word = [] })) (sym is) (begins ring i p f) in
+      let both : Ok a ≡ Ok (record { player = player_with_term p (form_term ring f); word = [] }) = sym goes ∙ there in
+      let same : a ≡ record { player = player_with_term p (form_term ring f); word = [] } = cc in
       (within, ap (λ (x : Advance). x.player.member.term) same)
 
-  one_seated : (i : ℕ) (p : Player) (a : Advance) (fit : Fits ring p.member.term) → advanced i p ≡ Ok a → IsSeated ring (first_seat ring p.member.term fit) a.player
+  one_seated : (i : ℕ) (p : Player) (a : Advance) (fit : FitsRing ring p.member.term) → advanced i p ≡ Ok a → IsSeated ring (first_seat ring p.member.term fit) a.player
   one_seated i p a (inl own) goes = own_seated i p a own.form own.is_form.within own.is_form.term_is goes
   one_seated i p a (inr avoids) goes = advance_avoids ring is_ring i p a avoids goes
 

@@ -7,11 +7,11 @@ use Rattle.te_terms.specs.declared.event.Outcome.{Outcome}
 use Rattle.te_terms.specs.Terms.{Term, and_then}
 use Rattle.te_terms.specs.Steps.{giving, outcome_of, with_head}
 use Rattle.te_terms.specs.Joint.{Message, sending, receiving}
-use Rattle.te_cert.specs.Play.{Player, with_term, advanced}
+use Rattle.te_cert.specs.Play.{Player, player_with_term, advanced}
 use Rattle.te_forms.specs.declared.form.Form.{Form}
 use Rattle.te_forms.specs.declared.form.Form.TheVariants.{Swap, Barrier}
 use Rattle.te_forms.specs.Rings.{role_before}
-use Rattle.te_forms.specs.Forms.{sends, receives, term_of, role_of, offer_of}
+use Rattle.te_forms.specs.Forms.{sends, receives, form_term, role_of, offer_of}
 use Rattle.te_forms.specs.Handing.{outcome_by}
 
 -- it has met nobody, it has done one of its two meetings, or both; with what it has received
@@ -31,7 +31,7 @@ done_term (Swap role v) w = giving w
 done_term (Barrier role) w = giving []
 
 abbrev pub stage_term : List ℕ → Form → Stage → Term
-stage_term ring f begun = term_of ring f
+stage_term ring f begun = form_term ring f
 stage_term ring f (halfway w) = halfway_term ring f w
 stage_term ring f (done w) = done_term f w
 
@@ -93,10 +93,10 @@ receives_at ring (Barrier (suc i)) v (done w) = refl
 
 -- the player at the one term advances to the other, with no choice
 abbrev pub Advances : ℕ → Player → Term → Term → Type 0
-Advances i p t u = advanced i (with_term p t) ≡ Ok (record { player = with_term p u; word = [] })
+Advances i p t u = advanced i (player_with_term p t) ≡ Ok (record { player = player_with_term p u; word = [] })
 
 module _ (ring : List ℕ) (i : ℕ) (p : Player) where
-  pub begins : (f : Form) → Advances i p (term_of ring f) (term_of ring f)
+  pub begins : (f : Form) → Advances i p (form_term ring f) (form_term ring f)
   begins (Swap zero v) = refl
   begins (Swap (suc k) v) = refl
   begins (Barrier zero) = refl

@@ -33,9 +33,9 @@ abbrev pub barrier_term : List ℕ → ℕ → Term
 barrier_term ring zero = and_then (sends ring zero []) 0 (and_then (receives ring zero) 1 (giving []))
 barrier_term ring (suc i) = and_then (receives ring (suc i)) 0 (and_then (sends ring (suc i) []) 1 (giving []))
 
-abbrev pub term_of : List ℕ → Form → Term
-term_of ring (Swap role offer) = swap_term ring role offer
-term_of ring (Barrier role) = barrier_term ring role
+abbrev pub form_term : List ℕ → Form → Term
+form_term ring (Swap role offer) = swap_term ring role offer
+form_term ring (Barrier role) = barrier_term ring role
 
 abbrev pub role_of : Form → ℕ
 role_of (Swap role offer) = role
@@ -49,4 +49,4 @@ offer_of (Barrier role) = []
 -- the term is that of the form over the ring
 pub record IsForm (ring : List ℕ) (f : Form) (t : Term) : Type 0 where
   pub within : role_of f < length ring
-  pub term_is : t ≡ term_of ring f
+  pub term_is : t ≡ form_term ring f

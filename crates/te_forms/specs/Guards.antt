@@ -21,8 +21,8 @@ IsGuarded place test bound (Gives v) = test_value test (int bound) (part (known 
 IsGuarded place test bound (Raises w) = (w ≡ trap_value Kind) × ((v : List Atom) × (test_value test (int bound) (part (known v) place) ≡ Err Kind))
 
 -- in each commit of a loose history, each member whose parked event this is comes to such an outcome
-abbrev pub IsHeld : ℕ → Test → ℤ → Term → Type 0
-IsHeld place test bound event =
+abbrev pub GuardHolds : ℕ → Test → ℤ → Term → Type 0
+GuardHolds place test bound event =
     (callers : ℕ) (history : List Entry) (n by : ℕ) (cert : Cert) (outcomes : List Outcome) → IsLoose callers history
     → slice_get history n ≡ Some (Commit by cert outcomes) → (i : ℕ) (m : Member) → slice_get cert.members i ≡ Some m
     → Stands (state callers (take n history)) m.thread (parked m.ticket event)

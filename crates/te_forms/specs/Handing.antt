@@ -27,8 +27,8 @@ pub record CommitAt (h : History) (n : ℕ) : Type 0 where
   pub is_there : slice_get h.entries n ≡ Some (Commit by cert outcomes)
 
 -- where everybody stands before entry n
-abbrev pub before : History → ℕ → State
-before h n = state h.callers (take n h.entries)
+abbrev pub state_before : History → ℕ → State
+state_before h n = state h.callers (take n h.entries)
 
 -- ---- form members
 
@@ -70,7 +70,7 @@ abbrev pub EachOnce : List ℕ → State → List Member → List Handed → Typ
 EachOnce ring s members hs = (p : FormMember ring s members) → (times_giver p.member.thread hs ≡ 1) × (times_taker p.member.thread hs ≡ 1)
 
 -- a pair stands between two form members
-pub record IsBetween (ring : List ℕ) (s : State) (members : List Member) (h : Handed) : Type 0 where
+pub record StandsBetween (ring : List ℕ) (s : State) (members : List Member) (h : Handed) : Type 0 where
   pub giver : FormMember ring s members
   pub taker : FormMember ring s members
   pub gives : h.giver ≡ giver.member.thread
@@ -78,12 +78,12 @@ pub record IsBetween (ring : List ℕ) (s : State) (members : List Member) (h : 
 
 -- nobody else stands in the pairs
 abbrev pub NobodyElse : List ℕ → State → List Member → List Handed → Type 0
-NobodyElse ring s members hs = (k : ℕ) (h : Handed) → slice_get hs k ≡ Some h → IsBetween ring s members h
+NobodyElse ring s members hs = (k : ℕ) (h : Handed) → slice_get hs k ≡ Some h → StandsBetween ring s members h
 
 -- the taker's role comes after the giver's
 abbrev pub GoRound : List ℕ → State → List Member → List Handed → Type 0
 GoRound ring s members hs =
-    (k : ℕ) (h : Handed) → slice_get hs k ≡ Some h → (b : IsBetween ring s members h)
+    (k : ℕ) (h : Handed) → slice_get hs k ≡ Some h → (b : StandsBetween ring s members h)
     → role_of b.taker.form ≡ role_after (length ring) (role_of b.giver.form)
 
 -- what a form comes to that is given this
@@ -94,7 +94,7 @@ outcome_by (Barrier role) v = Gives []
 -- a swap gives what its giver offers, a barrier gives ()
 abbrev pub AreGiven : List ℕ → State → List Member → List Outcome → List Handed → Type 0
 AreGiven ring s members outcomes hs =
-    (k : ℕ) (h : Handed) → slice_get hs k ≡ Some h → (b : IsBetween ring s members h)
+    (k : ℕ) (h : Handed) → slice_get hs k ≡ Some h → (b : StandsBetween ring s members h)
     → slice_get outcomes b.taker.place ≡ Some (outcome_by b.taker.form (offer_of b.giver.form))
 
 -- so many items of the list are such

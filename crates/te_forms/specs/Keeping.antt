@@ -2,6 +2,6 @@
 use Rattle.std.specs.Prelude.{◌≡◌, ℕ, List, length, take}
 use Rattle.te_forms.specs.Rings.{IsRing}
 
-pub record IsKept (len : ℕ) (places : List ℕ) : Type 0 where
+pub record PlacesAreKept (len : ℕ) (places : List ℕ) : Type 0 where
   pub as_long : length (take len places) ≡ len
   pub ring : IsRing (take len places)

@@ -8,14 +8,14 @@ use Rattle.te_terms.specs.Terms.{Term, always, never, fresh, throw, send, recv, 
 use Rattle.te_history.specs.declared.entry.Entry.{Entry}
 use Rattle.te_history.specs.declared.entry.Entry.TheVariants.{Post}
 use Rattle.te_forms.specs.declared.form.Form.{Form}
-use Rattle.te_forms.specs.Rings.{IsOf}
+use Rattle.te_forms.specs.Rings.{IsOnRing}
 use Rattle.te_forms.specs.Forms.{IsForm, offer_of}
 
 -- ---- no channel of the ring is named
 
 abbrev pub AtomAvoids : List ℕ → Atom → Type 0
 AtomAvoids ring (Int z) = Unit {0}
-AtomAvoids ring (Chan c) = ¬ IsOf ring c
+AtomAvoids ring (Chan c) = ¬ IsOnRing ring c
 
 abbrev pub ValueAvoids : List ℕ → List Atom → Type 0
 ValueAvoids ring v = AllByRecursion (AtomAvoids ring) v
@@ -28,7 +28,7 @@ VariableAvoids ring (known v) = ValueAvoids ring v
 
 abbrev pub PrimitiveAvoids : List ℕ → Primitive → Type 0
 PrimitiveAvoids ring (int z) = Unit {0}
-PrimitiveAvoids ring (chan c) = ¬ IsOf ring c
+PrimitiveAvoids ring (chan c) = ¬ IsOnRing ring c
 PrimitiveAvoids ring (part x d) = VariableAvoids ring x
 
 abbrev pub CalculationAvoids : List ℕ → Calculation → Type 0
@@ -59,9 +59,9 @@ pub record IsOwn (ring : List ℕ) (t : Term) : Type 0 where
   pub is_form : IsForm ring form t
   pub offer_avoids : ValueAvoids ring (offer_of form)
 
-abbrev pub Fits : List ℕ → Term → Type 0
-Fits ring t = IsOwn ring t ⊎ TermAvoids ring t
+abbrev pub FitsRing : List ℕ → Term → Type 0
+FitsRing ring t = IsOwn ring t ⊎ TermAvoids ring t
 
 -- each event that is posted is a form's over the ring, or names no channel of it
 abbrev pub IsPrivate : List ℕ → List Entry → Type 0
-IsPrivate ring entries = (k by ticket : ℕ) (event : Term) → slice_get entries k ≡ Some (Post by ticket event) → Fits ring event
+IsPrivate ring entries = (k by ticket : ℕ) (event : Term) → slice_get entries k ≡ Some (Post by ticket event) → FitsRing ring event

@@ -15,16 +15,16 @@ use Rattle.te_forms.specs.declared.form.Form.TheVariants.{Swap, Barrier}
 use Rattle.te_forms.specs.declared.reading.Sent.{Sent}
 use Rattle.te_forms.specs.declared.pair.Handed.{Handed}
 use Rattle.te_forms.specs.Rings.{role_before}
-use Rattle.te_forms.specs.Privacy.{Fits}
+use Rattle.te_forms.specs.Privacy.{FitsRing}
 
 -- ---- nodes
 
 -- the term under a node, which stands at this level, with its registers replaced
-abbrev pub under : List Node → List (List Atom) → ℕ → ℕ → Term
-under code regs level i = replaced (registers_to regs) (term_at code level i)
+abbrev pub replaced_under : List Node → List (List Atom) → ℕ → ℕ → Term
+replaced_under code regs level i = replaced (registers_to regs) (term_at code level i)
 
 abbrev pub both_under : List Node → List (List Atom) → ℕ → ℕ × ℕ → Term × Term
-both_under code regs level p = (under code regs level p.0, under code regs (suc level) p.1)
+both_under code regs level p = (replaced_under code regs level p.0, replaced_under code regs (suc level) p.1)
 
 -- ---- parts of terms
 
@@ -90,12 +90,12 @@ abbrev pub waits_first : List ℕ → Sent → Option (Term × Term) → Option 
 waits_first ring s None = None
 waits_first ring s (Some p) = form_if (is_on (received_by p.0) (last_channel ring) && ((length s.value == 0) && gives_unit p.1)) (Barrier 0)
 
-abbrev pub after_sending : List ℕ → Sent → Option ℕ → Option (Term × Term) → Option Form
-after_sending ring s (Some c) rest = form_if (c == last_channel ring) (Swap 0 s.value)
-after_sending ring s None rest = waits_first ring s rest
+abbrev pub form_after_sending : List ℕ → Sent → Option ℕ → Option (Term × Term) → Option Form
+form_after_sending ring s (Some c) rest = form_if (c == last_channel ring) (Swap 0 s.value)
+form_after_sending ring s None rest = waits_first ring s rest
 
 abbrev pub sends_first : List ℕ → Term → Sent → Option Form
-sends_first ring rest s = if s.channel == slice_index ring 0 then after_sending ring s (received_by rest) (parts_at 1 rest) else None
+sends_first ring rest s = if s.channel == slice_index ring 0 then form_after_sending ring s (received_by rest) (parts_at 1 rest) else None
 
 -- another role, which has received on a channel first
 abbrev pub by_end : ℕ → List Atom → Term → Option Form
@@ -164,5 +164,5 @@ pair_in members marks m = pair_if (slice_get marks m.sender) (slice_get marks m.
 
 -- what the entry posts, where it posts, fits
 abbrev pub EntryFits : List ℕ → Entry → Type 0
-EntryFits ring (Post by ticket event) = Fits ring event
+EntryFits ring (Post by ticket event) = FitsRing ring event
 EntryFits ring _ = Unit {0}

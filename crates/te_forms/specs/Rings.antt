@@ -9,8 +9,8 @@ abbrev pub named_channels : ℕ
 named_channels = 256
 
 -- the channel stands at a place of the list
-abbrev pub IsOf : List ℕ → ℕ → Type 0
-IsOf ring c = (i : ℕ) × (slice_get ring i ≡ Some c)
+abbrev pub IsOnRing : List ℕ → ℕ → Type 0
+IsOnRing ring c = (i : ℕ) × (slice_get ring i ≡ Some c)
 
 -- 2 to 64 different channels, each below 256
 pub record IsRing (ring : List ℕ) : Type 0 where

@@ -2,7 +2,7 @@
 
 ghost use Rattle.std.specs.Prelude.{◌≡◌, ◌<◌, ◌≤◌, length, IfOk};
 ghost use Rattle.te_forms.specs.Forms.{guarded_term, swap_term, barrier_term};
-ghost use Rattle.te_forms.specs.Guards.{IsHeld};
+ghost use Rattle.te_forms.specs.Guards.{GuardHolds};
 
 use crate::building::event_of;
 use crate::ring::Ring;
@@ -23,7 +23,7 @@ pub fn guarded(
 ) -> Result<Event, NoMemory>
     requires { place ≤ 3 }
     ensures term { IfOk result (λ event. event ≡ guarded_term channel place test bound) }
-    ensures held { IfOk result (λ event. IsHeld place test bound event) }
+    ensures held { IfOk result (λ event. GuardHolds place test bound event) }
 {
     let holds = Cond {
         test,

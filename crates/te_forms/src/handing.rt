@@ -1,7 +1,7 @@
 ghost use Rattle.std.specs.Prelude.{◌≡◌, ◌<◌, ◌≤◌, length, take, Some, slice_get, is_some, filter_map, IfOk};
 ghost use Rattle.std.specs.Option.{option_map, option_copied};
 ghost use Rattle.te_forms.specs.Privacy.{IsPrivate};
-ghost use Rattle.te_forms.specs.Handing.{CommitAt, before, AreHanded, EachOnce, NobodyElse, GoRound, AreGiven, AreEven};
+ghost use Rattle.te_forms.specs.Handing.{CommitAt, state_before, AreHanded, EachOnce, NobodyElse, GoRound, AreGiven, AreEven};
 ghost use Rattle.te_forms.specs.Reading.{posted_by, last_posted, form_at, marks_of, pair_in};
 
 use crate::entries::entry_at;
@@ -142,12 +142,12 @@ fn certificate_at(hist: &Hist, n: u64) -> &Cert
 pub fn handed(alloc: Global, hist: &Hist, n: u64, ring: &Ring) -> Result<Rows<Handed>, NoMemory>
     requires commit { CommitAt hist.now n }
     requires private { IsPrivate ring.now hist.now.entries }
-    ensures meetings { IfOk result (λ pairs. (c : CommitAt hist.now n) → AreHanded ring.now (before hist.now n) c.cert.members c.cert.meets pairs) }
-    ensures once { IfOk result (λ pairs. (c : CommitAt hist.now n) → EachOnce ring.now (before hist.now n) c.cert.members pairs) }
-    ensures nobody_else { IfOk result (λ pairs. (c : CommitAt hist.now n) → NobodyElse ring.now (before hist.now n) c.cert.members pairs) }
-    ensures round { IfOk result (λ pairs. (c : CommitAt hist.now n) → GoRound ring.now (before hist.now n) c.cert.members pairs) }
-    ensures given { IfOk result (λ pairs. (c : CommitAt hist.now n) → AreGiven ring.now (before hist.now n) c.cert.members c.outcomes pairs) }
-    ensures even { (c : CommitAt hist.now n) → AreEven ring.now (before hist.now n) c.cert.members }
+    ensures meetings { IfOk result (λ pairs. (c : CommitAt hist.now n) → AreHanded ring.now (state_before hist.now n) c.cert.members c.cert.meets pairs) }
+    ensures once { IfOk result (λ pairs. (c : CommitAt hist.now n) → EachOnce ring.now (state_before hist.now n) c.cert.members pairs) }
+    ensures nobody_else { IfOk result (λ pairs. (c : CommitAt hist.now n) → NobodyElse ring.now (state_before hist.now n) c.cert.members pairs) }
+    ensures round { IfOk result (λ pairs. (c : CommitAt hist.now n) → GoRound ring.now (state_before hist.now n) c.cert.members pairs) }
+    ensures given { IfOk result (λ pairs. (c : CommitAt hist.now n) → AreGiven ring.now (state_before hist.now n) c.cert.members c.outcomes pairs) }
+    ensures even { (c : CommitAt hist.now n) → AreEven ring.now (state_before hist.now n) c.cert.members }
 {
     // Every history is loose, and every ring one.
     let _ = hist.len();

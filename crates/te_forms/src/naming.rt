@@ -9,15 +9,15 @@ ghost use Rattle.te_terms.specs.Codes.{variable_of, primitive_of, calculation_of
 ghost use Rattle.te_terms.specs.Kept.{formed, listed};
 ghost use Rattle.te_terms.specs.Shape.{children};
 ghost use Rattle.te_terms.specs.Views.{expression_seen, node_seen};
-ghost use Rattle.te_forms.specs.Rings.{IsOf};
+ghost use Rattle.te_forms.specs.Rings.{IsOnRing};
 ghost use Rattle.te_forms.specs.Privacy.{AtomAvoids, ValueAvoids, VariableAvoids, PrimitiveAvoids, CalculationAvoids, ExpressionAvoids, TermAvoids};
-ghost use Rattle.te_forms.specs.Reading.{under};
+ghost use Rattle.te_forms.specs.Reading.{replaced_under};
 
 use crate::ring::Ring;
 use te_terms::{Atom, Calc, EventCode, ExprView, NodeView, Prim, Value, Var};
 
 fn channel_avoids(channel: u32, ring: &Ring) -> bool
-    ensures { IsTrue result ↔ ¬ IsOf ring.now channel }
+    ensures { IsTrue result ↔ ¬ IsOnRing ring.now channel }
 {
     match ring.role_on(channel) {
         Some(_) => false,
@@ -137,7 +137,7 @@ fn children_of(node: &NodeView) -> Option<(u32, u32)>
 /// takes no memory.
 pub(crate) fn avoids_under(code: &EventCode, i: u32, regs: &[Value; 8], ring: &Ring) -> bool
     requires { i < length code.now }
-    ensures { (level : ℕ) → IsTrue result ↔ TermAvoids ring.now (under code.now regs.now level i) }
+    ensures { (level : ℕ) → IsTrue result ↔ TermAvoids ring.now (replaced_under code.now regs.now level i) }
 {
     let Some(node) = code.look(i) else {
         return true;

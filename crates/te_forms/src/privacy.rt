@@ -1,5 +1,5 @@
 ghost use Rattle.std.specs.Prelude.{◌↔◌, IsTrue};
-ghost use Rattle.te_forms.specs.Privacy.{Fits, ValueAvoids, IsPrivate};
+ghost use Rattle.te_forms.specs.Privacy.{FitsRing, ValueAvoids, IsPrivate};
 ghost use Rattle.te_forms.specs.Forms.{offer_of};
 ghost use Rattle.te_forms.specs.Reading.{EntryFits};
 
@@ -22,7 +22,7 @@ fn offer_avoids(form: &Form, ring: &Ring) -> bool
 
 // Whether the event is a form's over the ring whose offer names no channel of the ring, or names none at all.
 fn fits(event: &Event, ring: &Ring) -> bool
-    ensures { IsTrue result ↔ Fits ring.now event.now }
+    ensures { IsTrue result ↔ FitsRing ring.now event.now }
 {
     // Every ring is one.
     let _ = ring.len();

@@ -7,7 +7,7 @@ ghost use Rattle.te_terms.specs.Expressions.{Variable, in_primitive, in_expressi
 ghost use Rattle.te_terms.specs.Terms.{registers_to};
 ghost use Rattle.te_terms.specs.Codes.{primitive_of, expression_of};
 ghost use Rattle.te_terms.specs.Views.{expression_seen};
-ghost use Rattle.te_forms.specs.Reading.{under, both_under, parts_at, channel_named, constant, sent_by, received_by, gives_name, gives_unit, form_if, waits_first, sends_first, receives_first, by_end, form_in};
+ghost use Rattle.te_forms.specs.Reading.{replaced_under, both_under, parts_at, channel_named, constant, sent_by, received_by, gives_name, gives_unit, form_if, waits_first, sends_first, receives_first, by_end, form_in};
 
 use crate::form::Form;
 use crate::ring::Ring;
@@ -44,7 +44,7 @@ fn constant_of<'a>(e: &ExprView, regs: &'a [Value; 8]) -> Option<&'a Value>
 
 // The children of a `then`.
 fn parts_of(code: &EventCode, i: u32) -> Option<(u32, u32)>
-    ensures { (regs : List (List Atom)) (level : ℕ) → parts_at level (under code.now regs level i) ≡ option_map (both_under code.now regs level) result }
+    ensures { (regs : List (List Atom)) (level : ℕ) → parts_at level (replaced_under code.now regs level i) ≡ option_map (both_under code.now regs level) result }
 {
     match code.look(i) {
         Some(NodeView::Then(a, b)) => Some((a, b)),
@@ -53,7 +53,7 @@ fn parts_of(code: &EventCode, i: u32) -> Option<(u32, u32)>
 }
 
 fn sent_at(code: &EventCode, i: u32, regs: &[Value; 8]) -> Option<Sent>
-    ensures { (level : ℕ) → sent_by (under code.now regs.now level i) ≡ result }
+    ensures { (level : ℕ) → sent_by (replaced_under code.now regs.now level i) ≡ result }
 {
     let Some(NodeView::Send(p, e)) = code.look(i) else {
         return None;
@@ -71,7 +71,7 @@ fn sent_at(code: &EventCode, i: u32, regs: &[Value; 8]) -> Option<Sent>
 }
 
 fn received_at(code: &EventCode, i: u32) -> Option<u32>
-    ensures { (regs : List (List Atom)) (level : ℕ) → received_by (under code.now regs level i) ≡ result }
+    ensures { (regs : List (List Atom)) (level : ℕ) → received_by (replaced_under code.now regs level i) ≡ result }
 {
     match code.look(i) {
         Some(NodeView::Recv(p)) => named(p),
@@ -81,7 +81,7 @@ fn received_at(code: &EventCode, i: u32) -> Option<u32>
 
 // Whether the node gives the inner name 0.
 fn is_name(code: &EventCode, i: u32) -> bool
-    ensures { (regs : List (List Atom)) (level : ℕ) → gives_name (under code.now regs level i) ≡ result }
+    ensures { (regs : List (List Atom)) (level : ℕ) → gives_name (replaced_under code.now regs level i) ≡ result }
 {
     match code.look(i) {
         Some(NodeView::Always(e)) => match e {
@@ -97,7 +97,7 @@ fn is_name(code: &EventCode, i: u32) -> bool
 
 // Whether the node gives ().
 fn is_unit(code: &EventCode, i: u32, regs: &[Value; 8]) -> bool
-    ensures { (level : ℕ) → gives_unit (under code.now regs.now level i) ≡ result }
+    ensures { (level : ℕ) → gives_unit (replaced_under code.now regs.now level i) ≡ result }
 {
     let Some(NodeView::Always(e)) = code.look(i) else {
         return false;
@@ -110,7 +110,7 @@ fn is_unit(code: &EventCode, i: u32, regs: &[Value; 8]) -> bool
 
 // Whether a barrier ends so, which has sent the value.
 fn is_end(code: &EventCode, end: u32, regs: &[Value; 8], value: &Value) -> bool
-    ensures { (level : ℕ) → ((length value.now == 0) && gives_unit (under code.now regs.now level end)) ≡ result }
+    ensures { (level : ℕ) → ((length value.now == 0) && gives_unit (replaced_under code.now regs.now level end)) ≡ result }
 {
     value.len() == 0 && is_unit(code, end, regs)
 }
@@ -123,7 +123,7 @@ fn when(test: bool, form: Form) -> Option<Form>
 
 // A barrier's role 0 from its second part on, which has sent this on its channel.
 fn waits(code: &EventCode, rest: u32, regs: &[Value; 8], ring: &Ring, sent: &Sent) -> Option<Form>
-    ensures { waits_first ring.now sent.now (parts_at 1 (under code.now regs.now 1 rest)) ≡ result }
+    ensures { waits_first ring.now sent.now (parts_at 1 (replaced_under code.now regs.now 1 rest)) ≡ result }
 {
     let Some((then, end)) = parts_of(code, rest) else {
         return None;
@@ -147,7 +147,7 @@ fn after_send(
     ring: &Ring,
     sent: &Sent,
 ) -> Option<Form>
-    ensures { sends_first ring.now (under code.now regs.now 1 rest) sent.now ≡ result }
+    ensures { sends_first ring.now (replaced_under code.now regs.now 1 rest) sent.now ≡ result }
 {
     let first = ring.first();
     if sent.channel != first {
@@ -165,7 +165,7 @@ fn after_send(
 
 // A role by what it gives in the end, with what it has sent.
 fn ended(code: &EventCode, end: u32, regs: &[Value; 8], role: u32, value: &Value) -> Option<Form>
-    ensures { by_end role value.now (under code.now regs.now 2 end) ≡ result }
+    ensures { by_end role value.now (replaced_under code.now regs.now 2 end) ≡ result }
 {
     if is_name(code, end) {
         return Some(Form::Swap(role, *value));
@@ -182,7 +182,7 @@ fn after_receive(
     ring: &Ring,
     channel: u32,
 ) -> Option<Form>
-    ensures { receives_first ring.now channel (parts_at 1 (under code.now regs.now 1 rest)) ≡ result }
+    ensures { receives_first ring.now channel (parts_at 1 (replaced_under code.now regs.now 1 rest)) ≡ result }
 {
     let Some((second, end)) = parts_of(code, rest) else {
         return None;
@@ -205,7 +205,7 @@ fn after_receive(
 
 // The form whose term stands under a node.
 fn form_under(code: &EventCode, root: u32, regs: &[Value; 8], ring: &Ring) -> Option<Form>
-    ensures { form_in ring.now (under code.now regs.now 0 root) ≡ result }
+    ensures { form_in ring.now (replaced_under code.now regs.now 0 root) ≡ result }
 {
     let Some((first, rest)) = parts_of(code, root) else {
         return None;

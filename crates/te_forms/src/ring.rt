@@ -1,5 +1,5 @@
 ghost use Rattle.std.specs.Prelude.{◌≡◌, ◌↔◌, ◌<◌, ◌≤◌, length, slice_index, IfSome, IsNone, IsTrue};
-ghost use Rattle.te_forms.specs.Rings.{IsRing, IsOf, most_roles, role_before};
+ghost use Rattle.te_forms.specs.Rings.{IsRing, IsOnRing, most_roles, role_before};
 ghost use Rattle.te_forms.specs.Reading.{role_on, last_channel};
 
 use std::marker::Model;
@@ -17,17 +17,17 @@ pub struct Ring {
 
 impl Model for Ring {
     ghost use Rattle.std.specs.Prelude.{ℕ, List, take};
-    ghost use Rattle.te_forms.specs.Keeping.{IsKept};
+    ghost use Rattle.te_forms.specs.Keeping.{PlacesAreKept};
 
     ghost Value = { List ℕ };
 
     ghost view = { λ r. take r.len r.channels };
 
-    ghost invariant = { λ r. IsKept r.len r.channels };
+    ghost invariant = { λ r. PlacesAreKept r.len r.channels };
 }
 
 fn is_among(channels: &[u32], channel: u32) -> bool
-    ensures { IsTrue result ↔ IsOf channels.now channel }
+    ensures { IsTrue result ↔ IsOnRing channels.now channel }
 {
     for c in channels {
         if *c == channel {

@@ -9,8 +9,8 @@ use Rattle.te_history.specs.declared.entry.Entry.TheVariants.{Post, Commit, With
 use Rattle.te_history.specs.declared.status.How.{How}
 use Rattle.te_history.specs.declared.status.How.TheVariants as ways
 use Rattle.te_history.specs.State.{Standing, idle, parked, given, ended, State, with_standing, with_given, changed, state, is_post_by, posts_by}
-use Rattle.te_history.specs.Follows.{Stands, Ends, LooselyFollows, IsLoose}
-use Rattle.te_history.specs.Givings.{given_by, givings}
+use Rattle.te_history.specs.Follows.{Stands, MayEndAs, LooselyFollows, IsLoose}
+use Rattle.te_history.specs.Givings.{givings_of, givings}
 use Rattle.te_history.proofs.AfterEntry.{state-after, counted, posts_by-after}
 use Rattle.te_history.proofs.Commits.{same_or_other, stands_put, stands_other, Touch, untouched, touched, touch}
 use Rattle.te_history.proofs.Growing.{grows, in_longer}
@@ -24,17 +24,17 @@ record IsOnce (callers : ℕ) (h : List Entry) (t : ℕ) : Type 0 where
   taken_so : (ticket : ℕ) (outcome : Outcome) (k : ℕ) → slice_get h k ≡ Some (Take t ticket outcome)
       → (ticket < posts_by t h) × (givings t ticket h ≡ Some outcome ∷ [])
 
-givings-after : (t ticket : ℕ) (h : List Entry) (e : Entry) → givings t ticket (h ++ e ∷ []) ≡ givings t ticket h ++ given_by t ticket e
-givings-after t ticket [] e = append-nil (given_by t ticket e)
+givings-after : (t ticket : ℕ) (h : List Entry) (e : Entry) → givings t ticket (h ++ e ∷ []) ≡ givings t ticket h ++ givings_of t ticket e
+givings-after t ticket [] e = append-nil (givings_of t ticket e)
 givings-after t ticket (x ∷ xs) e =
-    ap (λ (l : List (Option Outcome)). given_by t ticket x ++ l) (givings-after t ticket xs e) ∙ sym (append_assoc (given_by t ticket x) (givings t ticket xs) (given_by t ticket e))
+    ap (λ (l : List (Option Outcome)). givings_of t ticket x ++ l) (givings-after t ticket xs e) ∙ sym (append_assoc (givings_of t ticket x) (givings t ticket xs) (givings_of t ticket e))
 
 counted_above : (b : Bool) (n : ℕ) → n ≤ counted b n
 counted_above true n = omega arith
 counted_above false n = omega arith
 
 -- an entry that gives this caller nothing, is no new take of its, and lets it be parked or given only where it was
-same_after : (callers : ℕ) (h : List Entry) (t : ℕ) (e : Entry) → IsOnce callers h t → ((ticket : ℕ) → given_by t ticket e ≡ [])
+same_after : (callers : ℕ) (h : List Entry) (t : ℕ) (e : Entry) → IsOnce callers h t → ((ticket : ℕ) → givings_of t ticket e ≡ [])
     → ((ticket : ℕ) (event : Term) → Stands (changed (state callers h) e) t (parked ticket event)
     → Stands (state callers h) t (parked ticket event) ⊎ ((ticket ≡ posts_by t h) × (is_post_by t e ≡ true)))
     → ((ticket : ℕ) (outcome : Outcome) → Stands (changed (state callers h) e) t (given ticket outcome) → Stands (state callers h) t (given ticket outcome))
@@ -140,7 +140,7 @@ once_after callers t h (End by how) follows once =
     (λ ticket outcome. leaves (state callers h) by t old.0 ended (given ticket outcome) old.1 (λ is. cc))
     (λ ticket outcome is. absurd cc)
   where
-    stood : (how : How) → Ends (state callers h) by how → (x : Standing) × Stands (state callers h) by x
+    stood : (how : How) → MayEndAs (state callers h) by how → (x : Standing) × Stands (state callers h) by x
     stood (ways.Done values) ends = (idle, ends.1)
     stood (ways.Raised value) ends = (idle, ends.1)
     stood ways.Stuck ends = (_, ends.1.2)
@@ -182,7 +182,7 @@ once_after callers t h (Commit by cert outcomes) follows once = by_touch (touch 
             let gets : due ≡ outcome = cc in
             let low = before.0 in
             let all : givings t under (h ++ Commit by cert outcomes ∷ []) ≡ Some due ∷ [] =
-            givings-after t under h (Commit by cert outcomes) ∙ ap (λ (l : List (Option Outcome)). l ++ given_by t under (Commit by cert outcomes)) before.1 ∙ one in (
+            givings-after t under h (Commit by cert outcomes) ∙ ap (λ (l : List (Option Outcome)). l ++ givings_of t under (Commit by cert outcomes)) before.1 ∙ one in (
               omega (arith, counts, low, ticket_is),
               subst (λ (n : ℕ). givings t n (h ++ Commit by cert outcomes ∷ []) ≡ Some outcome ∷ []) ticket_is (all ∙ ap (λ (o : Outcome). Some o ∷ []) gets),
             )

@@ -18,7 +18,7 @@ use Rattle.te_history.specs.declared.seat.Seat.{Seat}
 use Rattle.te_history.specs.State.{Standing, idle, parked, given, ended, State, with_standing, with_given, changed, state, is_post_by, posts_by}
 use Rattle.te_history.specs.Follows.{Stands, AreEvents, LooselyFollows, IsLoose}
 use Rattle.te_history.specs.Histories.{phase_of}
-use Rattle.te_history.specs.Kept.{IsKept, to_status, to_post, with_status, seats_given, seats_after, phase_after, resting_after}
+use Rattle.te_history.specs.Kept.{StateIsKept, to_status, to_post, with_status, seats_given, seats_after, phase_after, resting_after}
 use Rattle.te_history.proofs.AfterEntry.{state-after, counted, posts_by-after, posts_by_at_most, length-state, loose-after}
 use Rattle.te_history.proofs.SeatsAfter.{seat_at, length-changed, length-seats_after, seat_shows-longer, get-last, shows_along, posts_of_seat, AllShow, all_changed, all_restand}
 
@@ -130,9 +130,9 @@ resting-changed s (End by how) = refl
 
 -- ---- one entry more
 
-pub kept_after : (history : List Entry) (seats : List Seat) (phase : Phase) (resting : Bool) (e : Entry) → IsKept history seats phase resting
+pub kept_after : (history : List Entry) (seats : List Seat) (phase : Phase) (resting : Bool) (e : Entry) → StateIsKept history seats phase resting
     → LooselyFollows (length seats) history e → length history < 2 ^ 31
-    → IsKept (history ++ e ∷ []) (seats_after (length history) seats e) (phase_after phase e) (resting_after resting e)
+    → StateIsKept (history ++ e ∷ []) (seats_after (length history) seats e) (phase_after phase e) (resting_after resting e)
 kept_after history seats phase resting e kept follows short =
     let same : length (seats_after (length history) seats e) ≡ length seats = length-seats_after (length history) seats e in
     let after : (n : ℕ) → n ≡ length seats → state n (history ++ e ∷ []) ≡ changed (state (length seats) history) e =
@@ -150,7 +150,7 @@ kept_after history seats phase resting e kept follows short =
     }
 
 -- no caller has posted 2^31 times
-pub few_posts : (history : List Entry) (seats : List Seat) (phase : Phase) (resting : Bool) (t : ℕ) (seat : Seat) → IsKept history seats phase resting
+pub few_posts : (history : List Entry) (seats : List Seat) (phase : Phase) (resting : Bool) (t : ℕ) (seat : Seat) → StateIsKept history seats phase resting
     → length history < 2 ^ 31 → slice_get seats t ≡ Some seat → seat.posts < 2 ^ 31
 few_posts history seats phase resting t seat kept short is =
     let posts : seat.posts ≡ posts_by t history = posts_of_seat history (λ k. posts_by k history) seats _ t seat kept.shows is in
@@ -162,7 +162,7 @@ written_over n new old same = subst (λ (k : ℕ). take k (new ++ drop (length n
 
 pub kept_along : {history history' : List Entry} {seats seats' : List Seat} {phase phase' : Phase} {resting resting' : Bool} → history ≡ history'
     → seats ≡ seats' → phase ≡ phase' → resting ≡ resting'
-    → IsKept history seats phase resting → IsKept history' seats' phase' resting'
+    → StateIsKept history seats phase resting → StateIsKept history' seats' phase' resting'
 kept_along {history} {history'} {seats} {seats'} {phase} {phase'} {resting} {resting'} h s p r kept =
-    subst (λ (x : List Entry). IsKept x seats' phase' resting') h (subst (λ (x : List Seat). IsKept history x phase' resting') s
-    (subst (λ (x : Phase). IsKept history seats x resting') p (subst (λ (x : Bool). IsKept history seats phase x) r kept)))
+    subst (λ (x : List Entry). StateIsKept x seats' phase' resting') h (subst (λ (x : List Seat). StateIsKept history x phase' resting') s
+    (subst (λ (x : Phase). StateIsKept history seats x resting') p (subst (λ (x : Bool). StateIsKept history seats phase x) r kept)))

@@ -7,7 +7,7 @@ use Rattle.te_history.specs.declared.entry.Entry.TheVariants.{Post, Commit, With
 use Rattle.te_history.specs.declared.status.How.{How}
 use Rattle.te_history.specs.declared.status.How.TheVariants as ways
 use Rattle.te_history.specs.State.{Standing, idle, parked, ended, State, opening, with_standing, with_given, changed, state_from, state}
-use Rattle.te_history.specs.Follows.{Stands, IsParkedOrEnded, Ends, LooselyFollows, IsLoose}
+use Rattle.te_history.specs.Follows.{Stands, IsParkedOrEnded, MayEndAs, LooselyFollows, IsLoose}
 use Rattle.te_history.proofs.AfterEntry.{state-after}
 use Rattle.te_history.proofs.Commits.{same_or_other, stands_put, stands_other, Touch, untouched, touched, touch}
 use Rattle.te_history.proofs.Growing.{grows, later_part}
@@ -64,7 +64,7 @@ all_after callers h (Rest by) follows all stuck = let runs = follows.0 in absurd
 all_after callers h (Stuck by) follows all stuck = λ t x stands. by_place IsParkedOrEnded (state callers h).callers t x follows.2 stands
 all_after callers h (End by how) follows all stuck = λ t x stands. by_caller t x stands (same_or_other by t)
   where
-    old : (how : How) → Ends (state callers h) by how → (x : Standing) × Stands (state callers h) by x
+    old : (how : How) → MayEndAs (state callers h) by how → (x : Standing) × Stands (state callers h) by x
     old (ways.Done values) ends = (idle, ends.1)
     old (ways.Raised value) ends = (idle, ends.1)
     old ways.Stuck ends = (_, ends.1.2)

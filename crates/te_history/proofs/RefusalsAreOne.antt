@@ -23,7 +23,7 @@ use Rattle.te_history.specs.declared.status.Status.TheVariants as statuses
 use Rattle.te_history.specs.State.{Standing, parked, State, posts_by}
 use Rattle.te_history.specs.Follows.{Stands, IsParkedOrEnded, caller_of}
 use Rattle.te_history.specs.Histories.{History, now, HasStatus}
-use Rattle.te_history.specs.Refusals.{IsFirstLive, AreCallers, IsFirstStranger, IsFirstStale, AreParked, IsFirstOther, RefusesPost, RefusesWithdraw, RefusesTake, RefusesRest, RefusesStuck, RefusesEnd, RefusesCommit, RefusesEntry, IsEnd, IsOpenFor, IsRefused}
+use Rattle.te_history.specs.Refusals.{IsFirstLive, AreCallers, IsFirstStranger, IsFirstStale, AreParked, IsFirstOther, RefusesPost, RefusesWithdraw, RefusesTake, RefusesRest, RefusesStuck, RefusesEnd, RefusesCommit, RefusesEntry, IsEndEntry, IsOpenFor, IsRefused}
 use Rattle.te_history.proofs.AfterEntry.{length-state}
 use Rattle.te_history.proofs.Events.{length-parked}
 use Rattle.te_history.proofs.Places.{by_place}
@@ -377,7 +377,7 @@ data Cause (h : History) (e : Entry) (fault : StepFault) : Type 0 where
   closed : fault ≡ faults.Closed → caller_of e < h.callers → (¬ IsOpenFor (now h) e) → Cause h e fault
   need : caller_of e < h.callers → IsOpenFor (now h) e → RefusesEntry h e fault → Cause h e fault
 
-not_open : (s : State) (e : Entry) → s.stuck ≡ true → ¬ IsEnd e → ¬ IsOpenFor s e
+not_open : (s : State) (e : Entry) → s.stuck ≡ true → ¬ IsEndEntry e → ¬ IsOpenFor s e
 not_open s (entries.End by how) stuck no_end = λ open_so. no_end tt
 not_open s (entries.Post by ticket event) stuck no_end = λ runs. cc
 not_open s (entries.Commit by cert outcomes) stuck no_end = λ runs. cc

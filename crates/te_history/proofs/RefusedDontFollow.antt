@@ -12,9 +12,9 @@ use Rattle.te_history.specs.declared.status.How.TheVariants as ways
 use Rattle.te_history.specs.declared.status.Status.{Status}
 use Rattle.te_history.specs.declared.status.Status.TheVariants as statuses
 use Rattle.te_history.specs.State.{Standing, idle, parked, given, ended, State, posts_by}
-use Rattle.te_history.specs.Follows.{Stands, IsParkedOrEnded, Ends, LooselyFollows, caller_of}
+use Rattle.te_history.specs.Follows.{Stands, IsParkedOrEnded, MayEndAs, LooselyFollows, caller_of}
 use Rattle.te_history.specs.Histories.{History, now, HasStatus}
-use Rattle.te_history.specs.Refusals.{RefusesPost, RefusesWithdraw, RefusesTake, RefusesRest, RefusesStuck, RefusesEnd, RefusesEntry, IsEnd, IsRefused}
+use Rattle.te_history.specs.Refusals.{RefusesPost, RefusesWithdraw, RefusesTake, RefusesRest, RefusesStuck, RefusesEnd, RefusesEntry, IsEndEntry, IsRefused}
 use Rattle.te_history.proofs.AfterEntry.{length-state}
 use Rattle.te_history.proofs.Places.{by_place}
 use Rattle.te_history.proofs.RefusedCommits.{one_status, not_commit}
@@ -62,7 +62,7 @@ not_stuck s by ticket event (faults.Live t status) refuses stands all =
 not_stuck s by ticket event (faults.Other status) refuses stands all = refuses.2 ticket (one_status s by (parked ticket event) status stands refuses.1)
 not_stuck s by ticket event _ refuses stands all = absurd refuses
 
-not_end : (s : State) (by : ℕ) (how : How) (fault : StepFault) → RefusesEnd s by how fault → Ends s by how → ⊥
+not_end : (s : State) (by : ℕ) (how : How) (fault : StepFault) → RefusesEnd s by how fault → MayEndAs s by how → ⊥
 not_end s by ways.Stuck faults.How refuses ends = let stuck = ends.0 in absurd cc
 not_end s by ways.Stuck (faults.Other status) refuses ends = refuses.2 ends.1.0 (one_status s by _ status ends.1.2 refuses.1)
 not_end s by (ways.Done values) faults.How refuses ends = let running = ends.0 in absurd cc
@@ -99,7 +99,7 @@ by_caller h (entries.End by (ways.Done values)) follows = stands_low h by _ foll
 by_caller h (entries.End by (ways.Raised value)) follows = stands_low h by _ follows.1
 by_caller h (entries.End by ways.Stuck) follows = stands_low h by _ follows.1.2
 
-no_closed : (h : History) (e : Entry) → (now h).stuck ≡ true → ¬ IsEnd e → ¬ LooselyFollows h.callers h.entries e
+no_closed : (h : History) (e : Entry) → (now h).stuck ≡ true → ¬ IsEndEntry e → ¬ LooselyFollows h.callers h.entries e
 no_closed h (entries.Post by ticket event) stuck no_end = λ follows. let runs = follows.0 in cc
 no_closed h (entries.Commit by cert outcomes) stuck no_end = λ follows. let runs = follows.0 in cc
 no_closed h (entries.Withdraw by ticket) stuck no_end = λ follows. let runs = follows.0 in cc

@@ -43,10 +43,10 @@ pub record Commits (s : State) (cert : Cert) (outcomes : List Outcome) : Type 0 
   pub word : List Label
   pub plays : play group (map (λ m. m.choices) cert.members) cert.meets ≡ Ok (record { outcomes = outcomes; word = word })
 
-abbrev pub Ends : State → ℕ → How → Type 0
-Ends s by (ways.Done values) = IsRunning s × Stands s by idle
-Ends s by (ways.Raised value) = IsRunning s × Stands s by idle
-Ends s by ways.Stuck = (s.stuck ≡ true) × ((ticket : ℕ) × (event : _) × Stands s by (parked ticket event))
+abbrev pub MayEndAs : State → ℕ → How → Type 0
+MayEndAs s by (ways.Done values) = IsRunning s × Stands s by idle
+MayEndAs s by (ways.Raised value) = IsRunning s × Stands s by idle
+MayEndAs s by ways.Stuck = (s.stuck ≡ true) × ((ticket : ℕ) × (event : _) × Stands s by (parked ticket event))
 
 -- the needs of an entry in the state before it; of Stuck all but the last
 abbrev pub Needs : ℕ → State → ℕ → Entry → Type 0
@@ -57,7 +57,7 @@ Needs callers s posts (entries.Take by ticket outcome) = IsRunning s × Stands s
 Needs callers s posts (entries.Rest by) = IsRunning s × (by < callers) × (s.resting ≡ false)
 Needs callers s posts (entries.Stuck by) =
     IsRunning s × ((ticket : ℕ) × (event : _) × Stands s by (parked ticket event)) × AllByRecursion IsParkedOrEnded s.callers
-Needs callers s posts (entries.End by how) = Ends s by how
+Needs callers s posts (entries.End by how) = MayEndAs s by how
 
 -- the last need of Stuck: the parked list can't commit
 abbrev pub LastNeed : State → Entry → Type 0
@@ -94,7 +94,3 @@ IsLegal callers history = LegalFrom callers [] history
 -- the same, where the last need of Stuck isn't asked
 abbrev pub IsLoose : ℕ → List Entry → Type 0
 IsLoose callers history = LooseFrom callers [] history
-
--- every caller has ended
-abbrev pub IsWhole : ℕ → List Entry → Type 0
-IsWhole callers history = AllByRecursion (λ c. c ≡ ended) (state callers history).callers

@@ -19,11 +19,11 @@ given_among t ticket [] os = []
 given_among t ticket (m ∷ ms) [] = item_if (names t ticket m) None (given_among t ticket ms [])
 given_among t ticket (m ∷ ms) (o ∷ os) = item_if (names t ticket m) (Some o) (given_among t ticket ms os)
 
-abbrev pub given_by : ℕ → ℕ → Entry → List (Option Outcome)
-given_by t ticket (entries.Commit by cert outcomes) = given_among t ticket cert.members outcomes
-given_by t ticket _ = []
+abbrev pub givings_of : ℕ → ℕ → Entry → List (Option Outcome)
+givings_of t ticket (entries.Commit by cert outcomes) = given_among t ticket cert.members outcomes
+givings_of t ticket _ = []
 
 -- one item for each member of a commit that names the caller and the ticket, in order: what it is given there
 abbrev pub givings : ℕ → ℕ → List Entry → List (Option Outcome)
 givings t ticket [] = []
-givings t ticket (e ∷ es) = given_by t ticket e ++ givings t ticket es
+givings t ticket (e ∷ es) = givings_of t ticket e ++ givings t ticket es

@@ -36,7 +36,7 @@ SeatShows history posts None None = Unit {0}
 SeatShows history posts _ _ = ⊥
 
 -- the entries are loose, and seats, phase and rest are those of the state after them
-pub record IsKept (history : List Entry) (seats : List Seat) (phase : Phase) (resting : Bool) : Type 0 where
+pub record StateIsKept (history : List Entry) (seats : List Seat) (phase : Phase) (resting : Bool) : Type 0 where
   pub some_caller : 1 ≤ length seats
   pub few_callers : length seats ≤ most_threads
   pub few_entries : length history ≤ 2 ^ 31

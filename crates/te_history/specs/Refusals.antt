@@ -151,9 +151,9 @@ RefusesCommit callers s cert outcomes fault = RefusesPlay callers s cert fault
 -- ---- all entries
 
 -- a stuck board is open for ends alone
-abbrev pub IsEnd : Entry → Type 0
-IsEnd (entries.End by how) = Unit {0}
-IsEnd _ = ⊥
+abbrev pub IsEndEntry : Entry → Type 0
+IsEndEntry (entries.End by how) = Unit {0}
+IsEndEntry _ = ⊥
 
 abbrev pub IsOpenFor : State → Entry → Type 0
 IsOpenFor s (entries.End by how) = Unit {0}
@@ -172,7 +172,7 @@ RefusesEntry h (entries.End by how) fault = RefusesEnd (now h) by how fault
 -- the first need that fails; want of memory, which tells of none, comes of a commit alone whose members can play
 abbrev pub IsRefused : History → Entry → StepFault → Type 0
 IsRefused h e faults.Caller = h.callers ≤ caller_of e
-IsRefused h e faults.Closed = (caller_of e < h.callers) × ((now h).stuck ≡ true) × (¬ IsEnd e)
+IsRefused h e faults.Closed = (caller_of e < h.callers) × ((now h).stuck ≡ true) × (¬ IsEndEntry e)
 IsRefused h e fault = (caller_of e < h.callers) × IsOpenFor (now h) e × RefusesEntry h e fault
 
 -- what may be answered of an entry: that it follows, or a refusal

@@ -1,6 +1,6 @@
 ghost use Rattle.std.specs.Prelude.{◌≡◌, ◌↔◌, IfOk, IsTrue};
 ghost use Rattle.te_history.specs.Follows.{caller_of};
-ghost use Rattle.te_history.specs.Refusals.{IsEnd};
+ghost use Rattle.te_history.specs.Refusals.{IsEndEntry};
 
 use crate::copying::{copy_cert, copy_rows};
 use crate::status::{How, Status};
@@ -105,7 +105,7 @@ impl Entry {
     }
 
     pub(crate) fn is_end(&self) -> bool
-        ensures { IsTrue result ↔ IsEnd self.now }
+        ensures { IsTrue result ↔ IsEndEntry self.now }
     {
         match self {
             Entry::End { .. } => true,

@@ -4,9 +4,9 @@ ghost use Rattle.te_terms.specs.Terms.{Term};
 ghost use Rattle.te_history.specs.declared.entry.StepFault.TheVariants as faults;
 ghost use Rattle.te_history.specs.declared.status.Status.TheVariants.{Idle, Parked, Given, Ended};
 ghost use Rattle.te_history.specs.State.{idle, parked, given, posts_by};
-ghost use Rattle.te_history.specs.Follows.{IsRunning, Stands, Ends, IsParkedOrEnded, LooselyFollows};
+ghost use Rattle.te_history.specs.Follows.{IsRunning, Stands, MayEndAs, IsParkedOrEnded, LooselyFollows};
 ghost use Rattle.te_history.specs.Histories.{now, HasStatus};
-ghost use Rattle.te_history.specs.Refusals.{IsRefused, IsEnd, IsNotParked, RefusesPost, RefusesWithdraw, RefusesTake, RefusesRest, RefusesStuck, RefusesEnd, IsFirstLive};
+ghost use Rattle.te_history.specs.Refusals.{IsRefused, IsEndEntry, IsNotParked, RefusesPost, RefusesWithdraw, RefusesTake, RefusesRest, RefusesStuck, RefusesEnd, IsFirstLive};
 
 use crate::committing::may_commit;
 use crate::entry::{Entry, StepFault};
@@ -92,7 +92,7 @@ fn may_rest(hist: &Hist) -> Result<(), StepFault>
 
 fn may_end(hist: &Hist, by: u32, how: &How) -> Result<(), StepFault>
     requires { by < hist.now.callers }
-    ensures ok { IfOk result (λ _. Ends (now hist.now) by how.now) }
+    ensures ok { IfOk result (λ _. MayEndAs (now hist.now) by how.now) }
     ensures refused { IfErr result (λ fault. RefusesEnd (now hist.now) by how.now fault) }
 {
     let stuck = is_stuck(hist);

@@ -34,11 +34,11 @@ impl Model for Hist {
 
     ghost use Rattle.std.specs.Prelude.{◌-◌, length};
     ghost use Rattle.std.specs.Vec.{vec_capacity, vec_len};
-    ghost use Rattle.te_history.specs.Kept.{IsKept};
+    ghost use Rattle.te_history.specs.Kept.{StateIsKept};
 
     ghost view = { λ h. record { callers = length h.seats.items; entries = h.entries.items; spare = vec_capacity h.entries - vec_len h.entries } };
 
-    ghost invariant = { λ h. IsKept h.entries.items h.seats.items h.phase h.resting };
+    ghost invariant = { λ h. StateIsKept h.entries.items h.seats.items h.phase h.resting };
 }
 
 impl Hist {

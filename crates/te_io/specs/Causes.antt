@@ -2,8 +2,8 @@
 use Rattle.std.specs.Prelude.{◌≡◌, ◌⊎◌, ◌<◌, ◌+◌, ◌-◌, ◌^◌, ℕ, min}
 
 -- one more, but a count at 2 ^ 64 - 1 stays there
-abbrev pub one_more : ℕ → ℕ
-one_more count = min (count + 1) (2 ^ 64 - 1)
+abbrev pub counted_more : ℕ → ℕ
+counted_more count = min (count + 1) (2 ^ 64 - 1)
 
 -- the count rose in this call, or it stands at its end, where it can't rise
 abbrev pub Rose : ℕ → ℕ → Type 0

@@ -1,6 +1,6 @@
 -- What the sources and sinks over memory are and do, call by call. Calls are numbered from 1.
 use Rattle.std.specs.Prelude.{◌≡◌, ◌⊎◌, ◌<◌, ◌≤◌, ◌-◌, ℕ, List, length, min, Contains}
-use Rattle.te_io.specs.Causes.{one_more}
+use Rattle.te_io.specs.Causes.{counted_more}
 
 -- a `MemSource`: the bytes it still holds, and how many a call gives at most
 pub record MemSourceState : Type 0 where
@@ -29,7 +29,7 @@ pub record SteadySinkState : Type 0 where
 
 -- the next call is one of those that are to fail
 abbrev pub FailsNext : List ℕ → ℕ → Type 0
-FailsNext failing calls = Contains failing (one_more calls)
+FailsNext failing calls = Contains failing (counted_more calls)
 
 -- how many of so many bytes a call takes
 abbrev pub share_of : MemSinkState → ℕ → ℕ

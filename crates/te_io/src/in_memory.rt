@@ -1,6 +1,6 @@
 ghost use Rattle.std.specs.Prelude.{◌≡◌, ◌↔◌, ◌<◌, ◌≤◌, ℕ, List, Option, [], ◌++◌, length, take, drop, min, Some, Contains, IsTrue, IsErr, IfOk, OnErr, MatchResult};
 ghost use Rattle.te_io.specs.Stream.{GaveFirst, GrewBy, GrewByPrefix, HoldsNothing, HoldsSame};
-ghost use Rattle.te_io.specs.Causes.{Rose, one_more};
+ghost use Rattle.te_io.specs.Causes.{Rose, counted_more};
 ghost use Rattle.te_io.specs.InMemory.{FailsNext, Refuses, share_of};
 
 use crate::copying::copy_first;
@@ -90,12 +90,12 @@ impl Source for MemSource {
             n ≡ min self.old.piece (min (length into.old) (length self.old.left))) }
         ensures after { self.new ≡ record self.old {
           left = self.new.left;
-          calls = one_more self.old.calls;
+          calls = counted_more self.old.calls;
           faults = self.new.faults;
         } }
         ensures counted { MatchResult result
             (λ _. self.new.faults ≡ self.old.faults)
-            (λ _. self.new.faults ≡ one_more self.old.faults) }
+            (λ _. self.new.faults ≡ counted_more self.old.faults) }
     {
         self.calls = self.calls.saturating_add(1);
         if is_listed(&self.failing, self.calls) {
@@ -211,12 +211,12 @@ impl Sink for MemSink {
         ensures taken { IfOk result (λ n. n ≡ share_of self.old (length piece.now)) }
         ensures after { self.new ≡ record self.old {
           held = self.new.held;
-          calls = one_more self.old.calls;
+          calls = counted_more self.old.calls;
           faults = self.new.faults;
         } }
         ensures counted { MatchResult result
             (λ _. self.new.faults ≡ self.old.faults)
-            (λ _. (self.new.faults ≡ one_more self.old.faults) × (self.new.held ≡ self.old.held)) }
+            (λ _. (self.new.faults ≡ counted_more self.old.faults) × (self.new.held ≡ self.old.held)) }
     {
         let count = self.share_of(piece.len());
         let is_refused = self.refuses(piece.len());

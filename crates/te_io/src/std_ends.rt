@@ -1,6 +1,6 @@
 ghost use Rattle.std.specs.Prelude.{◌≡◌, ◌<◌, ◌≤◌, length, take, IfOk, OnErr, MatchResult};
 ghost use Rattle.te_io.specs.Stream.{GaveFirst, GrewBy, GrewByPrefix, HoldsNothing, HoldsSame};
-ghost use Rattle.te_io.specs.Causes.{Rose, one_more};
+ghost use Rattle.te_io.specs.Causes.{Rose, counted_more};
 
 use crate::fault::Failed;
 use crate::sink::Sink;
@@ -50,7 +50,7 @@ impl<R: Read> Source for StdSource<R> {
         // Each error is counted once, and nothing else is.
         ensures counted { MatchResult result
             (λ _. source_faults self.new ≡ source_faults self.old)
-            (λ _. source_faults self.new ≡ one_more (source_faults self.old)) }
+            (λ _. source_faults self.new ≡ counted_more (source_faults self.old)) }
     {
         match self.reader.read(into) {
             Ok(count) => Ok(count),
@@ -105,7 +105,7 @@ impl<W: Write> Sink for StdSink<W> {
         // Each failed call is counted once, and nothing else is.
         ensures counted { MatchResult result
             (λ _. sink_faults self.new ≡ sink_faults self.old)
-            (λ _. sink_faults self.new ≡ one_more (sink_faults self.old)) }
+            (λ _. sink_faults self.new ≡ counted_more (sink_faults self.old)) }
     {
         match write_and_flush(&mut self.writer, piece) {
             Ok(count) => Ok(count),

@@ -1,6 +1,6 @@
 ghost use Rattle.std.specs.Prelude.{◌≡◌, ◌↔◌, ◌<◌, ◌≤◌, ◌+◌, ℕ, List, Option, [], ◌++◌, length, take, drop, min, Some, IsOk, IsErr, IfOk, OnErr, OnOk, MatchResult};
 ghost use Rattle.te_io.specs.Stream.{GaveFirst, GrewBy, GrewByPrefix, HoldsNothing};
-ghost use Rattle.te_io.specs.Causes.{Rose, one_more};
+ghost use Rattle.te_io.specs.Causes.{Rose, counted_more};
 
 use crate::copying::copy_first;
 use crate::fault::Failed;
@@ -123,7 +123,7 @@ impl Sink for SteadySink {
         ensures taken { IfOk result (λ n. n ≡ length piece.now) }
         ensures after { MatchResult result
             (λ _. self.new ≡ record self.old { held = self.old.held ++ piece.now })
-            (λ _. self.new ≡ record self.old { faults = one_more self.old.faults }) }
+            (λ _. self.new ≡ record self.old { faults = counted_more self.old.faults }) }
     {
         if piece.len() > self.room - self.bytes.len() {
             self.faults = self.faults.saturating_add(1);

@@ -8,7 +8,7 @@ use Rattle.atomic_table.specs.Table.{opening, Splits}
 use Rattle.te_lock.specs.declared.view.View.{View}
 use Rattle.te_lock.specs.declared.view.Role.TheVariants.{Maker, Caller}
 use Rattle.te_lock.specs.Entries.{entries_by}
-use Rattle.te_lock.specs.Rule.{Stands, Closes, IsSo, IsKept, maker_of, count_up, next_of, counted, next_pass}
+use Rattle.te_lock.specs.Rule.{Stands, Closes, IsSo, IsKept, maker_of, count_up, next_role, counted, next_pass}
 use Rattle.te_lock.proofs.Beginnings.{prefix_nil, prefix_self}
 use Rattle.te_lock.proofs.Numbers.{closes_none}
 use Rattle.te_lock.proofs.OneView.{set_at, one_at, each_set, each_added}
@@ -67,7 +67,7 @@ module _ {V E : Type 0} (entries : V → List E) (members : V → ℕ) (author :
       let same : v ≡ h.maker.maker = one_at s.views id v h.maker.maker at (ap (λ i. get_elem? s.views i) seat ∙ h.maker.there) in
       let both : Maker n ≡ Maker h.count = sym role ∙ ap (λ x. x.role) same ∙ h.maker.role in cc both in
       let counts : w.role ≡ Maker (h.count + 1) = ap count_up role ∙ ap (λ k. Maker (k + 1)) count in
-      let next : p.role ≡ Caller h.count = ap next_of role ∙ ap Caller count in
+      let next : p.role ≡ Caller h.count = ap next_role role ∙ ap Caller count in
       let no_number : (k : ℕ) → Stands k v → ⊥ = λ k. ⊎_elim (λ (r : v.role ≡ Caller k). absurd (cc (role, r))) (λ (c : Closes k v). let by = mine.closer k c in absurd (cc (role, by.1))) in
       let back : (k : ℕ) → Stands k w → Stands k v = λ k. ⊎_elim (λ (r : w.role ≡ Caller k). absurd (cc (counts, r))) (λ (c : Closes k w). inr c) in
       let one_number : (k : ℕ) → Stands k p → h.count ≡ k = λ k. ⊎_elim (λ (r : p.role ≡ Caller k). cc (next, r)) (λ (c : Closes k p). absurd (closes_none k p refl c)) in

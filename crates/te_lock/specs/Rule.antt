@@ -120,7 +120,7 @@ module _ {E : Type 0} where
   released list v = record v { read = list; front = length list; own = v.own ++ drop (length v.read) list; has_turn = false }
 
 -- an even word was found: the seat has the turn and the slot, and the value has all that was seen
-pub record Takes {V E : Type 0} (entries : V → List E) (members : V → ℕ) (author : E → ℕ) (lawful : ℕ → List E → Type 0)
+pub record TakesTurn {V E : Type 0} (entries : V → List E) (members : V → ℕ) (author : E → ℕ) (lawful : ℕ → List E → Type 0)
     (me : Me (Option V) (View E)) (found : ℕ) (after : Me (Option V) (View E)) : Type 0 where
   pub value : V
   pub word : found ≡ 2 * length (entries value)
@@ -150,7 +150,7 @@ module _ {V E : Type 0} where
 
   -- the seat asks for the turn, by setting the word's lowest bit
   abbrev pub Asked : (V → List E) → (V → ℕ) → (E → ℕ) → (ℕ → List E → Type 0) → Me (Option V) (View E) → ℕ → Me (Option V) (View E) → Type 0
-  Asked entries members author lawful me found after = Takes entries members author lawful me found after ⊎ FindsHeld me found after
+  Asked entries members author lawful me found after = TakesTurn entries members author lawful me found after ⊎ FindsHeld me found after
 
   -- the slot that the seat has gives its value, and is empty
   abbrev pub Empties : Me (Option V) (View E) → V → Me (Option V) (View E) → Type 0
@@ -186,11 +186,11 @@ count_up Note = Note
 count_up Spent = Spent
 
 -- the next pass has the number that the maker counted to
-abbrev pub next_of : Role → Role
-next_of (Maker n) = Caller n
-next_of (Caller k) = Spent
-next_of Note = Spent
-next_of Spent = Spent
+abbrev pub next_role : Role → Role
+next_role (Maker n) = Caller n
+next_role (Caller k) = Spent
+next_role Note = Spent
+next_role Spent = Spent
 
 -- the numbers of a joined view, each with its own entries
 abbrev pub closes_of : {E : Type 0} → Role → List E → List (ℕ × List E) → List (ℕ × List E)
@@ -206,7 +206,7 @@ module _ {E : Type 0} where
 
   -- the view of the pass that the maker makes next
   abbrev pub next_pass : View E → View E
-  next_pass v = record { role = next_of v.role; callers = v.callers; read = []; front = 0; own = []; looks = []; known = []; closed = []; has_turn = false }
+  next_pass v = record { role = next_role v.role; callers = v.callers; read = []; front = 0; own = []; looks = []; known = []; closed = []; has_turn = false }
 
   -- the view of a new note
   abbrev pub noted : View E → View E

@@ -6,14 +6,14 @@ use Rattle.te_path.specs.declared.spot.Stop.{Stop}
 use Rattle.te_path.specs.declared.spot.Stop.TheVariants as stops
 use Rattle.te_path.specs.Paths.{StandsAt}
 use Rattle.te_trail.specs.Paths.{Path}
-use Rattle.te_trail.specs.States.{state_of}
+use Rattle.te_trail.specs.States.{path_state}
 use Rattle.te_trail.specs.Trails.{Trail, IsStop}
 use Rattle.te_pair.specs.declared.end.End.{End}
 use Rattle.te_pair.specs.Ends.{StandsOn, IsEnd, IsAtEnd}
 
 -- the clause `only` of where a path stands
 abbrev pub OnlyStop : Trail → ℕ → Stop → Type 0
-OnlyStop store p told = (x : Path) (m : Member) (stop : Stop) → slice_get store.paths p ≡ Some x → state_of store.events x ≡ Some m → StandsAt m.term stop → told ≡ stop
+OnlyStop store p told = (x : Path) (m : Member) (stop : Stop) → slice_get store.paths p ≡ Some x → path_state store.events x ≡ Some m → StandsAt m.term stop → told ≡ stop
 
 end_is : (e : End) (p c : ℕ) (s : Bool) → e.path ≡ p → e.channel ≡ c → e.sends ≡ s → e ≡ record { path = p; channel = c; sends = s }
 end_is e p c s hp hc hs = ap {B = End} (λ q. record { path = q; channel = e.channel; sends = e.sends }) hp ∙ ap {B = End} (λ d. record { path = p; channel = d; sends = e.sends }) hc ∙ ap {B = End} (λ b. record { path = p; channel = c; sends = b }) hs
@@ -91,7 +91,7 @@ one_state : (o : Option Member) (a b : Member) → o ≡ Some a → o ≡ Some b
 one_state o a b e f = (let same : Some a ≡ Some b = sym e ∙ f in cc)
 
 pub at_send : (store : Trail) (p c : ℕ) (v : List Atom) (told : Stop) → told ≡ stops.Send c v → IsStop store p told → IsAtEnd store p
-at_send store p c v told e is x m ex em = (true, c, (record { channel = c; value = v }, subst (λ k. StandsAt k.term (stops.Send c v)) (one_state (state_of store.events x) (is x ex).0 m (is x ex).1.state em) (subst (StandsAt (is x ex).0.term) e (is x ex).2), refl))
+at_send store p c v told e is x m ex em = (true, c, (record { channel = c; value = v }, subst (λ k. StandsAt k.term (stops.Send c v)) (one_state (path_state store.events x) (is x ex).0 m (is x ex).1.state em) (subst (StandsAt (is x ex).0.term) e (is x ex).2), refl))
 
 pub at_receive : (store : Trail) (p c : ℕ) (told : Stop) → told ≡ stops.Recv c → IsStop store p told → IsAtEnd store p
-at_receive store p c told e is x m ex em = (false, c, subst (λ k. StandsAt k.term (stops.Recv c)) (one_state (state_of store.events x) (is x ex).0 m (is x ex).1.state em) (subst (StandsAt (is x ex).0.term) e (is x ex).2))
+at_receive store p c told e is x m ex em = (false, c, subst (λ k. StandsAt k.term (stops.Recv c)) (one_state (path_state store.events x) (is x ex).0 m (is x ex).1.state em) (subst (StandsAt (is x ex).0.term) e (is x ex).2))

@@ -10,7 +10,7 @@ use Rattle.te_trail.specs.Paths.{Path}
 use Rattle.te_trail.specs.Clocks.{Agree}
 use Rattle.te_trail.specs.Trails.{Trail, AreAgreeing, TellsWhether}
 use Rattle.te_pair.specs.declared.end.End.{End}
-use Rattle.te_pair.specs.Ends.{path_of, paths_of, IsEnd, AreEnds, is_at, paths_at, IsPartner}
+use Rattle.te_pair.specs.Ends.{path_of, paths_kept, IsEnd, AreEnds, is_at, paths_at, IsPartner}
 use Rattle.te_pair.proofs.Among.{nothing_twice, next_taken}
 use Rattle.te_pair.proofs.EndsTold.{path_low, path_there}
 
@@ -84,42 +84,42 @@ pub record From (test : End → Bool) (kept : List End) (q : ℕ) : Type 0 where
 from_later : (test : End → Bool) (d : End) (kept : List End) (q : ℕ) → From test kept q → From test (d ∷ kept) q
 from_later test d kept q h = record { end = h.end; kept_is = Contains-append_right (d ∷ []) kept h.end h.kept_is; passes = h.passes; path = h.path }
 
-pub from_place : (test : End → Bool) (kept : List End) (q : ℕ) → Contains (paths_of (filter test kept)) q → From test kept q
+pub from_place : (test : End → Bool) (kept : List End) (q : ℕ) → Contains (paths_kept (filter test kept)) q → From test kept q
 from_place test [] q c = absurd (none_there q c)
 from_place test (d ∷ kept) q c = by (test d) refl (from_place test kept q) c
   where
-    some : (Contains (paths_of (filter test kept)) q → From test kept q) → test d ≡ true → Contains (d.path ∷ []) q ⊎ Contains (paths_of (filter test kept)) q → From test (d ∷ kept) q
+    some : (Contains (paths_kept (filter test kept)) q → From test kept q) → test d ≡ true → Contains (d.path ∷ []) q ⊎ Contains (paths_kept (filter test kept)) q → From test (d ∷ kept) q
     some rest t (inl one) = record { end = d; kept_is = here d d kept refl; passes = t; path = one_there d.path q one }
     some rest t (inr more) = from_later test d kept q (rest more)
 
-    by : (b : Bool) → test d ≡ b → (Contains (paths_of (filter test kept)) q → From test kept q) → Contains (paths_of (cond b (d ∷ filter test kept) (filter test kept))) q → From test (d ∷ kept) q
-    by true t rest g = some rest t (Contains-append_cases (d.path ∷ []) (paths_of (filter test kept)) q g)
+    by : (b : Bool) → test d ≡ b → (Contains (paths_kept (filter test kept)) q → From test kept q) → Contains (paths_kept (cond b (d ∷ filter test kept) (filter test kept))) q → From test (d ∷ kept) q
+    by true t rest g = some rest t (Contains-append_cases (d.path ∷ []) (paths_kept (filter test kept)) q g)
     by false t rest g = from_later test d kept q (rest g)
 
-to_place : (test : End → Bool) (kept : List End) (e : End) → Contains kept e → test e ≡ true → Contains (paths_of (filter test kept)) e.path
+to_place : (test : End → Bool) (kept : List End) (e : End) → Contains kept e → test e ≡ true → Contains (paths_kept (filter test kept)) e.path
 to_place test [] e c t = absurd (none_there e c)
 to_place test (d ∷ kept) e c t = by (test d) refl (λ more. to_place test kept e more t) (Contains-append_cases (d ∷ []) kept e c)
   where
-    by : (b : Bool) → test d ≡ b → (Contains kept e → Contains (paths_of (filter test kept)) e.path) → Contains (d ∷ []) e ⊎ Contains kept e → Contains (paths_of (cond b (d ∷ filter test kept) (filter test kept))) e.path
-    by true o rest (inl one) = here d.path e.path (paths_of (filter test kept)) (ap path_of (one_there d e one))
-    by true o rest (inr more) = Contains-append_right (d.path ∷ []) (paths_of (filter test kept)) e.path (rest more)
+    by : (b : Bool) → test d ≡ b → (Contains kept e → Contains (paths_kept (filter test kept)) e.path) → Contains (d ∷ []) e ⊎ Contains kept e → Contains (paths_kept (cond b (d ∷ filter test kept) (filter test kept))) e.path
+    by true o rest (inl one) = here d.path e.path (paths_kept (filter test kept)) (ap path_of (one_there d e one))
+    by true o rest (inr more) = Contains-append_right (d.path ∷ []) (paths_kept (filter test kept)) e.path (rest more)
     by false o rest (inl one) = (let both : true ≡ false = sym t ∙ ap test (sym (one_there d e one)) ∙ o in cc)
     by false o rest (inr more) = rest more
 
-all_placed : (test : End → Bool) (R : ℕ → Type 0) (kept : List End) → AllByRecursion R (paths_of kept) → AllByRecursion R (paths_of (filter test kept))
+all_placed : (test : End → Bool) (R : ℕ → Type 0) (kept : List End) → AllByRecursion R (paths_kept kept) → AllByRecursion R (paths_kept (filter test kept))
 all_placed test R [] a = _
 all_placed test R (d ∷ kept) (o, a) = by (test d) (all_placed test R kept a)
   where
-    by : (b : Bool) → AllByRecursion R (paths_of (filter test kept)) → AllByRecursion R (paths_of (cond b (d ∷ filter test kept) (filter test kept)))
+    by : (b : Bool) → AllByRecursion R (paths_kept (filter test kept)) → AllByRecursion R (paths_kept (cond b (d ∷ filter test kept) (filter test kept)))
     by true rest = (o, rest)
     by false rest = rest
 
-pub placed_once : (test : End → Bool) (kept : List End) → IsDistinct nat_eq (paths_of kept) → IsDistinct nat_eq (paths_of (filter test kept))
+pub placed_once : (test : End → Bool) (kept : List End) → IsDistinct nat_eq (paths_kept kept) → IsDistinct nat_eq (paths_kept (filter test kept))
 placed_once test [] d = d
-placed_once test (e ∷ kept) d = by (test e) (placed_once test kept (IsDistinct-tail nat_eq e.path (paths_of kept) d))
+placed_once test (e ∷ kept) d = by (test e) (placed_once test kept (IsDistinct-tail nat_eq e.path (paths_kept kept) d))
   where
-    by : (b : Bool) → IsDistinct nat_eq (paths_of (filter test kept)) → IsDistinct nat_eq (paths_of (cond b (e ∷ filter test kept) (filter test kept)))
-    by true rest = IsDistinct-cons nat_eq e.path (paths_of (filter test kept)) (all_placed test (λ y. nat_eq e.path y ≡ false) kept (IsDistinct-head nat_eq e.path (paths_of kept) d)) rest
+    by : (b : Bool) → IsDistinct nat_eq (paths_kept (filter test kept)) → IsDistinct nat_eq (paths_kept (cond b (e ∷ filter test kept) (filter test kept)))
+    by true rest = IsDistinct-cons nat_eq e.path (paths_kept (filter test kept)) (all_placed test (λ y. nat_eq e.path y ≡ false) kept (IsDistinct-head nat_eq e.path (paths_kept kept) d)) rest
     by false rest = rest
 
 both_true : (a b : Bool) → (a && b) ≡ true → (a ≡ true) × (b ≡ true)

@@ -4,7 +4,7 @@ use Rattle.std.specs.List.{All, Contains, filter}
 use Rattle.te_terms.specs.Steps.{Member}
 use Rattle.te_terms.specs.Joint.{Message, sending, receiving}
 use Rattle.te_trail.specs.Paths.{Path}
-use Rattle.te_trail.specs.States.{state_of}
+use Rattle.te_trail.specs.States.{path_state}
 use Rattle.te_trail.specs.Trails.{Trail, AreAgreeing}
 use Rattle.te_pair.specs.declared.end.End.{End}
 
@@ -18,7 +18,7 @@ pub record IsEnd (store : Trail) (e : End) : Type 0 where
   pub of : Path
   pub made : slice_get store.paths e.path ≡ Some of
   pub member : Member
-  pub state : state_of store.events of ≡ Some member
+  pub state : path_state store.events of ≡ Some member
   pub stands : StandsOn e.sends e.channel member
 
 abbrev pub AreEnds : Trail → List End → Type 0
@@ -26,18 +26,18 @@ AreEnds store kept = All (IsEnd store) kept
 
 -- path p stands at a send or a receive
 abbrev pub IsAtEnd : Trail → ℕ → Type 0
-IsAtEnd store p = (x : Path) (m : Member) → slice_get store.paths p ≡ Some x → state_of store.events x ≡ Some m → (sends : Bool) × (channel : ℕ) × StandsOn sends channel m
+IsAtEnd store p = (x : Path) (m : Member) → slice_get store.paths p ≡ Some x → path_state store.events x ≡ Some m → (sends : Bool) × (channel : ℕ) × StandsOn sends channel m
 
 -- ---- keeping
 
 abbrev pub path_of : End → ℕ
 path_of e = e.path
 
-abbrev pub paths_of : List End → List ℕ
-paths_of ends = map path_of ends
+abbrev pub paths_kept : List End → List ℕ
+paths_kept ends = map path_of ends
 
-abbrev pub IsKept : List End → ℕ → Type 0
-IsKept kept p = Contains (paths_of kept) p
+abbrev pub PathIsKept : List End → ℕ → Type 0
+PathIsKept kept p = Contains (paths_kept kept) p
 
 -- path p is kept behind the others, as it stands
 pub record IsAdded (store : Trail) (old : List End) (p : ℕ) (new : List End) : Type 0 where
@@ -54,7 +54,7 @@ is_at channel false e = nat_eq e.channel channel && not e.sends
 
 -- the kept paths of a direction and channel, in the order of adding
 abbrev pub paths_at : ℕ → Bool → List End → List ℕ
-paths_at channel sends kept = paths_of (filter (is_at channel sends) kept)
+paths_at channel sends kept = paths_kept (filter (is_at channel sends) kept)
 
 -- ---- partners
 

@@ -5,7 +5,7 @@ use Rattle.std.specs.List.{IsDistinct}
 use Rattle.std.specs.HashMap.{HashMap, get}
 use Rattle.te_pair.specs.declared.end.End.{End}
 use Rattle.te_pair.specs.declared.places.Places.{Places}
-use Rattle.te_pair.specs.Ends.{paths_of, is_at, paths_at}
+use Rattle.te_pair.specs.Ends.{paths_kept, is_at, paths_at}
 
 abbrev pub items_or_none : Option (Vec ℕ Global) → List ℕ
 items_or_none None = []
@@ -36,4 +36,4 @@ Drops old new e = (channel : ℕ) (sends : Bool) → numbers new channel sends �
 -- the numbers of each place are those of the kept paths there, and no path is kept twice
 pub record IsPlaced (kept : List End) (places : Places) : Type 0 where
   pub each : (channel : ℕ) (sends : Bool) → numbers places channel sends ≡ paths_at channel sends kept
-  pub once : IsDistinct nat_eq (paths_of kept)
+  pub once : IsDistinct nat_eq (paths_kept kept)

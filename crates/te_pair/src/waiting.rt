@@ -1,7 +1,7 @@
 ghost use Rattle.std.specs.Prelude.{◌≡◌, ◌≤◌, ◌<◌, ◌↔◌, ℕ, List, [], ◌∷◌, ◌++◌, length, take, nat_eq, IfOk, OnOk, OnErr, IsTrue};
 ghost use Rattle.std.specs.List.{Contains, IsDistinct};
 ghost use Rattle.std.specs.List.Sorted.{IsStrictlyIncreasing};
-ghost use Rattle.te_pair.specs.Ends.{IsAtEnd, AreEnds, paths_at, IsKept, IsAdded, IsPartner};
+ghost use Rattle.te_pair.specs.Ends.{IsAtEnd, AreEnds, paths_at, PathIsKept, IsAdded, IsPartner};
 
 use crate::end::{End, end_of};
 use crate::places::Places;
@@ -47,7 +47,7 @@ impl Waiting {
     pub fn add(&mut self, store: &TrailStore, p: u32) -> Result<(), NoMemory>
         requires path { p < length store.now.paths }
         requires stands { IsAtEnd store.now p }
-        requires fresh { ¬ IsKept self.old p }
+        requires fresh { ¬ PathIsKept self.old p }
         requires ends { AreEnds store.now self.old }
         ensures ok { OnOk result (IsAdded store.now self.old p self.new) }
         ensures err { OnErr result (self.new ≡ self.old) }
@@ -92,7 +92,7 @@ impl Waiting {
     /// Whether path `p` is kept. It looks at every kept path, and is public for tests of the crates above alone.
     #[doc(hidden)]
     pub fn keeps(&self, p: u32) -> bool
-        ensures { IsTrue result ↔ IsKept self.now p }
+        ensures { IsTrue result ↔ PathIsKept self.now p }
     {
         'kept: for i in 0..self.kept.len() {
             if self.kept[i].path == p {
@@ -127,7 +127,7 @@ impl Waiting {
     /// where the path stands.
     #[doc(hidden)]
     pub fn keep_at(&mut self, path: u32, channel: u32, sends: bool) -> Result<(), NoMemory>
-        requires { ¬ IsKept self.old path }
+        requires { ¬ PathIsKept self.old path }
         ensures ok { OnOk result (self.new ≡ self.old ++ record { path = path; channel = channel; sends = sends } ∷ []) }
         ensures err { OnErr result (self.new ≡ self.old) }
     {
@@ -140,7 +140,7 @@ impl Waiting {
 
     // Keeps an end.
     fn keep(&mut self, end: End) -> Result<(), NoMemory>
-        requires { ¬ IsKept self.old end.path }
+        requires { ¬ PathIsKept self.old end.path }
         ensures ok { OnOk result (self.new ≡ self.old ++ end ∷ []) }
         ensures err { OnErr result (self.new ≡ self.old) }
     {

@@ -21,7 +21,7 @@ use Rattle.te_reader.specs.declared.refusal.Refusal.TheVariants as faults
 use Rattle.te_reader.specs.Lexed.{Stream}
 use Rattle.te_reader.specs.Grammar.{Names}
 use Rattle.te_reader.specs.NameReads.{Read}
-use Rattle.te_reader.specs.Tallies.{Tally, HasRoom, tally, with_event}
+use Rattle.te_reader.specs.Tallies.{Tally, HasRoom, tally, tally_with_event}
 use Rattle.te_reader.specs.EventReads.{is_within, made, read_leaf, read_one}
 use Rattle.te_reader.specs.Answering.{leaf, IsBuilt, AnswersEvent, Puts}
 
@@ -189,7 +189,7 @@ not_fresh (nodes.Catch c d) a b h = refl
 not_fresh (nodes.If q c d) a b h = refl
 
 -- the nodes behind an event
-pub tallied : {level root : ℕ} {before after : List Node} → IsBuilt level before after root → tally after ≡ with_event (tally before) (term_at after level root)
+pub tallied : {level root : ℕ} {before after : List Node} → IsBuilt level before after root → tally after ≡ tally_with_event (tally before) (term_at after level root)
 tallied b = tally_same _ _ b.nodes b.fresh
 
 pub some_node : (t : Term) → 1 ≤ node_count t

@@ -9,7 +9,7 @@ use Rattle.te_reader.specs.declared.token.Word.TheVariants as words
 use Rattle.te_reader.specs.declared.token.Sign.TheVariants as signs
 use Rattle.te_reader.specs.Tokens as tokens
 use Rattle.te_reader.specs.Tokens.{Token, word, sign, Spells}
-use Rattle.te_reader.specs.Grammar.{Span, is, ◌⨟◌, IsShort, spells_statements, spells_thread, spells_threads, spells_names, spells_channels, spells_program}
+use Rattle.te_reader.specs.Grammar.{Span, is, ◌⨟◌, IsShortName, spells_statements, spells_thread, spells_threads, spells_names, spells_channels, spells_program}
 use Rattle.te_reader.specs.Canonical.{lines_text, thread_text, spaced, channels_text, canonical_text}
 use Rattle.te_reader.specs.Text.{Text}
 use Rattle.te_reader.specs.Limits.{most_bytes}
@@ -33,7 +33,7 @@ thread_writes channels t named_channels names kept =
     let body = blank_writes 32 _ _ refl (sign_before signs.OpenBrace 123 (10 ∷ (lines_of channels t ++ codes "}")) _ brace_opens (blank_writes 10 _ _ refl ended)) in
     let named = then_writes t.name (codes " {\n" ++ (lines_of channels t ++ codes "}")) (is (tokens.name t.name)) _ (name_writes t.name names.name.identifier) body (λ b a. refl) in
     let whole = then_writes (codes "thread") (32 ∷ (t.name ++ (codes " {\n" ++ (lines_of channels t ++ codes "}")))) (is (word words.Thread)) _ (word_writes words.Thread) (blank_writes 32 _ _ refl named) (λ b a. refl) in
-    under_writes (up_to_brace channels t) (IsShort t.name) _ names.name.short whole
+    under_writes (up_to_brace channels t) (IsShortName t.name) _ names.name.short whole
 
 -- what comes last in it
 last_of : (name lines last more : List ℕ) → (name ++ (codes " {\n" ++ (lines ++ last))) ++ more ≡ name ++ (codes " {\n" ++ (lines ++ (last ++ more)))
@@ -65,7 +65,7 @@ names_write : (names : List (List ℕ)) → AllByRecursion IsName names → Writ
 names_write [] named = nothing_writes
 names_write (n ∷ names) named =
     let first = then_writes n (flat_map spaced names) (is (tokens.name n)) (spells_names true names) (name_writes n named.0.identifier) (names_write names named.1) (spaced_apart names) in
-    under_writes (flat_map spaced (n ∷ names)) (IsShort n) _ named.0.short (blank_writes 32 (n ++ flat_map spaced names) _ refl first)
+    under_writes (flat_map spaced (n ∷ names)) (IsShortName n) _ named.0.short (blank_writes 32 (n ++ flat_map spaced names) _ refl first)
 
 -- the channels, up to their `;`, and what is behind them
 channels_write : (n : List ℕ) (names : List (List ℕ)) (more : List ℕ) (span : Span) → AllByRecursion IsName (n ∷ names) → Writes more span → Writes (channels_text (n ∷ names) ++ more) (spells_channels true (n ∷ names) ⨟ span)

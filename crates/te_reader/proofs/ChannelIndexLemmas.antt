@@ -14,7 +14,7 @@ use Rattle.std.proofs.lemmas.Slice.Eq.{bytes_eq-Decides}
 use Rattle.std.proofs.lemmas.Map.Text.{btree_map_updates_str}
 use Rattle.te_script.specs.Scripts.{AreDistinct}
 use Rattle.te_reader.specs.Grammar.{IsAt, IsNew}
-use Rattle.te_reader.specs.NameReads.{place_of, declared_in}
+use Rattle.te_reader.specs.NameReads.{first_place_of, declared_in}
 use Rattle.te_reader.specs.ChannelIndex.{slot_behind, IsIndex}
 use Rattle.te_reader.proofs.NameLemmas.{place_cons, place_is, declared}
 use Rattle.te_reader.proofs.ListsKept.{distinct_push}
@@ -30,15 +30,15 @@ empty_index names numbers slots none empty size = record {
 }
 
 -- where a name is once a new one stands behind the others
-place_push : (names : List (List ℕ)) (n q : List ℕ) → IsNew n names → place_of (names ++ n ∷ []) q ≡ (if bytes_eq n q then Some (length names) else place_of names q)
-place_push [] n q new = place_cons n [] q ∙ by (bytes_eq n q) (place_of [] q) (place_absent [] q tt) where
+place_push : (names : List (List ℕ)) (n q : List ℕ) → IsNew n names → first_place_of (names ++ n ∷ []) q ≡ (if bytes_eq n q then Some (length names) else first_place_of names q)
+place_push [] n q new = place_cons n [] q ∙ by (bytes_eq n q) (first_place_of [] q) (place_absent [] q tt) where
   by : (b : Bool) (o : Option ℕ) → o ≡ None → (if b then Some 0 else option_map suc o) ≡ (if b then Some 0 else o)
   by true o e = refl
   by false o e = rw e refl
 place_push (x ∷ xs) n q new =
     place_cons x (xs ++ n ∷ []) q ∙ by (bytes_eq x q) (bytes_eq n q) (bytes_eq-Decides x q).0 (bytes_eq-Decides n q).0 (place_push xs n q new.1) ∙ sym (ap (λ o. if bytes_eq n q then Some (suc (length xs)) else o) (place_cons x xs q)) where
-      by : (a b : Bool) → (a ≡ true → x ≡ q) → (b ≡ true → n ≡ q) → place_of (xs ++ n ∷ []) q ≡ (if b then Some (length xs) else place_of xs q)
-          → (if a then Some 0 else option_map suc (place_of (xs ++ n ∷ []) q)) ≡ (if b then Some (suc (length xs)) else (if a then Some 0 else option_map suc (place_of xs q)))
+      by : (a b : Bool) → (a ≡ true → x ≡ q) → (b ≡ true → n ≡ q) → first_place_of (xs ++ n ∷ []) q ≡ (if b then Some (length xs) else first_place_of xs q)
+          → (if a then Some 0 else option_map suc (first_place_of (xs ++ n ∷ []) q)) ≡ (if b then Some (suc (length xs)) else (if a then Some 0 else option_map suc (first_place_of xs q)))
       by true true first other later = absurd (new.0 (first refl ∙ sym (other refl)))
       by true false first other later = refl
       by false true first other later = rw later refl
@@ -70,23 +70,23 @@ index_push names more n number value old new slots index e is updates slot at_sl
       few = omega (arith, d.room, ap length d.appended, length-append names (n ∷ []));
       size = length-set slots slot value ∙ index.size;
       distinct = subst P (sym d.appended) (distinct_push names n index.distinct d.new);
-      finds = λ q. btree_map_updates_str n old new (Some number) updates q ∙ by q (bytes_eq n q) ∙ sym (place_push names n q d.new) ∙ ap (λ xs. place_of xs q) (sym d.appended);
+      finds = λ q. btree_map_updates_str n old new (Some number) updates q ∙ by q (bytes_eq n q) ∙ sym (place_push names n q d.new) ∙ ap (λ xs. first_place_of xs q) (sym d.appended);
       marked = λ i m at. elim (pushed_at names n i m (rw d.appended at at)) [
         | inl old_at ↦ mark_stays slots slot (slot_behind 0 m) value within some (index.marked i m old_at)
         | inr same ↦ omega (arith, get_or-set_at slots slot (slot_behind 0 m) value 0 (ap (slot_behind 0) same ∙ sym at_slot) within)
       ];
     } where
-      by : (q : List ℕ) (b : Bool) → cond b (Some number) (get_by (λ k. slice_cmp nat_cmp q k.now) old) ≡ (if b then Some (length names) else place_of names q)
+      by : (q : List ℕ) (b : Bool) → cond b (Some number) (get_by (λ k. slice_cmp nat_cmp q k.now) old) ≡ (if b then Some (length names) else first_place_of names q)
       by q true = ap Some is
       by q false = index.finds q
 
 -- ---- lookups
 
-pub no_mark : (names : List (List ℕ)) (numbers : BTreeMap (Bor (List ℕ)) ℕ) (slots : List ℕ) (n : List ℕ) → IsIndex names numbers slots → slice_index slots (slot_behind 0 n) ≡ 0 → place_of names n ≡ None
-no_mark names numbers slots n index none = by (place_of names n) refl where
-  by : (o : Option ℕ) → place_of names n ≡ o → o ≡ None
+pub no_mark : (names : List (List ℕ)) (numbers : BTreeMap (Bor (List ℕ)) ℕ) (slots : List ℕ) (n : List ℕ) → IsIndex names numbers slots → slice_index slots (slot_behind 0 n) ≡ 0 → first_place_of names n ≡ None
+no_mark names numbers slots n index none = by (first_place_of names n) refl where
+  by : (o : Option ℕ) → first_place_of names n ≡ o → o ≡ None
   by None e = refl
   by (Some i) e = absurd (omega (arith, none, index.marked i n (place_is names n i e).0))
 
-pub is_marked : (names : List (List ℕ)) (numbers : BTreeMap (Bor (List ℕ)) ℕ) (slots : List ℕ) (i : ℕ) (n m : List ℕ) → IsIndex names numbers slots → Some m ≡ slice_get names i → m ≡ n → place_of names n ≡ Some i
+pub is_marked : (names : List (List ℕ)) (numbers : BTreeMap (Bor (List ℕ)) ℕ) (slots : List ℕ) (i : ℕ) (n m : List ℕ) → IsIndex names numbers slots → Some m ≡ slice_get names i → m ≡ n → first_place_of names n ≡ Some i
 is_marked names numbers slots i n m index at same = place_found names i n index.distinct (sym at ∙ ap Some same)

@@ -16,32 +16,32 @@ use Rattle.te_reader.specs.Tokens.{Token}
 use Rattle.te_reader.specs.NameReads.{Read}
 use Rattle.te_reader.specs.Bodies.{OnRead}
 use Rattle.te_reader.specs.declared.sync.Draft.{Draft}
-use Rattle.te_reader.specs.Answering.{Extends}
+use Rattle.te_reader.specs.Answering.{CodeExtends}
 use Rattle.te_reader.specs.Written.{draft_of, IsDraft, AreWritten, AreDrafts, AreSyncsRead}
 use Rattle.te_reader.proofs.ListsKept.{all_weaker}
 use Rattle.te_reader.proofs.LoopSteps.{map_length}
 
-pub extends_none : (code : List Node) → Extends code code
+pub extends_none : (code : List Node) → CodeExtends code code
 extends_none code = record { added = []; appended = sym (append-nil code) }
 
-pub extends_both : (a b c : List Node) → Extends a b → Extends b c → Extends a c
+pub extends_both : (a b c : List Node) → CodeExtends a b → CodeExtends b c → CodeExtends a c
 extends_both a b c f g = record { added = f.added ++ g.added; appended = g.appended ∙ ap (λ x. x ++ g.added) f.appended ∙ append_assoc a f.added g.added }
 
-pub extends_by : (before after : List Node) (node : Node) → after ≡ before ++ node ∷ [] → Extends before after
+pub extends_by : (before after : List Node) (node : Node) → after ≡ before ++ node ∷ [] → CodeExtends before after
 extends_by before after node e = record { added = node ∷ []; appended = e }
 
-pub longer : (before after : List Node) → Extends before after → length before ≤ length after
+pub longer : (before after : List Node) → CodeExtends before after → length before ≤ length after
 longer before after e = omega (arith, ap length e.appended, length-append before e.added)
 
 -- drafts stand for the same syncs in a longer code
-pub drafts_stay : (code after : List Node) → IsForest code → Extends code after → (ds : List Draft) → AllByRecursion (IsDraft code) ds
+pub drafts_stay : (code after : List Node) → IsForest code → CodeExtends code after → (ds : List Draft) → AllByRecursion (IsDraft code) ds
     → map (draft_of after) ds ≡ map (draft_of code) ds
 drafts_stay code after forest more [] h = refl
 drafts_stay code after forest more (d ∷ ds) h =
     let same : term_under after d.root ≡ term_under code d.root = ap (λ c. term_under c d.root) more.appended ∙ term_at-append code more.added forest.earlier 0 d.root h.0 in
     ap (λ t. sync d.reg t ∷ map (draft_of after) ds) same ∙ ap (λ xs. draft_of code d ∷ xs) (drafts_stay code after forest more ds h.1)
 
-pub drafts_inside : (code after : List Node) → Extends code after → (ds : List Draft) → AllByRecursion (IsDraft code) ds
+pub drafts_inside : (code after : List Node) → CodeExtends code after → (ds : List Draft) → AllByRecursion (IsDraft code) ds
     → AllByRecursion (IsDraft after) ds
 drafts_inside code after more ds h = all_weaker (IsDraft code) (IsDraft after) (λ d below. omega (arith, below, longer code after more)) ds h
 

@@ -12,9 +12,9 @@ use Rattle.te_reader.specs.declared.token.Word.TheVariants as words
 use Rattle.te_reader.specs.declared.token.Sign.TheVariants as signs
 use Rattle.te_reader.specs.Tokens.{Token, word, sign}
 use Rattle.te_reader.specs.Heads.{word_first, sign_first}
-use Rattle.te_reader.specs.Grammar.{Names, bound, with_inner, IsFree, Standing, alone, in_do, in_choose, closed, test_sign, spells_primitive, spells_event}
+use Rattle.te_reader.specs.Grammar.{Names, bound_name, with_inner, IsFreeName, EventPlace, alone, in_do, in_choose, closed_span, test_sign, spells_primitive, spells_event}
 use Rattle.te_reader.specs.ExpressionReads.{read_primitive, read_expression}
-use Rattle.te_reader.specs.Tallies.{Tally, HasRoom, with_event}
+use Rattle.te_reader.specs.Tallies.{Tally, HasRoom, tally_with_event}
 use Rattle.te_reader.specs.EventReads.{read_leaf, Parts, read_braced, read_part, read_do, read_second, read_choose, read_try, test_first, read_condition, read_if, read_one, read_alone, read_in_do, read_in_choose, read_standing, read_event}
 use Rattle.te_reader.proofs.BuiltLemmas.{made_within}
 use Rattle.te_reader.proofs.ReadIsSpelled.{scope_of}
@@ -66,7 +66,7 @@ module _ (next : Parts) (s : Names) (used : Tally) (ts : List Token) where
   unfolding read_alone read_one
   one_is_read t w behind rest begins no_do no_choose no_try no_if read few low = rw (no_do, no_choose, no_try, no_if, read) (made_within used t rest few low)
 
-  do_is_read : (t : Term) (n : List ℕ) (behind inside within rest : List Token) → ts ≡ word words.Do ∷ behind → behind ≡ sign signs.OpenBrace ∷ inside → bound n inside within → read_part next s used n within ≡ Some (t, rest) → read_alone next s used ts ≡ Some (t, rest)
+  do_is_read : (t : Term) (n : List ℕ) (behind inside within rest : List Token) → ts ≡ word words.Do ∷ behind → behind ≡ sign signs.OpenBrace ∷ inside → bound_name n inside within → read_part next s used n within ≡ Some (t, rest) → read_alone next s used ts ≡ Some (t, rest)
   unfolding read_alone read_do
   do_is_read t n behind inside within rest begins opened name read = rw (takes_word words.Do ts behind begins, takes_sign signs.OpenBrace behind inside opened, takes_bound n inside within name) read
 
@@ -87,13 +87,13 @@ module _ (next : Parts) (s : Names) (used : Tally) (ts : List Token) where
 
   -- ---- parts
 
-  part_is_read : (e f : Term) (n : List ℕ) (a b c rest : List Token) → ts ≡ sign signs.Arrow ∷ a → next alone s used a ≡ Some (e, b) → b ≡ sign signs.Semicolon ∷ c → IsFree s n → next in_do (with_inner s n) (with_event used e) c ≡ Some (f, rest)
+  part_is_read : (e f : Term) (n : List ℕ) (a b c rest : List Token) → ts ≡ sign signs.Arrow ∷ a → next alone s used a ≡ Some (e, b) → b ≡ sign signs.Semicolon ∷ c → IsFreeName s n → next in_do (with_inner s n) (tally_with_event used e) c ≡ Some (f, rest)
       → HasRoom used (and_then e (length s.inners) f) → height (and_then e (length s.inners) f) ≤ 32 → read_part next s used n ts ≡ Some (and_then e (length s.inners) f, rest)
   unfolding read_part
   part_is_read e f n a b c rest arrow first semicolon free second few low =
       rw (takes_sign signs.Arrow ts a arrow, first, takes_sign signs.Semicolon b c semicolon, binds s n free, second) (made_within used (and_then e (length s.inners) f) rest few low)
 
-  second_is_read : (e f : Term) (rest : List Token) → next in_choose s (with_event used e) ts ≡ Some (f, rest) → HasRoom used (choose e f) → height (choose e f) ≤ 32 → read_second next s used e ts ≡ Some (choose e f, rest)
+  second_is_read : (e f : Term) (rest : List Token) → next in_choose s (tally_with_event used e) ts ≡ Some (f, rest) → HasRoom used (choose e f) → height (choose e f) ≤ 32 → read_second next s used e ts ≡ Some (choose e f, rest)
   unfolding read_second
   second_is_read e f rest second few low = rw second (made_within used (choose e f) rest few low)
 
@@ -101,13 +101,13 @@ module _ (next : Parts) (s : Names) (used : Tally) (ts : List Token) where
   unfolding read_braced
   braced_is_read e a b rest opened inside close = rw (takes_sign signs.OpenBrace ts a opened, inside, takes_sign signs.CloseBrace b rest close) refl
 
-  catch_is_read : (e h : Term) (n : List ℕ) (a b c rest : List Token) → read_braced next s used ts ≡ Some (e, a) → a ≡ word words.Catch ∷ b → bound n b c → IsFree s n → read_braced next (with_inner s n) (with_event used e) c ≡ Some (h, rest)
+  catch_is_read : (e h : Term) (n : List ℕ) (a b c rest : List Token) → read_braced next s used ts ≡ Some (e, a) → a ≡ word words.Catch ∷ b → bound_name n b c → IsFreeName s n → read_braced next (with_inner s n) (tally_with_event used e) c ≡ Some (h, rest)
       → HasRoom used (catch e (length s.inners) h) → height (catch e (length s.inners) h) ≤ 32 → read_try next s used ts ≡ Some (catch e (length s.inners) h, rest)
   unfolding read_try
   catch_is_read e h n a b c rest first caught name free second few low =
       rw (first, takes_word words.Catch a b caught, takes_bound n b c name, binds s n free, second) (made_within used (catch e (length s.inners) h) rest few low)
 
-  when_is_read : (test : Test) (p q : Primitive) (e f : Term) (a b c rest : List Token) → read_condition s ts ≡ Some ((test, p, q), a) → read_braced next s used a ≡ Some (e, b) → b ≡ word words.Else ∷ c → read_braced next s (with_event used e) c ≡ Some (f, rest)
+  when_is_read : (test : Test) (p q : Primitive) (e f : Term) (a b c rest : List Token) → read_condition s ts ≡ Some ((test, p, q), a) → read_braced next s used a ≡ Some (e, b) → b ≡ word words.Else ∷ c → read_braced next s (tally_with_event used e) c ≡ Some (f, rest)
       → HasRoom used (when test p q e f) → height (when test p q e f) ≤ 32 → read_if next s used ts ≡ Some (when test p q e f, rest)
   unfolding read_if
   when_is_read test p q e f a b c rest condition first other second few low =
@@ -119,7 +119,7 @@ module _ (next : Parts) (s : Names) (used : Tally) (ts : List Token) where
   unfolding read_in_do
   last_in_do t w behind middle rest begins read close = rw (no_bound w ts behind begins, read, takes_sign signs.CloseBrace middle rest close) refl
 
-  more_in_do : (t : Term) (n : List ℕ) (behind rest : List Token) → bound n ts behind → read_part next s used n behind ≡ Some (t, rest) → read_in_do next s used ts ≡ Some (t, rest)
+  more_in_do : (t : Term) (n : List ℕ) (behind rest : List Token) → bound_name n ts behind → read_part next s used n behind ≡ Some (t, rest) → read_in_do next s used ts ≡ Some (t, rest)
   unfolding read_in_do
   more_in_do t n behind rest name read = rw (takes_bound n ts behind name) read
 
@@ -132,8 +132,8 @@ module _ (next : Parts) (s : Names) (used : Tally) (ts : List Token) where
   more_in_choose e t bar second rest first barred read = rw (first, takes_sign signs.Bar bar second barred) read
 
   -- an event that stands by itself, or before a closing brace
-  closed_is_read : (t : Term) (at : Standing) (rest : List Token) → ((last : List Token) → sign_first signs.Dot last ≡ None → spells_event true alone s t ts last → read_alone next s used ts ≡ Some (t, last)) → sign_first signs.Dot rest ≡ None
-      → closed at (spells_event true alone s t) ts rest → read_standing next at s used ts ≡ Some (t, rest)
+  closed_is_read : (t : Term) (at : EventPlace) (rest : List Token) → ((last : List Token) → sign_first signs.Dot last ≡ None → spells_event true alone s t ts last → read_alone next s used ts ≡ Some (t, last)) → sign_first signs.Dot rest ≡ None
+      → closed_span at (spells_event true alone s t) ts rest → read_standing next at s used ts ≡ Some (t, rest)
   closed_is_read t alone rest read no_dot h = read rest no_dot h
   closed_is_read t in_do rest read no_dot h =
       let begins = begins_with_word s t ts h.0 h.1 in
@@ -205,19 +205,19 @@ module _ (m : ℕ) where
 
   -- what is spelled of this event, in scope and within the limits, is read
   abbrev pub IsRead : Term → Type 0
-  IsRead t = (layers : ℕ) (used : Tally) (at : Standing) (s : Names) (ts rest : List Token) → InScope s → IsEvent (scope_of m s) t → Fits layers used t → sign_first signs.Dot rest ≡ None → spells_event true at s t ts rest → read_event layers at s used ts ≡ Some (t, rest)
+  IsRead t = (layers : ℕ) (used : Tally) (at : EventPlace) (s : Names) (ts rest : List Token) → InScope s → IsEvent (scope_of m s) t → Fits layers used t → sign_first signs.Dot rest ≡ None → spells_event true at s t ts rest → read_event layers at s used ts ≡ Some (t, rest)
 
-  then_is_read : (e f : Term) (n : ℕ) → IsRead e → IsRead f → (layers : ℕ) (used : Tally) (at : Standing) (s : Names) (ts rest : List Token) → InScope s → IsEvent (scope_of m s) (and_then e n f) → Fits (suc layers) used (and_then e n f) → sign_first signs.Dot rest ≡ None → spells_event true at s (and_then e n f) ts rest
+  then_is_read : (e f : Term) (n : ℕ) → IsRead e → IsRead f → (layers : ℕ) (used : Tally) (at : EventPlace) (s : Names) (ts rest : List Token) → InScope s → IsEvent (scope_of m s) (and_then e n f) → Fits (suc layers) used (and_then e n f) → sign_first signs.Dot rest ≡ None → spells_event true at s (and_then e n f) ts rest
       → read_event (suc layers) at s used ts ≡ Some (and_then e n f, rest)
   unfolding read_event
   then_is_read e f n read_e read_f layers used at s ts rest keeps scoped fits no_dot h = by at no_dot h where
-    parts : (n' : List ℕ) (all within last : List Token) → sign_first signs.Dot last ≡ None → IsFree s n' → ((a : List Token) × (within ≡ sign signs.Arrow ∷ a) × ((b : List Token) × spells_event true alone s e a b × ((c : List Token) × (b ≡ sign signs.Semicolon ∷ c) × spells_event true in_do (with_inner s n') f c last)))
+    parts : (n' : List ℕ) (all within last : List Token) → sign_first signs.Dot last ≡ None → IsFreeName s n' → ((a : List Token) × (within ≡ sign signs.Arrow ∷ a) × ((b : List Token) × spells_event true alone s e a b × ((c : List Token) × (b ≡ sign signs.Semicolon ∷ c) × spells_event true in_do (with_inner s n') f c last)))
         → read_part (read_event layers) s used n' within ≡ Some (and_then e n f, last)
     parts n' all within last dot free k =
         let i = k.2 in
         let j = i.2 in
         let first = read_e layers used alone s k.0 i.0 keeps scoped.1 (record { few = (omega (arith, fits.few.0), omega (arith, fits.few.1)); low = omega (arith, fits.low); layered = omega (arith, fits.layered) }) (other_sign signs.Dot signs.Semicolon i.0 j.0 j.1 refl) i.1 in
-        let second = read_f layers (with_event used e) in_do (with_inner s n') j.0 last (one_more_in_scope s n' keeps free) (in_inner_scope s n' f scoped.2) (record { few = (omega (arith, fits.few.0), omega (arith, fits.few.1)); low = omega (arith, fits.low); layered = omega (arith, fits.layered) }) dot j.2 in
+        let second = read_f layers (tally_with_event used e) in_do (with_inner s n') j.0 last (one_more_in_scope s n' keeps free) (in_inner_scope s n' f scoped.2) (record { few = (omega (arith, fits.few.0), omega (arith, fits.few.1)); low = omega (arith, fits.low); layered = omega (arith, fits.layered) }) dot j.2 in
         let level : length s.inners ≡ n = sym scoped.0 in
         subst (λ (x : ℕ). read_part (read_event layers) s used n' within ≡ Some (and_then e x f, last)) level
         (part_is_read (read_event layers) s used within e f n' k.0 i.0 j.0 last k.1 first j.1 free second fits.few fits.low)
@@ -229,7 +229,7 @@ module _ (m : ℕ) where
         let c = b.1.1 in
         do_is_read (read_event layers) s used ts (and_then e n f) b.0 k.0 i.0 c.0 last k.1 i.1 c.1 (parts b.0 i.0 c.0 last dot b.1.0 c.2)
 
-    by : (at : Standing) → sign_first signs.Dot rest ≡ None → spells_event true at s (and_then e n f) ts rest → read_standing (read_event layers) at s used ts ≡ Some (and_then e n f, rest)
+    by : (at : EventPlace) → sign_first signs.Dot rest ≡ None → spells_event true at s (and_then e n f) ts rest → read_standing (read_event layers) at s used ts ≡ Some (and_then e n f, rest)
     by alone dot k = whole rest dot k
     by in_choose dot k = closed_is_read (read_event layers) s used ts (and_then e n f) in_choose rest whole dot k
     by in_do dot (inl k) = closed_is_read (read_event layers) s used ts (and_then e n f) in_do rest whole dot k
@@ -237,13 +237,13 @@ module _ (m : ℕ) where
         let c = k.1.1 in
         more_in_do (read_event layers) s used ts (and_then e n f) k.0 c.0 rest c.1 (parts k.0 ts c.0 rest dot k.1.0 c.2)
 
-  choice_is_read : (e f : Term) → IsRead e → IsRead f → (layers : ℕ) (used : Tally) (at : Standing) (s : Names) (ts rest : List Token) → InScope s → IsEvent (scope_of m s) (choose e f) → Fits (suc layers) used (choose e f) → sign_first signs.Dot rest ≡ None → spells_event true at s (choose e f) ts rest
+  choice_is_read : (e f : Term) → IsRead e → IsRead f → (layers : ℕ) (used : Tally) (at : EventPlace) (s : Names) (ts rest : List Token) → InScope s → IsEvent (scope_of m s) (choose e f) → Fits (suc layers) used (choose e f) → sign_first signs.Dot rest ≡ None → spells_event true at s (choose e f) ts rest
       → read_event (suc layers) at s used ts ≡ Some (choose e f, rest)
   unfolding read_event
   choice_is_read e f read_e read_f layers used at s ts rest keeps scoped fits no_dot h = by at no_dot h where
     second : (within last : List Token) → sign_first signs.Dot last ≡ None → spells_event true in_choose s f within last → read_second (read_event layers) s used e within ≡ Some (choose e f, last)
     second within last dot k =
-        let later = read_f layers (with_event used e) in_choose s within last keeps scoped.1 (record { few = (omega (arith, fits.few.0), omega (arith, fits.few.1)); low = omega (arith, fits.low); layered = omega (arith, fits.layered) }) dot k in
+        let later = read_f layers (tally_with_event used e) in_choose s within last keeps scoped.1 (record { few = (omega (arith, fits.few.0), omega (arith, fits.few.1)); low = omega (arith, fits.low); layered = omega (arith, fits.layered) }) dot k in
         second_is_read (read_event layers) s used within e f last later fits.few fits.low
 
     whole : (last : List Token) → sign_first signs.Dot last ≡ None → spells_event true alone s (choose e f) ts last → read_alone (read_event layers) s used ts ≡ Some (choose e f, last)
@@ -254,7 +254,7 @@ module _ (m : ℕ) where
         let first = read_e layers used alone s i.0 j.0 keeps scoped.0 (record { few = (omega (arith, fits.few.0), omega (arith, fits.few.1)); low = omega (arith, fits.low); layered = omega (arith, fits.layered) }) (other_sign signs.Dot signs.Bar j.0 b.0 b.1 refl) j.1 in
         choose_is_read (read_event layers) s used ts e (choose e f) k.0 i.0 j.0 b.0 last k.1 i.1 first b.1 (second b.0 last dot b.2)
 
-    by : (at : Standing) → sign_first signs.Dot rest ≡ None → spells_event true at s (choose e f) ts rest → read_standing (read_event layers) at s used ts ≡ Some (choose e f, rest)
+    by : (at : EventPlace) → sign_first signs.Dot rest ≡ None → spells_event true at s (choose e f) ts rest → read_standing (read_event layers) at s used ts ≡ Some (choose e f, rest)
     by alone dot k = whole rest dot k
     by in_do dot k = closed_is_read (read_event layers) s used ts (choose e f) in_do rest whole dot k
     by in_choose dot (inl k) = closed_is_read (read_event layers) s used ts (choose e f) in_choose rest whole dot k
@@ -263,7 +263,7 @@ module _ (m : ℕ) where
         let first = read_e (suc layers) used alone s ts k.0 keeps scoped.0 (record { few = (omega (arith, fits.few.0), omega (arith, fits.few.1)); low = omega (arith, fits.low); layered = omega (arith, fits.layered) }) (other_sign signs.Dot signs.Bar k.0 b.0 b.1 refl) k.1 in
         more_in_choose (read_event layers) s used ts e (choose e f) k.0 b.0 rest first b.1 (second b.0 rest dot b.2)
 
-  caught_is_read : (e f : Term) (n : ℕ) → IsRead e → IsRead f → (layers : ℕ) (used : Tally) (at : Standing) (s : Names) (ts rest : List Token) → InScope s → IsEvent (scope_of m s) (catch e n f) → Fits (suc layers) used (catch e n f) → sign_first signs.Dot rest ≡ None → spells_event true at s (catch e n f) ts rest
+  caught_is_read : (e f : Term) (n : ℕ) → IsRead e → IsRead f → (layers : ℕ) (used : Tally) (at : EventPlace) (s : Names) (ts rest : List Token) → InScope s → IsEvent (scope_of m s) (catch e n f) → Fits (suc layers) used (catch e n f) → sign_first signs.Dot rest ≡ None → spells_event true at s (catch e n f) ts rest
       → read_event (suc layers) at s used ts ≡ Some (catch e n f, rest)
   unfolding read_event
   caught_is_read e f n read_e read_f layers used at s ts rest keeps scoped fits no_dot h = closed_is_read (read_event layers) s used ts (catch e n f) at rest whole no_dot h where
@@ -279,14 +279,14 @@ module _ (m : ℕ) where
         let d = c.2 in
         let g = d.2 in
         let first = read_e layers used alone s x.0 y.0 keeps scoped.1 (record { few = (omega (arith, fits.few.0), omega (arith, fits.few.1)); low = omega (arith, fits.low); layered = omega (arith, fits.layered) }) (other_sign signs.Dot signs.CloseBrace y.0 i.0 y.2 refl) y.1 in
-        let second = read_f layers (with_event used e) alone (with_inner s b.0) d.0 g.0 (one_more_in_scope s b.0 keeps free) (in_inner_scope s b.0 f scoped.2) (record { few = (omega (arith, fits.few.0), omega (arith, fits.few.1)); low = omega (arith, fits.low); layered = omega (arith, fits.layered) }) (other_sign signs.Dot signs.CloseBrace g.0 last g.2 refl) g.1 in
+        let second = read_f layers (tally_with_event used e) alone (with_inner s b.0) d.0 g.0 (one_more_in_scope s b.0 keeps free) (in_inner_scope s b.0 f scoped.2) (record { few = (omega (arith, fits.few.0), omega (arith, fits.few.1)); low = omega (arith, fits.low); layered = omega (arith, fits.layered) }) (other_sign signs.Dot signs.CloseBrace g.0 last g.2 refl) g.1 in
         let level : length s.inners ≡ n = sym scoped.0 in
         try_is_read (read_event layers) s used ts (catch e n f) k.0 last k.1
         (subst (λ (z : ℕ). read_try (read_event layers) s used k.0 ≡ Some (catch e z f, last)) level
         (catch_is_read (read_event layers) s used k.0 e f b.0 i.0 j.0 c.0 last (braced_is_read (read_event layers) s used k.0 e x.0 y.0 i.0 x.1 first y.2) j.1 c.1 free
-        (braced_is_read (read_event layers) (with_inner s b.0) (with_event used e) c.0 f d.0 g.0 last d.1 second g.2) fits.few fits.low))
+        (braced_is_read (read_event layers) (with_inner s b.0) (tally_with_event used e) c.0 f d.0 g.0 last d.1 second g.2) fits.few fits.low))
 
-  tested_is_read : (test : Test) (p q : Primitive) (e f : Term) → IsRead e → IsRead f → (layers : ℕ) (used : Tally) (at : Standing) (s : Names) (ts rest : List Token) → InScope s → IsEvent (scope_of m s) (when test p q e f) → Fits (suc layers) used (when test p q e f) → sign_first signs.Dot rest ≡ None → spells_event true at s (when test p q e f) ts rest
+  tested_is_read : (test : Test) (p q : Primitive) (e f : Term) → IsRead e → IsRead f → (layers : ℕ) (used : Tally) (at : EventPlace) (s : Names) (ts rest : List Token) → InScope s → IsEvent (scope_of m s) (when test p q e f) → Fits (suc layers) used (when test p q e f) → sign_first signs.Dot rest ≡ None → spells_event true at s (when test p q e f) ts rest
       → read_event (suc layers) at s used ts ≡ Some (when test p q e f, rest)
   unfolding read_event
   tested_is_read test p q e f read_e read_f layers used at s ts rest keeps scoped fits no_dot h = closed_is_read (read_event layers) s used ts (when test p q e f) at rest whole no_dot h where
@@ -303,10 +303,10 @@ module _ (m : ℕ) where
         let v = u.2 in
         let condition = condition_is_read s keeps test p q k.0 a.0 b.0 c.0 a.1 b.1 c.1 (other_sign signs.Dot signs.OpenBrace c.0 x.0 x.1 refl) in
         let first = read_e layers used alone s x.0 y.0 keeps scoped.2 (record { few = (omega (arith, fits.few.0), omega (arith, fits.few.1)); low = omega (arith, fits.low); layered = omega (arith, fits.layered) }) (other_sign signs.Dot signs.CloseBrace y.0 d.0 y.2 refl) y.1 in
-        let second = read_f layers (with_event used e) alone s u.0 v.0 keeps scoped.3 (record { few = (omega (arith, fits.few.0), omega (arith, fits.few.1)); low = omega (arith, fits.low); layered = omega (arith, fits.layered) }) (other_sign signs.Dot signs.CloseBrace v.0 last v.2 refl) v.1 in
+        let second = read_f layers (tally_with_event used e) alone s u.0 v.0 keeps scoped.3 (record { few = (omega (arith, fits.few.0), omega (arith, fits.few.1)); low = omega (arith, fits.low); layered = omega (arith, fits.layered) }) (other_sign signs.Dot signs.CloseBrace v.0 last v.2 refl) v.1 in
         if_is_read (read_event layers) s used ts (when test p q e f) k.0 last k.1
         (when_is_read (read_event layers) s used k.0 test p q e f c.0 d.0 g.0 last condition (braced_is_read (read_event layers) s used c.0 e x.0 y.0 d.0 x.1 first y.2) g.1
-        (braced_is_read (read_event layers) s (with_event used e) g.0 f u.0 v.0 last u.1 second v.2) fits.few fits.low)
+        (braced_is_read (read_event layers) s (tally_with_event used e) g.0 f u.0 v.0 last u.1 second v.2) fits.few fits.low)
 
   pub event_is_read : (t : Term) → IsRead t
   unfolding read_event

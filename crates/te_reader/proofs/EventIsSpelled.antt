@@ -7,15 +7,15 @@ use Rattle.te_terms.specs.declared.expr.Test.TheVariants as tests
 use Rattle.te_terms.specs.Expressions.{Primitive}
 use Rattle.te_terms.specs.Terms.{Term, always, never, fresh, throw, send, recv, and_then, choose, catch, when}
 use Rattle.te_terms.specs.Measures.{height, node_count, fresh_count}
-use Rattle.te_script.specs.Scripts.{Scope, IsPrimitive, IsEvent, one_more}
+use Rattle.te_script.specs.Scripts.{Scope, IsPrimitive, IsEvent, one_deeper}
 use Rattle.te_reader.specs.declared.token.Word.TheVariants as words
 use Rattle.te_reader.specs.declared.token.Sign.TheVariants as signs
 use Rattle.te_reader.specs.Tokens.{Token, word, sign}
 use Rattle.te_reader.specs.Heads.{word_first, sign_first, bound_first}
-use Rattle.te_reader.specs.Grammar.{Names, is, ◌⨟◌, bound, with_inner, IsFree, Standing, alone, in_do, in_choose, in_braces, test_sign, spells_primitive, spells_event}
+use Rattle.te_reader.specs.Grammar.{Names, is, ◌⨟◌, bound_name, with_inner, IsFreeName, EventPlace, alone, in_do, in_choose, in_braces, test_sign, spells_primitive, spells_event}
 use Rattle.te_reader.specs.NameReads.{Read, checked, bound_in}
 use Rattle.te_reader.specs.ExpressionReads.{read_primitive, read_expression}
-use Rattle.te_reader.specs.Tallies.{Tally, HasRoom, with_event}
+use Rattle.te_reader.specs.Tallies.{Tally, HasRoom, tally_with_event}
 use Rattle.te_reader.specs.EventReads.{or_recv, or_fresh, or_throw, or_never, or_send, or_always, read_leaf, is_within, made, Parts, read_braced, read_part, read_do, read_second, read_choose, read_try, or_less, or_equal, test_first, read_condition, read_if, read_one, if_or_one, try_or_other, choose_or_other, do_or_other, read_alone, part_or_last, read_in_do, bar_or_end, read_in_choose, read_standing, read_event}
 use Rattle.te_reader.proofs.NameLemmas.{bind_some, checked_some, bound_is}
 use Rattle.te_reader.proofs.HeadLemmas.{carried, word_is, sign_is, bound_name_is}
@@ -74,12 +74,12 @@ test_read o ts rest e = by (sign_first signs.Equal ts) refl e where
   by None f e = by_less (sign_first signs.Less ts) refl e
 
 -- the scope with one more inner name
-pub inner_scope : (m : ℕ) (s : Names) (n : List ℕ) → scope_of m (with_inner s n) ≡ one_more (scope_of m s)
+pub inner_scope : (m : ℕ) (s : Names) (n : List ℕ) → scope_of m (with_inner s n) ≡ one_deeper (scope_of m s)
 inner_scope m s n = let long : length (s.inners ++ n ∷ []) ≡ suc (length s.inners) = length-append s.inners (n ∷ []) ∙ omega arith in rw long refl
 
 module _ (m : ℕ) where
   -- an event that was read
-  pub record ReadEvent (at : Standing) (s : Names) (used : Tally) (t : Term) (ts rest : List Token) : Type 0 where
+  pub record ReadEvent (at : EventPlace) (s : Names) (used : Tally) (t : Term) (ts rest : List Token) : Type 0 where
     pub spelled : spells_event true at s t ts rest
     pub scoped : IsEvent (scope_of m s) t
     pub few : HasRoom used t
@@ -137,7 +137,7 @@ module _ (m : ℕ) where
 
   -- what this reads is spelled, in scope and within the limits
   abbrev pub IsSound : Parts → Type 0
-  IsSound next = (at : Standing) (s : Names) (used : Tally) (t : Term) (ts rest : List Token) → length s.channels ≤ m → next at s used ts ≡ Some (t, rest) → ReadEvent at s used t ts rest
+  IsSound next = (at : EventPlace) (s : Names) (used : Tally) (t : Term) (ts rest : List Token) → length s.channels ≤ m → next at s used ts ≡ Some (t, rest) → ReadEvent at s used t ts rest
 
   module _ (next : Parts) (sound : IsSound next) where
     -- an event in braces that was read
@@ -157,8 +157,8 @@ module _ (m : ℕ) where
 
     -- parts of a `do` that were read, behind the name of the first
     record ReadPart (s : Names) (used : Tally) (n : List ℕ) (t : Term) (ts rest : List Token) : Type 0 where
-      in_parts : (all : List Token) → bound n all ts → spells_event true in_do s t all rest
-      by_itself : (front inside all : List Token) → front ≡ word words.Do ∷ inside → inside ≡ sign signs.OpenBrace ∷ all → bound n all ts → spells_event true alone s t front rest
+      in_parts : (all : List Token) → bound_name n all ts → spells_event true in_do s t all rest
+      by_itself : (front inside all : List Token) → front ≡ word words.Do ∷ inside → inside ≡ sign signs.OpenBrace ∷ all → bound_name n all ts → spells_event true alone s t front rest
       scoped : IsEvent (scope_of m s) t
       few : HasRoom used t
       low : height t ≤ 32
@@ -167,7 +167,7 @@ module _ (m : ℕ) where
     still_many : (s more : Names) (n : List ℕ) → more ≡ with_inner s n → length s.channels ≤ m → length more.channels ≤ m
     still_many s more n e many = subst (λ (x : Names). length x.channels ≤ m) (sym e) many
 
-    part_of : (s : Names) (used later_used : Tally) (n : List ℕ) (e f : Term) (ts a b c rest : List Token) → ts ≡ sign signs.Arrow ∷ a → ReadEvent alone s used e a b → b ≡ sign signs.Semicolon ∷ c → IsFree s n → ReadEvent in_do (with_inner s n) later_used f c rest
+    part_of : (s : Names) (used later_used : Tally) (n : List ℕ) (e f : Term) (ts a b c rest : List Token) → ts ≡ sign signs.Arrow ∷ a → ReadEvent alone s used e a b → b ≡ sign signs.Semicolon ∷ c → IsFreeName s n → ReadEvent in_do (with_inner s n) later_used f c rest
         → HasRoom used (and_then e (length s.inners) f) → height (and_then e (length s.inners) f) ≤ 32 → ReadPart s used n (and_then e (length s.inners) f) ts rest
     part_of s used later_used n e f ts a b c rest arrow first semicolon free later few low = record {
       in_parts = λ all name. inr (n, (free, (ts, name, (a, arrow, (b, first.spelled, (c, semicolon, later.spelled))))));
@@ -184,15 +184,15 @@ module _ (m : ℕ) where
         let b = bind_some (next alone s used a.0) _ _ a.2 in
         let c = bind_some (sign_first signs.Semicolon b.0.1) _ _ b.2 in
         let d = bind_some (bound_in s n) _ _ c.2 in
-        let f = bind_some (next in_do d.0 (with_event used b.0.0) c.0) _ _ d.2 in
+        let f = bind_some (next in_do d.0 (tally_with_event used b.0.0) c.0) _ _ d.2 in
         by b.0.0 f.0.0 a.0 b.0.1 c.0 f.0.1 d.0 (a.1) (b.1) (c.1) (bound_is s n d.0 d.1) (f.1) (made_some used (and_then b.0.0 (length s.inners) f.0.0) t f.0.1 rest f.2) where
-          by : (e f : Term) (a b c last : List Token) (more : Names) → sign_first signs.Arrow ts ≡ Some a → next alone s used a ≡ Some (e, b) → sign_first signs.Semicolon b ≡ Some c → IsFree s n × (more ≡ with_inner s n) → next in_do more (with_event used e) c ≡ Some (f, last)
+          by : (e f : Term) (a b c last : List Token) (more : Names) → sign_first signs.Arrow ts ≡ Some a → next alone s used a ≡ Some (e, b) → sign_first signs.Semicolon b ≡ Some c → IsFreeName s n × (more ≡ with_inner s n) → next in_do more (tally_with_event used e) c ≡ Some (f, last)
               → (◌≡◌ {A = Read Term} (Some (and_then e (length s.inners) f, last)) (Some (t, rest))) × (HasRoom used (and_then e (length s.inners) f)) × (height (and_then e (length s.inners) f) ≤ 32) → ReadPart s used n t ts rest
           by e f a b c last more arrow first semicolon free second limits =
-              let later = sound in_do more (with_event used e) f c last (still_many s more n free.1 many) second in
+              let later = sound in_do more (tally_with_event used e) f c last (still_many s more n free.1 many) second in
               carried (λ x end. ReadPart s used n x ts end) (and_then e (length s.inners) f) t last rest limits.0
-              (part_of s used (with_event used e) n e f ts a b c last (sign_is signs.Arrow ts a arrow) (sound alone s used e a b many first) (sign_is signs.Semicolon b c semicolon) free.0
-              (subst (λ (x : Names). ReadEvent in_do x (with_event used e) f c last) free.1 later) limits.1 limits.2)
+              (part_of s used (tally_with_event used e) n e f ts a b c last (sign_is signs.Arrow ts a arrow) (sound alone s used e a b many first) (sign_is signs.Semicolon b c semicolon) free.0
+              (subst (λ (x : Names). ReadEvent in_do x (tally_with_event used e) f c last) free.1 later) limits.1 limits.2)
 
     do_read : (s : Names) (used : Tally) (t : Term) (ts behind rest : List Token) → length s.channels ≤ m → ts ≡ word words.Do ∷ behind → read_do next s used behind ≡ Some (t, rest) → ReadEvent alone s used t ts rest
     unfolding read_do
@@ -213,9 +213,9 @@ module _ (m : ℕ) where
     second_read : (s : Names) (used : Tally) (e t : Term) (ts rest : List Token) → length s.channels ≤ m → read_second next s used e ts ≡ Some (t, rest) → ReadSecond s used e t ts rest
     unfolding read_second
     second_read s used e t ts rest many h =
-        let a = bind_some (next in_choose s (with_event used e) ts) _ _ h in
+        let a = bind_some (next in_choose s (tally_with_event used e) ts) _ _ h in
         let limits = made_some used (choose e a.0.0) t a.0.1 rest a.2 in
-        let later = sound in_choose s (with_event used e) a.0.0 ts a.0.1 many a.1 in
+        let later = sound in_choose s (tally_with_event used e) a.0.0 ts a.0.1 many a.1 in
         carried (λ x last. ReadSecond s used e x ts last) (choose e a.0.0) t a.0.1 rest limits.0
         (record {
           in_bars = λ all bar first barred. inr (bar, first, (ts, barred, later.spelled));
@@ -247,14 +247,14 @@ module _ (m : ℕ) where
         let b = bind_some (word_first words.Catch a.0.1) _ _ a.2 in
         let c = bind_some (bound_first b.0) _ _ b.2 in
         let d = bind_some (bound_in s c.0.0) _ _ c.2 in
-        let f = bind_some (read_braced next d.0 (with_event used a.0.0) c.0.1) _ _ d.2 in
+        let f = bind_some (read_braced next d.0 (tally_with_event used a.0.0) c.0.1) _ _ d.2 in
         by a.0.0 f.0.0 c.0.0 a.0.1 b.0 c.0.1 f.0.1 d.0 a.1 b.1 c.1 (bound_is s c.0.0 d.0 d.1) f.1 (made_some used (catch a.0.0 (length s.inners) f.0.0) t f.0.1 rest f.2) where
-          by : (e f : Term) (n : List ℕ) (a b c last : List Token) (more : Names) → read_braced next s used behind ≡ Some (e, a) → word_first words.Catch a ≡ Some b → bound_first b ≡ Some (n, c) → IsFree s n × (more ≡ with_inner s n) → read_braced next more (with_event used e) c ≡ Some (f, last)
+          by : (e f : Term) (n : List ℕ) (a b c last : List Token) (more : Names) → read_braced next s used behind ≡ Some (e, a) → word_first words.Catch a ≡ Some b → bound_first b ≡ Some (n, c) → IsFreeName s n × (more ≡ with_inner s n) → read_braced next more (tally_with_event used e) c ≡ Some (f, last)
               → (◌≡◌ {A = Read Term} (Some (catch e (length s.inners) f, last)) (Some (t, rest))) × (HasRoom used (catch e (length s.inners) f)) × (height (catch e (length s.inners) f) ≤ 32) → ReadEvent alone s used t ts rest
           by e f n a b c last more braced caught name free second limits =
               let first = braced_read s used e behind a many braced in
-              let later : ReadBraced (with_inner s n) (with_event used e) f c last =
-              subst (λ (x : Names). ReadBraced x (with_event used e) f c last) free.1 (braced_read more (with_event used e) f c last (still_many s more n free.1 many) second) in
+              let later : ReadBraced (with_inner s n) (tally_with_event used e) f c last =
+              subst (λ (x : Names). ReadBraced x (tally_with_event used e) f c last) free.1 (braced_read more (tally_with_event used e) f c last (still_many s more n free.1 many) second) in
               carried (λ x end. ReadEvent alone s used x ts end) (catch e (length s.inners) f) t last rest limits.0
               (record {
                 spelled = (behind, begins, (a, first.spelled, (b, word_is words.Catch a b caught, (n, (free.0, (c, bound_name_is b n c name, later.spelled))))));
@@ -286,13 +286,13 @@ module _ (m : ℕ) where
         let a = bind_some (read_condition s behind) _ _ h in
         let b = bind_some (read_braced next s used a.0.1) _ _ a.2 in
         let c = bind_some (word_first words.Else b.0.1) _ _ b.2 in
-        let d = bind_some (read_braced next s (with_event used b.0.0) c.0) _ _ c.2 in
+        let d = bind_some (read_braced next s (tally_with_event used b.0.0) c.0) _ _ c.2 in
         by a.0.0.0 a.0.0.1 a.0.0.2 b.0.0 d.0.0 a.0.1 b.0.1 c.0 d.0.1 (condition_read s a.0.0 behind a.0.1 many a.1) b.1 c.1 d.1 (made_some used (when a.0.0.0 a.0.0.1 a.0.0.2 b.0.0 d.0.0) t d.0.1 rest d.2) where
-          by : (test : Test) (p q : Primitive) (e f : Term) (a b c last : List Token) → ReadCondition s (test, p, q) behind a → read_braced next s used a ≡ Some (e, b) → word_first words.Else b ≡ Some c → read_braced next s (with_event used e) c ≡ Some (f, last)
+          by : (test : Test) (p q : Primitive) (e f : Term) (a b c last : List Token) → ReadCondition s (test, p, q) behind a → read_braced next s used a ≡ Some (e, b) → word_first words.Else b ≡ Some c → read_braced next s (tally_with_event used e) c ≡ Some (f, last)
               → (◌≡◌ {A = Read Term} (Some (when test p q e f, last)) (Some (t, rest))) × (HasRoom used (when test p q e f)) × (height (when test p q e f) ≤ 32) → ReadEvent alone s used t ts rest
           by test p q e f a b c last asks braced other second limits =
               let first = braced_read s used e a b many braced in
-              let later = braced_read s (with_event used e) f c last many second in
+              let later = braced_read s (tally_with_event used e) f c last many second in
               let condition = asks.spelled in
               let signed = condition.2 in
               carried (λ x end. ReadEvent alone s used x ts end) (when test p q e f) t last rest limits.0
@@ -358,7 +358,7 @@ module _ (m : ℕ) where
               carried (λ x end. ReadEvent in_choose s used x ts end) e t b.0 rest b.2
               (record { spelled = closed_in_choose s e ts after b.0 first.spelled (sign_is signs.CloseBrace after b.0 b.1); scoped = first.scoped; few = first.few; low = first.low })
 
-    standing_read : (at : Standing) (s : Names) (used : Tally) (t : Term) (ts rest : List Token) → length s.channels ≤ m → read_standing next at s used ts ≡ Some (t, rest) → ReadEvent at s used t ts rest
+    standing_read : (at : EventPlace) (s : Names) (used : Tally) (t : Term) (ts rest : List Token) → length s.channels ≤ m → read_standing next at s used ts ≡ Some (t, rest) → ReadEvent at s used t ts rest
     standing_read alone s used t ts rest many e = alone_read s used t ts rest many e
     standing_read in_do s used t ts rest many e = in_do_read s used t ts rest many e
     standing_read in_choose s used t ts rest many e = in_choose_read s used t ts rest many e

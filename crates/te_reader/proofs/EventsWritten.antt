@@ -14,7 +14,7 @@ use Rattle.te_reader.specs.declared.token.Word.TheVariants as words
 use Rattle.te_reader.specs.declared.token.Sign.TheVariants as signs
 use Rattle.te_reader.specs.Tokens as tokens
 use Rattle.te_reader.specs.Tokens.{Token, word, sign}
-use Rattle.te_reader.specs.Grammar.{Span, is, ◌⨟◌, Names, IsFree, with_inner, bound, binds, Standing, alone, in_do, in_choose, closed, closed_do, closed_choose, in_braces, do_event, choose_event, do_parts, test_sign, spells_primitive, spells_expression, spells_event}
+use Rattle.te_reader.specs.Grammar.{Span, is, ◌⨟◌, Names, IsFreeName, with_inner, bound_name, binds, EventPlace, alone, in_do, in_choose, closed_span, closed_do, closed_choose, in_braces, do_event, choose_event, do_parts, test_sign, spells_primitive, spells_expression, spells_event}
 use Rattle.te_reader.specs.Canonical.{inner_text, Spelling, primitive_text, expression_text, test_text, do_open, do_close, choose_open, choose_close, event_text}
 use Rattle.te_reader.proofs.Regrouped.{three, six, eight}
 use Rattle.te_reader.proofs.TokensWritten.{Writes, StandsApart, IsOneByte, brace_opens, brace_closes, semicolon_is, then_writes, word_writes, sign_before, sign_writes, sign_and_blank, blank_writes, named_writes, second_writes}
@@ -29,7 +29,7 @@ equal_is = (refl, λ ys. refl)
 -- ---- standings
 
 -- what closes an event where it goes on to the closing brace
-abbrev pub ending : Standing → List ℕ
+abbrev pub ending : EventPlace → List ℕ
 ending alone = []
 ending in_do = codes " }"
 ending in_choose = codes " }"
@@ -43,7 +43,7 @@ with_brace text event f = then_writes text (codes " }") event (is (sign signs.Cl
 with_nothing : (text : List ℕ) (event : Span) → Writes text event → Writes (text ++ []) event
 with_nothing text event f = subst (λ (xs : List ℕ). Writes xs event) (sym (append-nil text)) f
 
-closed_writes : (at : Standing) (text : List ℕ) (event : Span) → Writes text event → Writes (text ++ ending at) (closed at event)
+closed_writes : (at : EventPlace) (text : List ℕ) (event : Span) → Writes text event → Writes (text ++ ending at) (closed_span at event)
 closed_writes alone text event f = with_nothing text event f
 closed_writes in_do text event f = with_brace text event f
 closed_writes in_choose text event f = with_brace text event f
@@ -63,7 +63,7 @@ last_of a b c d more =
 abbrev parts_text : List ℕ → List ℕ → List ℕ → List ℕ
 parts_text n e f = n ++ (codes " <- " ++ (e ++ (codes "; " ++ (f ++ codes " }"))))
 
-do_writes : (at : Standing) (n e f : List ℕ) (parts : Span) → Writes (parts_text n e f) parts
+do_writes : (at : EventPlace) (n e f : List ℕ) (parts : Span) → Writes (parts_text n e f) parts
     → Writes ((do_open at ++ n ++ codes " <- " ++ e ++ codes "; " ++ f ++ do_close at) ++ ending at) (closed_do at (do_event parts) parts)
 do_writes at n e f parts h = subst (λ (xs : List ℕ). Writes xs (closed_do at (do_event parts) parts)) (sym (eight (do_open at) n (codes " <- ") e (codes "; ") f (do_close at) (ending at))) (by at) where
   whole_do : Writes (codes "do { " ++ parts_text n e f) (do_event parts)
@@ -71,7 +71,7 @@ do_writes at n e f parts h = subst (λ (xs : List ℕ). Writes xs (closed_do at 
       then_writes (codes "do") (codes " { " ++ parts_text n e f) (is (word words.Do)) (is (sign signs.OpenBrace) ⨟ parts) (word_writes words.Do)
       (blank_writes 32 (codes "{ " ++ parts_text n e f) (is (sign signs.OpenBrace) ⨟ parts) refl (sign_before signs.OpenBrace 123 (32 ∷ parts_text n e f) parts brace_opens (blank_writes 32 (parts_text n e f) parts refl h))) (λ b a. refl)
 
-  by : (at : Standing) → Writes (do_open at ++ (n ++ (codes " <- " ++ (e ++ (codes "; " ++ (f ++ (do_close at ++ ending at))))))) (closed_do at (do_event parts) parts)
+  by : (at : EventPlace) → Writes (do_open at ++ (n ++ (codes " <- " ++ (e ++ (codes "; " ++ (f ++ (do_close at ++ ending at))))))) (closed_do at (do_event parts) parts)
   by alone = whole_do
   by in_do = second_writes (parts_text n e f) (do_event parts ⨟ is (sign signs.CloseBrace)) parts h
   by in_choose = subst (λ (xs : List ℕ). Writes xs (do_event parts ⨟ is (sign signs.CloseBrace))) (ap (λ xs. codes "do { " ++ xs) (last_of n e f (codes " }") (codes " }"))) (with_brace (codes "do { " ++ parts_text n e f) (do_event parts) whole_do)
@@ -84,7 +84,7 @@ events_text e f = e ++ (codes " | " ++ (f ++ codes " }"))
 last_event : (a b c more : List ℕ) → (a ++ (codes " | " ++ (b ++ c))) ++ more ≡ a ++ (codes " | " ++ (b ++ (c ++ more)))
 last_event a b c more = append_assoc a (codes " | " ++ (b ++ c)) more ∙ ap (λ xs. a ++ (codes " | " ++ xs)) (append_assoc b c more)
 
-choose_writes : (at : Standing) (e f : List ℕ) (events : Span) → Writes (events_text e f) events
+choose_writes : (at : EventPlace) (e f : List ℕ) (events : Span) → Writes (events_text e f) events
     → Writes ((choose_open at ++ e ++ codes " | " ++ f ++ choose_close at) ++ ending at) (closed_choose at (choose_event events) events)
 choose_writes at e f events h = subst (λ (xs : List ℕ). Writes xs (closed_choose at (choose_event events) events)) (sym (six (choose_open at) e (codes " | ") f (choose_close at) (ending at))) (by at) where
   whole_choose : Writes (codes "choose { " ++ events_text e f) (choose_event events)
@@ -92,7 +92,7 @@ choose_writes at e f events h = subst (λ (xs : List ℕ). Writes xs (closed_cho
       then_writes (codes "choose") (codes " { " ++ events_text e f) (is (word words.Choose)) (is (sign signs.OpenBrace) ⨟ events) (word_writes words.Choose)
       (blank_writes 32 (codes "{ " ++ events_text e f) (is (sign signs.OpenBrace) ⨟ events) refl (sign_before signs.OpenBrace 123 (32 ∷ events_text e f) events brace_opens (blank_writes 32 (events_text e f) events refl h))) (λ b a. refl)
 
-  by : (at : Standing) → Writes (choose_open at ++ (e ++ (codes " | " ++ (f ++ (choose_close at ++ ending at))))) (closed_choose at (choose_event events) events)
+  by : (at : EventPlace) → Writes (choose_open at ++ (e ++ (codes " | " ++ (f ++ (choose_close at ++ ending at))))) (closed_choose at (choose_event events) events)
   by alone = whole_choose
   by in_choose = second_writes (events_text e f) (choose_event events ⨟ is (sign signs.CloseBrace)) events h
   by in_do = subst (λ (xs : List ℕ). Writes xs (choose_event events ⨟ is (sign signs.CloseBrace))) (ap (λ xs. codes "choose { " ++ xs) (last_event e f (codes " }") (codes " }"))) (with_brace (codes "choose { " ++ events_text e f) (choose_event events) whole_choose)
@@ -113,8 +113,8 @@ module _ (channels registers : List (List ℕ)) (named_channels : AllByRecursion
   -- binds the inner name of a level
   binds_write : (l : ℕ) (text : List ℕ) (next : List ℕ → Span) → l ≤ 64 → StandsApart text → Writes text (next (inner_text l)) → Writes (inner_text l ++ text) (binds true (names l) next)
   binds_write l text next low apart f =
-      named_writes (inner_text l ++ text) (inner_text l) (λ n. IsFree (names l) n) (λ n. bound n ⨟ next n) (inner_is_free channels registers w l named_channels named_registers low)
-      (then_writes (inner_text l) text (bound (inner_text l)) (next (inner_text l)) (second_writes (inner_text l) (is (tokens.name (inner_text l))) (is (tokens.inner (inner_text l))) (inner_writes l low)) f apart)
+      named_writes (inner_text l ++ text) (inner_text l) (λ n. IsFreeName (names l) n) (λ n. bound_name n ⨟ next n) (inner_is_free channels registers w l named_channels named_registers low)
+      (then_writes (inner_text l) text (bound_name (inner_text l)) (next (inner_text l)) (second_writes (inner_text l) (is (tokens.name (inner_text l))) (is (tokens.inner (inner_text l))) (inner_writes l low)) f apart)
 
   -- `<-`, an event, `;` and what is behind them
   parts_write : (e f : List ℕ) (event rest : Span) → Writes e event → Writes f rest → Writes (codes " <- " ++ (e ++ (codes "; " ++ f))) (do_parts event rest)
@@ -141,7 +141,7 @@ module _ (channels registers : List (List ℕ)) (named_channels : AllByRecursion
       then_writes (primitive_text spelling p) _ (spells_primitive true (names l) p) _ (primitive_writes channels registers named_channels named_registers w l written low p left)
       (test_write test _ _ second) (test_apart test (primitive_text spelling q ++ text))
 
-  pub event_writes : (t : Term) (at : Standing) (l : ℕ) → IsEvent (scope_at channels w l) t → l + height t ≤ 64 → Writes (event_text spelling at t ++ ending at) (spells_event true at (names l) t)
+  pub event_writes : (t : Term) (at : EventPlace) (l : ℕ) → IsEvent (scope_at channels w l) t → l + height t ≤ 64 → Writes (event_text spelling at t ++ ending at) (spells_event true at (names l) t)
   event_writes (always e) at l h low =
       closed_writes at _ _ (word_then (codes "always") (word words.Always) (expression_text spelling e) _ (word_writes words.Always) (expression_writes channels registers named_channels named_registers w l written (omega (arith, low)) e h))
   event_writes never at l h low = closed_writes at _ _ (word_writes words.Never)

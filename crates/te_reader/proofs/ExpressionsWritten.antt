@@ -18,7 +18,7 @@ use Rattle.te_script.proofs.GeneratedKept.{length_each, all_each}
 use Rattle.te_reader.specs.declared.token.Sign.TheVariants as signs
 use Rattle.te_reader.specs.Tokens as tokens
 use Rattle.te_reader.specs.Tokens.{Token, sign}
-use Rattle.te_reader.specs.Grammar.{is, ◌⨟◌, Names, IsAt, IsFree, bound, arith_sign, spells_variable, spells_integer, spells_primitive, spells_calculation, spells_further, spells_inside, spells_expression}
+use Rattle.te_reader.specs.Grammar.{is, ◌⨟◌, Names, IsAt, IsFreeName, bound_name, arith_sign, spells_variable, spells_integer, spells_primitive, spells_calculation, spells_further, spells_inside, spells_expression}
 use Rattle.te_reader.specs.Canonical.{name_at, inner_text, Spelling, variable_text, primitive_text, arith_text, calculation_text, further_text, inside_text, expression_text}
 use Rattle.te_reader.proofs.KeptIsRead.{at_taken, all_taken}
 use Rattle.te_reader.proofs.ListsKept.{all_at, all_weaker, at_more, at_last}
@@ -70,7 +70,7 @@ names_at channels registers w l = record { channels = channels; registers = take
 abbrev pub scope_at : List (List ℕ) → ℕ → ℕ → Scope
 scope_at channels w l = record { written = w; level = l; channels = length channels }
 
-pub inner_is_free : (channels registers : List (List ℕ)) (w l : ℕ) → AllByRecursion IsName channels → AllByRecursion IsName registers → l ≤ 64 → IsFree (names_at channels registers w l) (inner_text l)
+pub inner_is_free : (channels registers : List (List ℕ)) (w l : ℕ) → AllByRecursion IsName channels → AllByRecursion IsName registers → l ≤ 64 → IsFreeName (names_at channels registers w l) (inner_text l)
 inner_is_free channels registers w l named_channels named_registers low = record {
   short = omega (arith, length-decimal-le 2 l (omega arith) (omega (arith, low)) (omega (arith, low)));
   no_channel = all_weaker IsName (λ x. x ≢ inner_text l) (λ x h. no_identifier x (decimal l) h) channels named_channels;
@@ -114,7 +114,7 @@ module _ (channels registers : List (List ℕ)) (named_channels : AllByRecursion
       let is_name = all_at IsName registers r (name_at registers r) named_registers at in
       named_writes (name_at registers r) (name_at registers r) (λ n. IsAt (take w registers) r n) (λ n. is (tokens.name n)) (at_taken registers w r (name_at registers r) h at) (name_writes (name_at registers r) is_name.identifier)
   variable_writes (name n) h =
-      named_writes (inner_text n) (inner_text n) (λ m. IsAt (each inner_text l) n m) bound (at_inner l n h) (second_writes (inner_text n) (is (tokens.name (inner_text n))) (is (tokens.inner (inner_text n))) (inner_writes n (omega (arith, h, low))))
+      named_writes (inner_text n) (inner_text n) (λ m. IsAt (each inner_text l) n m) bound_name (at_inner l n h) (second_writes (inner_text n) (is (tokens.name (inner_text n))) (is (tokens.inner (inner_text n))) (inner_writes n (omega (arith, h, low))))
   variable_writes (known v) h = absurd h
 
   pub primitive_writes : (p : Primitive) → IsPrimitive scope p → Writes (primitive_text spelling p) (spells_primitive true names p)

@@ -10,8 +10,8 @@ use Rattle.te_reader.specs.declared.part.Role.TheVariants as roles
 use Rattle.te_reader.specs.declared.part.Part.{Part}
 use Rattle.te_reader.specs.declared.part.Part.TheVariants as parts
 use Rattle.te_reader.specs.Spots.{Spot}
-use Rattle.te_reader.specs.Forms.{sync_behind, Form, form, forms, IsAmong, MakeUp, BeginScript, Fits}
-use Rattle.te_reader.specs.Rules.{Context, nothing_before, rules, first_broken, after}
+use Rattle.te_reader.specs.Forms.{sync_behind, Form, form, forms, IsAmong, MakeUp, BeginScript, FitsRole}
+use Rattle.te_reader.specs.Rules.{Context, nothing_before, rules, first_broken, context_after}
 use Rattle.te_reader.specs.Faults.{Keep, misfit, IsFault}
 use Rattle.te_reader.specs.Runs.{Found, found, pick, next_found, broken_or, run}
 use Rattle.te_reader.proofs.PickedForms.{picked_fits, fitting_is_picked}
@@ -57,7 +57,7 @@ begins : (rs : List Role) (wanted : List Part) → Leaves rs wanted → BeginScr
 begins rs wanted l = let h = some_roles wanted in (h.0, l.goes_on h.0 h.1)
 
 -- the parts behind a role are those of the form that is picked
-same_wanted : (p : Part) (s : Spot) (r : Role) (w v : List Part) → pick p s.head s.dotted ≡ Some (form r w) → IsAmong (form r v) (forms p) → Fits r s → v ≡ w
+same_wanted : (p : Part) (s : Spot) (r : Role) (w v : List Part) → pick p s.head s.dotted ≡ Some (form r w) → IsAmong (form r v) (forms p) → FitsRole r s → v ≡ w
 same_wanted p s r w v e h f = sym (ap (wanted_of w) (sym e ∙ fitting_is_picked p s (form r v) h f)) where
   wanted_of : List Part → Option Form → List Part
   wanted_of d None = d
@@ -75,11 +75,11 @@ one_more rs p more s f l e =
 
 -- ---- what was found stands there
 
-keep_more : (c : Context) (rs : List Role) (ss : List Spot) (d : Context) (r : Role) (s : Spot) → Keep c rs ss d → Fits r s → first_broken (rules r d s.head) ≡ None → Keep c (rs ++ r ∷ []) (ss ++ s ∷ []) (after r d s.head)
-keep_more c [] [] d r s k f e = let same : c ≡ d = k in (f, rw same e, ap (λ x. after r x s.head) same)
+keep_more : (c : Context) (rs : List Role) (ss : List Spot) (d : Context) (r : Role) (s : Spot) → Keep c rs ss d → FitsRole r s → first_broken (rules r d s.head) ≡ None → Keep c (rs ++ r ∷ []) (ss ++ s ∷ []) (context_after r d s.head)
+keep_more c [] [] d r s k f e = let same : c ≡ d = k in (f, rw same e, ap (λ x. context_after r x s.head) same)
 keep_more c [] (t ∷ ss) d r s k f e = absurd k
 keep_more c (x ∷ rs) [] d r s k f e = absurd k
-keep_more c (x ∷ rs) (t ∷ ss) d r s k f e = (k.0, k.1, keep_more (after x c t.head) rs ss d r s k.2 f e)
+keep_more c (x ∷ rs) (t ∷ ss) d r s k f e = (k.0, k.1, keep_more (context_after x c t.head) rs ss d r s k.2 f e)
 
 -- where we stand: the spots before, their roles, and what they leave
 record Stand (all : List Spot) (before : List Spot) (rs : List Role) (wanted : List Part) (c : Context) (ss : List Spot) : Type 0 where
@@ -90,8 +90,8 @@ record Stand (all : List Spot) (before : List Spot) (rs : List Role) (wanted : L
 -- what breaks a rule or has no role at the next spot
 abbrev Breaks : List Role → Context → Spot → Cause → Type 0
 Breaks rs c s k =
-    ((k ≡ misfit s.head) × ((r : Role) → BeginScript (rs ++ r ∷ []) → Fits r s → ⊥))
-    ⊎ ((r : Role) × BeginScript (rs ++ r ∷ []) × Fits r s × (first_broken (rules r c s.head) ≡ Some k))
+    ((k ≡ misfit s.head) × ((r : Role) → BeginScript (rs ++ r ∷ []) → FitsRole r s → ⊥))
+    ⊎ ((r : Role) × BeginScript (rs ++ r ∷ []) × FitsRole r s × (first_broken (rules r c s.head) ≡ Some k))
 
 fault_of_stand : (all before : List Spot) (rs : List Role) (wanted : List Part) (c : Context) (s : Spot) (ss : List Spot) (k : Cause) → Stand all before rs wanted c (s ∷ ss) → Breaks rs c s k → IsFault all k s.left
 fault_of_stand all before rs wanted c s ss k st b = record {
@@ -108,13 +108,13 @@ fault_of_stand all before rs wanted c s ss k st b = record {
 }
 
 -- no role fits where nothing is picked
-no_role : (rs : List Role) (p : Part) (more : List Part) (s : Spot) → Leaves rs (p ∷ more) → pick p s.head s.dotted ≡ None → (r : Role) → BeginScript (rs ++ r ∷ []) → Fits r s → ⊥
+no_role : (rs : List Role) (p : Part) (more : List Part) (s : Spot) → Leaves rs (p ∷ more) → pick p s.head s.dotted ≡ None → (r : Role) → BeginScript (rs ++ r ∷ []) → FitsRole r s → ⊥
 no_role rs p more s l e r b f =
     let h = l.comes_from (r ∷ b.0) (subst (λ (x : List Role). MakeUp x (parts.Script ∷ [])) (append_assoc rs (r ∷ []) b.0) b.1) in
     let both : Some (form r h.0) ≡ None = sym (fitting_is_picked p s (form r h.0) h.1 f) ∙ e in
     absurd cc
 
-none_wanted : (rs : List Role) (s : Spot) → Leaves rs [] → (r : Role) → BeginScript (rs ++ r ∷ []) → Fits r s → ⊥
+none_wanted : (rs : List Role) (s : Spot) → Leaves rs [] → (r : Role) → BeginScript (rs ++ r ∷ []) → FitsRole r s → ⊥
 none_wanted rs s l r b f = l.comes_from (r ∷ b.0) (subst (λ (x : List Role). MakeUp x (parts.Script ∷ [])) (append_assoc rs (r ∷ []) b.0) b.1)
 
 found_stands : (all before : List Spot) (rs : List Role) (wanted : List Part) (c : Context) (ss : List Spot) (k : Cause) (at : ℕ) → Stand all before rs wanted c ss → run wanted c ss ≡ Some (found k at) → IsFault all k at
@@ -126,15 +126,15 @@ found_stands all before rs [] c (s ∷ ss) k at st e =
     subst (λ (x : Found). IsFault all x.cause x.left) same (fault_of_stand all before rs [] c s ss (misfit s.head) st (inl (refl, none_wanted rs s st.leaves)))
 found_stands all before rs (p ∷ more) c (s ∷ ss) k at st e = by (λ b r w d h g. found_stands all b r w d ss k at h g) (pick p s.head s.dotted) refl e where
   broken : ((b : List Spot) (rs : List Role) (w : List Part) (d : Context) → Stand all b rs w d ss → run w d ss ≡ Some (found k at) → IsFault all k at)
-      → (f : Form) → pick p s.head s.dotted ≡ Some f → (o : Option Cause) → first_broken (rules f.role c s.head) ≡ o → broken_or (run (f.wanted ++ more) (after f.role c s.head) ss) s.left o ≡ Some (found k at) → IsFault all k at
+      → (f : Form) → pick p s.head s.dotted ≡ Some f → (o : Option Cause) → first_broken (rules f.role c s.head) ≡ o → broken_or (run (f.wanted ++ more) (context_after f.role c s.head) ss) s.left o ≡ Some (found k at) → IsFault all k at
   broken later f picked None kept e =
       let g = picked_fits p s f picked in
-      let next : Stand all (before ++ s ∷ []) (rs ++ f.role ∷ []) (f.wanted ++ more) (after f.role c s.head) ss = record {
+      let next : Stand all (before ++ s ∷ []) (rs ++ f.role ∷ []) (f.wanted ++ more) (context_after f.role c s.head) ss = record {
         is_split = st.is_split ∙ sym (append_assoc before (s ∷ []) ss);
         leaves = one_more rs p more s f st.leaves picked;
         keep = keep_more nothing_before rs before c f.role s st.keep g.1 kept;
       } in
-      later (before ++ s ∷ []) (rs ++ f.role ∷ []) (f.wanted ++ more) (after f.role c s.head) next e
+      later (before ++ s ∷ []) (rs ++ f.role ∷ []) (f.wanted ++ more) (context_after f.role c s.head) next e
   broken later f picked (Some j) kept e =
       let same : found j s.left ≡ found k at = cc in
       let g = picked_fits p s f picked in
@@ -155,7 +155,7 @@ found_is_fault ss k at e = found_stands ss [] [] (parts.Script ∷ []) nothing_b
 
 -- one token on
 pub step : (p : Part) (more : List Part) (c : Context) (s : Spot) (ss : List Spot) (f : Form) → pick p s.head s.dotted ≡ Some f → first_broken (rules f.role c s.head) ≡ None
-    → run (p ∷ more) c (s ∷ ss) ≡ run (f.wanted ++ more) (after f.role c s.head) ss
+    → run (p ∷ more) c (s ∷ ss) ≡ run (f.wanted ++ more) (context_after f.role c s.head) ss
 unfolding run
 step p more c s ss f e h = rw (e, h) refl
 
@@ -185,7 +185,7 @@ there rs (p ∷ wanted) c (r ∷ more) (t ∷ before) s ss d k l begun kept b =
     let picked = fitting_is_picked p t (form r h.0) h.1 kept.0 in
     let assoc = sym (append_assoc rs (r ∷ []) more) in
     step p wanted c t (before ++ s ∷ ss) (form r h.0) picked kept.1
-    ∙ there (rs ++ r ∷ []) (h.0 ++ wanted) (after r c t.head) more before s ss d k (one_more rs p wanted t (form r h.0) l picked)
+    ∙ there (rs ++ r ∷ []) (h.0 ++ wanted) (context_after r c t.head) more before s ss d k (one_more rs p wanted t (form r h.0) l picked)
     (subst (λ (x : List Role). BeginScript x) assoc begun) kept.2 (subst (λ (x : List Role). Breaks x d s k) assoc b)
 
 pub fault_is_found : (ss : List Spot) (k : Cause) (at : ℕ) → IsFault ss k at → run (parts.Script ∷ []) nothing_before ss ≡ Some (found k at)

@@ -15,7 +15,7 @@ use Rattle.te_reader.specs.Spots.{spots}
 use Rattle.te_reader.specs.declared.part.Part.TheVariants.{Script}
 use Rattle.te_reader.specs.Runs.{Found, found, run, found_if, fault_of}
 use Rattle.te_reader.specs.Places.{fault_from, place_in, StandsIn, HasFault}
-use Rattle.te_reader.specs.Telling.{IsTold}
+use Rattle.te_reader.specs.Telling.{FaultIsTold}
 use Rattle.te_reader.proofs.FaultIsFound.{found_is_fault, fault_is_found}
 use Rattle.te_reader.proofs.SpotsStand.{spots_stand, only_spots}
 use Rattle.te_reader.proofs.TextIsRead.{program_of_text_is_read}
@@ -43,14 +43,14 @@ stands_is_found bytes k left (inr h) =
     rw (small, ran) refl
 
 -- more bytes than a script may have
-pub long_is_told : (bytes : List ℕ) → 1048576 < length bytes → IsTold bytes (fault_from (causes.Limit limits.Bytes) (record { line = 1; column = 1 }))
+pub long_is_told : (bytes : List ℕ) → 1048576 < length bytes → FaultIsTold bytes (fault_from (causes.Limit limits.Bytes) (record { line = 1; column = 1 }))
 unfolding fault_of
 long_is_told bytes h =
     let long : nat_le (length bytes) 1048576 ≡ false = grind (arith, nat_tests, h) in
     let none : length bytes - length bytes ≡ 0 = omega arith in
     inr (found (causes.Limit limits.Bytes) (length bytes), rw long refl, rw none refl)
 
-pub found_is_told : (bytes : List ℕ) (f : Found) (e : ScriptFault) → fault_of bytes ≡ Some f → e ≡ fault_from f.cause (place_in bytes f.left) → IsTold bytes e
+pub found_is_told : (bytes : List ℕ) (f : Found) (e : ScriptFault) → fault_of bytes ≡ Some f → e ≡ fault_from f.cause (place_in bytes f.left) → FaultIsTold bytes e
 found_is_told bytes f e found_it is = inr (f, found_it, is)
 
 -- ---- the promises of reading
@@ -62,11 +62,11 @@ refused_has_fault bytes refused none =
     let both : Some t.program ≡ None = sym (program_of_text_is_read bytes t.program t.text) ∙ refused in
     cc
 
-pub told_is_fault : (bytes : List ℕ) (e : ScriptFault) → IsTold bytes e → (e ≡ Memory) ⊎ HasFault bytes e
+pub told_is_fault : (bytes : List ℕ) (e : ScriptFault) → FaultIsTold bytes e → (e ≡ Memory) ⊎ HasFault bytes e
 told_is_fault bytes e (inl h) = inl h
 told_is_fault bytes e (inr h) = inr (record { cause = h.0.cause; left = h.0.left; stands = found_stands_in bytes h.0 h.1; told = h.2 })
 
-pub fault_is_told : (bytes : List ℕ) (e told : ScriptFault) → IsTold bytes told → HasFault bytes e → (told ≡ e) ⊎ (told ≡ Memory)
+pub fault_is_told : (bytes : List ℕ) (e told : ScriptFault) → FaultIsTold bytes told → HasFault bytes e → (told ≡ e) ⊎ (told ≡ Memory)
 fault_is_told bytes e told (inl h) f = inr h
 fault_is_told bytes e told (inr h) f =
     let both : Some h.0 ≡ Some (found f.cause f.left) = sym h.1 ∙ stands_is_found bytes f.cause f.left f.stands in

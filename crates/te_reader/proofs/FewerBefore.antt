@@ -6,9 +6,9 @@ use Rattle.te_reader.specs.declared.token.Word.TheVariants as words
 use Rattle.te_reader.specs.declared.token.Sign.TheVariants as signs
 use Rattle.te_reader.specs.Tokens.{Token}
 use Rattle.te_reader.specs.Heads.{word_first, sign_first, bound_first}
-use Rattle.te_reader.specs.Grammar.{Names, Standing, alone, in_do, in_choose}
+use Rattle.te_reader.specs.Grammar.{Names, EventPlace, alone, in_do, in_choose}
 use Rattle.te_reader.specs.NameReads.{Read, bound_in}
-use Rattle.te_reader.specs.Tallies.{Tally, no_node, with_event}
+use Rattle.te_reader.specs.Tallies.{Tally, no_node, tally_with_event}
 use Rattle.te_reader.specs.EventReads.{Parts, made, read_condition, read_braced, read_part, read_do, read_second, read_choose, read_try, read_if, read_leaf, read_one, if_or_one, try_or_other, choose_or_other, do_or_other, read_alone, part_or_last, read_in_do, bar_or_end, read_in_choose, read_standing, read_event}
 use Rattle.te_reader.proofs.NameLemmas.{bind_some}
 use Rattle.te_reader.proofs.BuiltLemmas.{made_within}
@@ -20,7 +20,7 @@ pub record IsFewer (fewer used : Tally) : Type 0 where
   pub nodes : fewer.nodes ≤ used.nodes
   pub fresh : fewer.fresh ≤ used.fresh
 
-with_both : (fewer used : Tally) (e : Term) → IsFewer fewer used → IsFewer (with_event fewer e) (with_event used e)
+with_both : (fewer used : Tally) (e : Term) → IsFewer fewer used → IsFewer (tally_with_event fewer e) (tally_with_event used e)
 with_both fewer used e h = record { nodes = omega (arith, h.nodes); fresh = omega (arith, h.fresh) }
 
 made_fewer : (fewer used : Tally) (t u : Term) (ts rest : List Token) → IsFewer fewer used
@@ -32,7 +32,7 @@ made_fewer fewer used t u ts rest h e =
 -- what is read behind some nodes is read behind fewer
 abbrev pub Lowers : Parts → Type 0
 Lowers next =
-    (at : Standing) (s : Names) (fewer used : Tally) (t : Term) (ts rest : List Token) → IsFewer fewer used
+    (at : EventPlace) (s : Names) (fewer used : Tally) (t : Term) (ts rest : List Token) → IsFewer fewer used
     → next at s used ts ≡ Some (t, rest) → next at s fewer ts ≡ Some (t, rest)
 
 module _ (next : Parts) (lowers : Lowers next) (s : Names) (fewer used : Tally) (k : IsFewer fewer used) where
@@ -53,10 +53,10 @@ module _ (next : Parts) (lowers : Lowers next) (s : Names) (fewer used : Tally) 
       let b = bind_some (next alone s used a.0) _ _ a.2 in
       let c = bind_some (sign_first signs.Semicolon b.0.1) _ _ b.2 in
       let d = bind_some (bound_in s n) _ _ c.2 in
-      let f = bind_some (next in_do d.0 (with_event used b.0.0) c.0) _ _ d.2 in
+      let f = bind_some (next in_do d.0 (tally_with_event used b.0.0) c.0) _ _ d.2 in
       let first = lowers alone s fewer used b.0.0 a.0 b.0.1 k b.1 in
-      let second = lowers in_do d.0 (with_event fewer b.0.0) (with_event used b.0.0) f.0.0 c.0 f.0.1 (with_both fewer used b.0.0 k) f.1 in
-      part_made next s fewer (with_event fewer b.0.0) b.0.0 f.0.0 ts f.0.1 refl n d.0 a.0 b.0.1 c.0 a.1 first c.1 d.1 second
+      let second = lowers in_do d.0 (tally_with_event fewer b.0.0) (tally_with_event used b.0.0) f.0.0 c.0 f.0.1 (with_both fewer used b.0.0 k) f.1 in
+      part_made next s fewer (tally_with_event fewer b.0.0) b.0.0 f.0.0 ts f.0.1 refl n d.0 a.0 b.0.1 c.0 a.1 first c.1 d.1 second
       ∙ made_fewer fewer used (and_then b.0.0 (length s.inners) f.0.0) t f.0.1 rest k f.2
 
   do_fewer : (t : Term) (ts rest : List Token)
@@ -71,9 +71,9 @@ module _ (next : Parts) (lowers : Lowers next) (s : Names) (fewer used : Tally) 
       → read_second next s used e ts ≡ Some (t, rest) → read_second next s fewer e ts ≡ Some (t, rest)
   unfolding read_second
   second_fewer t e ts rest h =
-      let f = bind_some (next in_choose s (with_event used e) ts) _ _ h in
-      let second = lowers in_choose s (with_event fewer e) (with_event used e) f.0.0 ts f.0.1 (with_both fewer used e k) f.1 in
-      second_made next s fewer (with_event fewer e) e f.0.0 ts f.0.1 refl second ∙ made_fewer fewer used (choose e f.0.0) t f.0.1 rest k f.2
+      let f = bind_some (next in_choose s (tally_with_event used e) ts) _ _ h in
+      let second = lowers in_choose s (tally_with_event fewer e) (tally_with_event used e) f.0.0 ts f.0.1 (with_both fewer used e k) f.1 in
+      second_made next s fewer (tally_with_event fewer e) e f.0.0 ts f.0.1 refl second ∙ made_fewer fewer used (choose e f.0.0) t f.0.1 rest k f.2
 
   choose_fewer : (t : Term) (ts rest : List Token)
       → read_choose next s used ts ≡ Some (t, rest) → read_choose next s fewer ts ≡ Some (t, rest)
@@ -92,10 +92,10 @@ module _ (next : Parts) (lowers : Lowers next) (s : Names) (fewer used : Tally) 
       let a = bind_some (word_first words.Catch e.0.1) _ _ e.2 in
       let n = bind_some (bound_first a.0) _ _ a.2 in
       let more = bind_some (bound_in s n.0.0) _ _ n.2 in
-      let f = bind_some (read_braced next more.0 (with_event used e.0.0) n.0.1) _ _ more.2 in
+      let f = bind_some (read_braced next more.0 (tally_with_event used e.0.0) n.0.1) _ _ more.2 in
       let first = braced_fewer s fewer used k e.0.0 ts e.0.1 e.1 in
-      let second = braced_fewer more.0 (with_event fewer e.0.0) (with_event used e.0.0) (with_both fewer used e.0.0 k) f.0.0 n.0.1 f.0.1 f.1 in
-      try_made next s fewer (with_event fewer e.0.0) e.0.0 f.0.0 ts f.0.1 refl n.0.0 more.0 e.0.1 a.0 n.0.1 first a.1 n.1 more.1 second
+      let second = braced_fewer more.0 (tally_with_event fewer e.0.0) (tally_with_event used e.0.0) (with_both fewer used e.0.0 k) f.0.0 n.0.1 f.0.1 f.1 in
+      try_made next s fewer (tally_with_event fewer e.0.0) e.0.0 f.0.0 ts f.0.1 refl n.0.0 more.0 e.0.1 a.0 n.0.1 first a.1 n.1 more.1 second
       ∙ made_fewer fewer used (catch e.0.0 (length s.inners) f.0.0) t f.0.1 rest k f.2
 
   if_fewer : (t : Term) (ts rest : List Token)
@@ -105,10 +105,10 @@ module _ (next : Parts) (lowers : Lowers next) (s : Names) (fewer used : Tally) 
       let c = bind_some (read_condition s ts) _ _ h in
       let e = bind_some (read_braced next s used c.0.1) _ _ c.2 in
       let a = bind_some (word_first words.Else e.0.1) _ _ e.2 in
-      let f = bind_some (read_braced next s (with_event used e.0.0) a.0) _ _ a.2 in
+      let f = bind_some (read_braced next s (tally_with_event used e.0.0) a.0) _ _ a.2 in
       let first = braced_fewer s fewer used k e.0.0 c.0.1 e.0.1 e.1 in
-      let second = braced_fewer s (with_event fewer e.0.0) (with_event used e.0.0) (with_both fewer used e.0.0 k) f.0.0 a.0 f.0.1 f.1 in
-      if_made next s fewer (with_event fewer e.0.0) e.0.0 f.0.0 ts f.0.1 refl c.0.0.0 c.0.0.1 c.0.0.2 c.0.1 e.0.1 a.0 c.1 first a.1 second
+      let second = braced_fewer s (tally_with_event fewer e.0.0) (tally_with_event used e.0.0) (with_both fewer used e.0.0 k) f.0.0 a.0 f.0.1 f.1 in
+      if_made next s fewer (tally_with_event fewer e.0.0) e.0.0 f.0.0 ts f.0.1 refl c.0.0.0 c.0.0.1 c.0.0.2 c.0.1 e.0.1 a.0 c.1 first a.1 second
       ∙ made_fewer fewer used (when c.0.0.0 c.0.0.1 c.0.0.2 e.0.0 f.0.0) t f.0.1 rest k f.2
 
   one_fewer : (t : Term) (ts rest : List Token)
@@ -160,7 +160,7 @@ module _ (next : Parts) (lowers : Lowers next) (s : Names) (fewer used : Tally) 
         by e behind None h = h
         by e behind (Some more) h = second_fewer t e more rest h
 
-  standing_fewer : (at : Standing) (t : Term) (ts rest : List Token)
+  standing_fewer : (at : EventPlace) (t : Term) (ts rest : List Token)
       → read_standing next at s used ts ≡ Some (t, rest) → read_standing next at s fewer ts ≡ Some (t, rest)
   standing_fewer alone t ts rest h = alone_fewer t ts rest h
   standing_fewer in_do t ts rest h = in_do_fewer t ts rest h
@@ -173,7 +173,7 @@ event_fewer (suc layers) at s fewer used t ts rest k h =
     standing_fewer (read_event layers) (event_fewer layers) s fewer used k at t ts rest h
 
 -- an event that is read behind some nodes is read behind none
-pub event_behind_none : (layers : ℕ) (at : Standing) (s : Names) (used : Tally) (t : Term) (ts rest : List Token)
+pub event_behind_none : (layers : ℕ) (at : EventPlace) (s : Names) (used : Tally) (t : Term) (ts rest : List Token)
     → read_event layers at s used ts ≡ Some (t, rest) → read_event layers at s no_node ts ≡ Some (t, rest)
 event_behind_none layers at s used t ts rest h =
     event_fewer layers at s no_node used t ts rest (record { nodes = omega arith; fresh = omega arith }) h

@@ -7,7 +7,7 @@ use Rattle.te_reader.specs.declared.token.Word.TheVariants as words
 use Rattle.te_reader.specs.declared.token.Sign.{Sign}
 use Rattle.te_reader.specs.declared.token.Sign.TheVariants as signs
 use Rattle.te_reader.specs.Tokens.{Token, word, name, inner, integer, sign}
-use Rattle.te_reader.specs.Grammar.{bound}
+use Rattle.te_reader.specs.Grammar.{bound_name}
 use Rattle.te_reader.specs.Heads.{word_number, sign_number, word_first, sign_first, name_first, inner_first, bound_first, integer_first}
 
 -- ---- a word and a sign by their numbers
@@ -118,7 +118,7 @@ inner_is (name m ∷ ts) n rest e = absurd cc
 inner_is (integer m ∷ ts) n rest e = absurd cc
 inner_is (sign g ∷ ts) n rest e = absurd cc
 
-pub bound_name_is : (ts : List Token) (n : List ℕ) (rest : List Token) → bound_first ts ≡ Some (n, rest) → bound n ts rest
+pub bound_name_is : (ts : List Token) (n : List ℕ) (rest : List Token) → bound_first ts ≡ Some (n, rest) → bound_name n ts rest
 unfolding bound_first
 bound_name_is (name m ∷ ts) n rest e = let r = both_same _ _ e in let n_is = r.0 in let rest_is = r.1 in inl cc
 bound_name_is (inner m ∷ ts) n rest e = let r = both_same _ _ e in let n_is = r.0 in let rest_is = r.1 in inr cc

@@ -13,8 +13,8 @@ use Rattle.te_reader.specs.declared.token.Sign.TheVariants as signs
 use Rattle.te_reader.specs.Tokens as tokens
 use Rattle.te_reader.specs.Tokens.{Token, word, sign}
 use Rattle.te_reader.specs.Heads.{word_first, sign_first, name_first, integer_first}
-use Rattle.te_reader.specs.Grammar.{Span, is, ◌⨟◌, IsAt, IsNew, IsShort, alone, spells_expression, spells_event, spells_integer, spells_sync, spells_statements, spells_thread, spells_threads, spells_names, spells_channels, spells_program}
-use Rattle.te_reader.specs.NameReads.{Read, names_of, place_of, declared_in}
+use Rattle.te_reader.specs.Grammar.{Span, is, ◌⨟◌, IsAt, IsNew, IsShortName, alone, spells_expression, spells_event, spells_integer, spells_sync, spells_statements, spells_thread, spells_threads, spells_names, spells_channels, spells_program}
+use Rattle.te_reader.specs.NameReads.{Read, names_of, first_place_of, declared_in}
 use Rattle.te_reader.specs.Tallies.{no_node}
 use Rattle.te_reader.specs.Reads.{register_of, read_sync, read_written, read_emit, emit_or_sync, read_statement, read_times, Body, before_body, before_repeat, before_inside, before_brace, more_body, inside_body, read_body, read_thread, read_new_thread, read_threads, read_names, read_channels, read_program}
 use Rattle.te_reader.proofs.ListsKept.{all_weaker, all_at}
@@ -88,12 +88,12 @@ pub record Registers (channels registers : List (List ℕ)) : Type 0 where
 
 module _ (m : ℕ) (channels registers : List (List ℕ)) (keeps : Registers channels registers) where
   -- the register of a name is read as an old or the next one
-  register_is_read : (w r : ℕ) (n : List ℕ) → r ≤ w → IsShort n → IsAt registers r n → register_of channels (take w registers) n ≡ Some (r, take (with_register w r) registers)
+  register_is_read : (w r : ℕ) (n : List ℕ) → r ≤ w → IsShortName n → IsAt registers r n → register_of channels (take w registers) n ≡ Some (r, take (with_register w r) registers)
   unfolding register_of
   register_is_read w r n most short at =
-      let absent : place_of channels n ≡ None = place_absent channels n (no_channel n channels (all_at (λ x. AllByRecursion (λ y. x ≢ y) channels) registers r n keeps.apart at)) in
+      let absent : first_place_of channels n ≡ None = place_absent channels n (no_channel n channels (all_at (λ x. AllByRecursion (λ y. x ≢ y) channels) registers r n keeps.apart at)) in
       by absent (nat_lt r w) refl where
-        by : place_of channels n ≡ None → (b : Bool) → nat_lt r w ≡ b → register_of channels (take w registers) n ≡ Some (r, take (if b then w else suc r) registers)
+        by : first_place_of channels n ≡ None → (b : Bool) → nat_lt r w ≡ b → register_of channels (take w registers) n ≡ Some (r, take (if b then w else suc r) registers)
         by absent true e =
             let before : r < w = grind (arith, nat_tests) in
             let there = place_found (take w registers) r n (distinct_taken registers w keeps.distinct) (at_taken registers w r n before at) in

@@ -5,7 +5,7 @@ use Rattle.std.proofs.lemmas.Bool.{eqb-true, eqb-false}
 use Rattle.te_reader.specs.declared.token.Sign.TheVariants as signs
 use Rattle.te_reader.specs.Tokens.{Token, integer, sign, spelling, IsToken, Between, in_blanks, in_comment, is_blank, IsGap, IsLongest, Spells}
 use Rattle.std.specs.Char.{is_ascii_alphabetic, is_ascii_digit}
-use Rattle.te_reader.specs.Lexed.{Piece, gap, found, other, less_sign, minus_sign, one_sign, run, token_at, piece_at, place_after, bytes_after, before, lexed_behind, lexed}
+use Rattle.te_reader.specs.Lexed.{Piece, gap, found, other, less_sign, minus_sign, one_sign, byte_run, token_at, piece_at, place_after, bytes_after, before, lexed_behind, lexed}
 use Rattle.te_reader.proofs.LongestTokens.{limit, token_found, longest_found}
 
 -- the same, from a place that may stand in a comment
@@ -39,7 +39,7 @@ less_no_gap next (b ∷ bs) = neither next (b == 45) (found (sign signs.Arrow)) 
 
 minus_no_gap : (next : Between) (bs : List ℕ) → minus_sign bs ≡ gap next → ⊥
 minus_no_gap next [] = λ e. cc
-minus_no_gap next (b ∷ bs) = neither next (is_ascii_digit b) (found (integer (45 ∷ run is_ascii_digit b bs))) (found (sign signs.Minus)) (λ e. cc) (λ e. cc)
+minus_no_gap next (b ∷ bs) = neither next (is_ascii_digit b) (found (integer (45 ∷ byte_run is_ascii_digit b bs))) (found (sign signs.Minus)) (λ e. cc) (λ e. cc)
 
 sign_no_gap : (next : Between) (b : ℕ) → one_sign b ≡ gap next → ⊥
 sign_no_gap next b =

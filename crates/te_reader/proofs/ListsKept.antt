@@ -3,10 +3,10 @@ use Rattle.std.proofs.Common.{◌≡◌, ◌≢◌, ℕ, zero, suc, ◌<◌, ◌
 use Rattle.std.proofs.lemmas.List.{append-nil}
 use Rattle.std.specs.List.{AllByRecursion}
 use Rattle.te_script.specs.declared.script.Stmt.{Stmt}
-use Rattle.te_script.specs.Texts.{HasRoot}
+use Rattle.te_script.specs.Texts.{RootIsNode}
 use Rattle.te_script.specs.Scripts.{AreDistinct, AreApart}
 use Rattle.te_script.proofs.Appending.{AllByRecursion-append}
-use Rattle.te_reader.specs.Grammar.{IsAt, IsNew, IsShort}
+use Rattle.te_reader.specs.Grammar.{IsAt, IsNew, IsShortName}
 
 pub all_weaker : {A : Type 0} (P Q : A → Type 0) → ((x : A) → P x → Q x) → (xs : List A) → AllByRecursion P xs → AllByRecursion Q xs
 all_weaker P Q w [] h = tt
@@ -29,7 +29,7 @@ pub at_last : (xs : List (List ℕ)) (n : List ℕ) → IsAt (xs ++ n ∷ []) (l
 at_last [] n = refl
 at_last (x ∷ xs) n = at_last xs n
 
-pub short_at : (xs : List (List ℕ)) (r : ℕ) (n : List ℕ) → AllByRecursion IsShort xs → IsAt xs r n → IsShort n
+pub short_at : (xs : List (List ℕ)) (r : ℕ) (n : List ℕ) → AllByRecursion IsShortName xs → IsAt xs r n → IsShortName n
 short_at [] r n h at = absurd cc
 short_at (x ∷ xs) zero n h at = let same : x ≡ n = cc in let P : List ℕ → Type 0 = λ y. length y ≤ 32 in subst P same h.0
 short_at (x ∷ xs) (suc r) n h at = short_at xs r n h.1 at
@@ -47,7 +47,7 @@ pub record Grows (channels registers more : List (List ℕ)) : Type 0 where
   pub appended : more ≡ registers ++ added
   pub few : length registers ≤ 8 → length more ≤ 8
   pub distinct : AreDistinct registers → AreDistinct more
-  pub short : AllByRecursion IsShort registers → AllByRecursion IsShort more
+  pub short : AllByRecursion IsShortName registers → AllByRecursion IsShortName more
   pub apart : AreApart registers channels → AreApart more channels
 
 pub stays : (channels registers : List (List ℕ)) → Grows channels registers registers
@@ -63,13 +63,13 @@ goes_on channels a b c f g = record {
   apart = λ h. g.apart (f.apart h);
 }
 
-pub grows_one : (channels registers : List (List ℕ)) (n : List ℕ) → length registers < 8 → IsShort n → IsNew n registers → IsNew n channels → Grows channels registers (registers ++ n ∷ [])
+pub grows_one : (channels registers : List (List ℕ)) (n : List ℕ) → length registers < 8 → IsShortName n → IsNew n registers → IsNew n channels → Grows channels registers (registers ++ n ∷ [])
 grows_one channels registers n room short new no_channel = record {
   added = n ∷ [];
   appended = refl;
   few = λ h. omega (arith, length-append registers (n ∷ []));
   distinct = λ h. distinct_push registers n h new;
-  short = λ h. AllByRecursion-append IsShort registers n h short;
+  short = λ h. AllByRecursion-append IsShortName registers n h short;
   apart = λ h. AllByRecursion-append (λ x. AllByRecursion (λ y. x ≢ y) channels) registers n h (new_apart n channels no_channel);
 }
 
@@ -80,6 +80,6 @@ all_at P (x ∷ xs) zero n h at = let same : x ≡ n = cc in subst P same h.0
 all_at P (x ∷ xs) (suc r) n h at = all_at P xs r n h.1 at
 
 -- one statement more has a root
-pub all_roots : (xs : List Stmt) (x : Stmt) → AllByRecursion HasRoot xs → HasRoot x → AllByRecursion HasRoot (xs ++ x ∷ [])
+pub all_roots : (xs : List Stmt) (x : Stmt) → AllByRecursion RootIsNode xs → RootIsNode x → AllByRecursion RootIsNode (xs ++ x ∷ [])
 all_roots [] x h r = (r, tt)
 all_roots (y ∷ ys) x h r = (h.0, all_roots ys x h.1 r)

@@ -11,7 +11,7 @@ use Rattle.te_reader.specs.declared.token.Sign.{Sign}
 use Rattle.te_reader.specs.declared.token.Sign.TheVariants as signs
 use Rattle.te_script.specs.Names.{is_word_byte}
 use Rattle.te_reader.specs.Tokens.{Token, word, name, inner, integer, sign, word_spelling, sign_spelling, spelling, is_blank, IsDigits, IsToken, IsLongest}
-use Rattle.te_reader.specs.Lexed.{Piece, found, run, reserved_as, word_or_name, one_sign, less_sign, minus_sign, token_at}
+use Rattle.te_reader.specs.Lexed.{Piece, found, byte_run, reserved_as, word_or_name, one_sign, less_sign, minus_sign, token_at}
 use Rattle.te_reader.proofs.ReservedWords.{reserved_spells, reserved_back, differs_from_reserved}
 use Rattle.te_reader.proofs.ByteKinds.{digit_is_no_letter}
 
@@ -155,9 +155,9 @@ pub record Found (b : ℕ) (bs : List ℕ) (t : Token) : Type 0 where
   pub split : b ∷ bs ≡ spelling t ++ drop (limit b bs) bs
 
 -- a word or a name
-word_found : (b : ℕ) (bs : List ℕ) (o : Option Word) → is_ascii_alphabetic b ≡ true → reserved_as (run is_word_byte b bs) ≡ o → Found b bs (word_or_name o (run is_word_byte b bs))
+word_found : (b : ℕ) (bs : List ℕ) (o : Option Word) → is_ascii_alphabetic b ≡ true → reserved_as (byte_run is_word_byte b bs) ≡ o → Found b bs (word_or_name o (byte_run is_word_byte b bs))
 word_found b bs (Some w) e f =
-    let r = run is_word_byte b bs in
+    let r = byte_run is_word_byte b bs in
     let same : word_spelling w ≡ r = reserved_spells r w f in
     record {
       is_token = tt;
@@ -165,21 +165,21 @@ word_found b bs (Some w) e f =
       split = rw (e, same) (ap (λ x. b ∷ x) (sym (take-append-drop (prefix_len is_word_byte bs) bs)));
     }
 word_found b bs None e f =
-    let r = run is_word_byte b bs in
+    let r = byte_run is_word_byte b bs in
     record {
       is_token = (e, run_passes is_word_byte bs, differs_from_reserved r (λ w same. absurd (let known : reserved_as r ≡ Some w = ap reserved_as (sym same) ∙ reserved_back w in cc)));
       long = rw e (ap suc (length-prefix_len is_word_byte bs));
       split = rw e (ap (λ x. b ∷ x) (sym (take-append-drop (prefix_len is_word_byte bs) bs)));
     }
 
-digits_found : (b : ℕ) (bs : List ℕ) → is_ascii_alphabetic b ≡ false → is_ascii_digit b ≡ true → Found b bs (integer (run is_ascii_digit b bs))
+digits_found : (b : ℕ) (bs : List ℕ) → is_ascii_alphabetic b ≡ false → is_ascii_digit b ≡ true → Found b bs (integer (byte_run is_ascii_digit b bs))
 digits_found b bs letter e = record {
   is_token = inl (omega arith, (e, run_passes is_ascii_digit bs));
   long = rw (letter, e) (ap suc (length-prefix_len is_ascii_digit bs));
   split = rw (letter, e) (ap (λ x. b ∷ x) (sym (take-append-drop (prefix_len is_ascii_digit bs) bs)));
 }
 
-inner_found : (b : ℕ) (bs : List ℕ) → b ≡ 95 → Found b bs (inner (run is_word_byte b bs))
+inner_found : (b : ℕ) (bs : List ℕ) → b ≡ 95 → Found b bs (inner (byte_run is_word_byte b bs))
 inner_found b bs e = record {
   is_token = (e, run_passes is_word_byte bs);
   long = rw e (ap suc (length-prefix_len is_word_byte bs));
@@ -196,10 +196,10 @@ less_found b (d ∷ ds) t e f = by (d == 45) refl (eqb-true d 45) f where
 minus_found : (b : ℕ) (bs : List ℕ) (t : Token) → b ≡ 45 → minus_sign bs ≡ found t → Found b bs t
 minus_found b [] t e f = let same : sign signs.Minus ≡ t = cc in subst (λ (u : Token). Found b [] u) same (record { is_token = tt; long = rw e refl; split = rw e refl })
 minus_found b (d ∷ ds) t e f = by (is_ascii_digit d) refl f where
-  by : (v : Bool) → is_ascii_digit d ≡ v → (if v then found (integer (45 ∷ run is_ascii_digit d ds)) else found (sign signs.Minus)) ≡ found t → Found b (d ∷ ds) t
+  by : (v : Bool) → is_ascii_digit d ≡ v → (if v then found (integer (45 ∷ byte_run is_ascii_digit d ds)) else found (sign signs.Minus)) ≡ found t → Found b (d ∷ ds) t
   by true g f =
-      let same : integer (45 ∷ run is_ascii_digit d ds) ≡ t = cc in
-      let good : Found 45 (d ∷ ds) (integer (45 ∷ run is_ascii_digit d ds)) = record {
+      let same : integer (45 ∷ byte_run is_ascii_digit d ds) ≡ t = cc in
+      let good : Found 45 (d ∷ ds) (integer (45 ∷ byte_run is_ascii_digit d ds)) = record {
         is_token = inr (refl, (omega arith, (g, run_passes is_ascii_digit ds)));
         long = rw (g, one-add (prefix_len is_ascii_digit ds)) (ap (λ n. suc (suc n)) (length-prefix_len is_ascii_digit ds));
         split = rw (g, one-add (prefix_len is_ascii_digit ds)) (ap (λ x. 45 ∷ d ∷ x) (sym (take-append-drop (prefix_len is_ascii_digit ds) ds)));
@@ -240,24 +240,24 @@ token_found b bs t e = by_letter (is_ascii_alphabetic b) refl e where
       let good : Found b bs (sign o.0) = record { is_token = tt; long = rw (l, d, s, m, u, o.2) refl; split = rw (l, d, s, m, u, o.2) refl } in
       subst (λ (x : Token). Found b bs x) (sym o.1) good
 
-  by_inner : (v : Bool) → (b == 95) ≡ v → is_ascii_alphabetic b ≡ false → is_ascii_digit b ≡ false → (b == 60) ≡ false → (b == 45) ≡ false → (if v then found (inner (run is_word_byte b bs)) else one_sign b) ≡ found t → Found b bs t
-  by_inner true f l d s m e = let same : inner (run is_word_byte b bs) ≡ t = cc in subst (λ (x : Token). Found b bs x) same (inner_found b bs (eqb-true b 95 f))
+  by_inner : (v : Bool) → (b == 95) ≡ v → is_ascii_alphabetic b ≡ false → is_ascii_digit b ≡ false → (b == 60) ≡ false → (b == 45) ≡ false → (if v then found (inner (byte_run is_word_byte b bs)) else one_sign b) ≡ found t → Found b bs t
+  by_inner true f l d s m e = let same : inner (byte_run is_word_byte b bs) ≡ t = cc in subst (λ (x : Token). Found b bs x) same (inner_found b bs (eqb-true b 95 f))
   by_inner false f l d s m e = by_other l d s m f e
 
-  by_minus : (v : Bool) → (b == 45) ≡ v → is_ascii_alphabetic b ≡ false → is_ascii_digit b ≡ false → (b == 60) ≡ false → (if v then minus_sign bs else (if b == 95 then found (inner (run is_word_byte b bs)) else one_sign b)) ≡ found t → Found b bs t
+  by_minus : (v : Bool) → (b == 45) ≡ v → is_ascii_alphabetic b ≡ false → is_ascii_digit b ≡ false → (b == 60) ≡ false → (if v then minus_sign bs else (if b == 95 then found (inner (byte_run is_word_byte b bs)) else one_sign b)) ≡ found t → Found b bs t
   by_minus true f l d s e = minus_found b bs t (eqb-true b 45 f) e
   by_minus false f l d s e = by_inner (b == 95) refl l d s f e
 
-  by_less : (v : Bool) → (b == 60) ≡ v → is_ascii_alphabetic b ≡ false → is_ascii_digit b ≡ false → (if v then less_sign bs else (if b == 45 then minus_sign bs else (if b == 95 then found (inner (run is_word_byte b bs)) else one_sign b))) ≡ found t → Found b bs t
+  by_less : (v : Bool) → (b == 60) ≡ v → is_ascii_alphabetic b ≡ false → is_ascii_digit b ≡ false → (if v then less_sign bs else (if b == 45 then minus_sign bs else (if b == 95 then found (inner (byte_run is_word_byte b bs)) else one_sign b))) ≡ found t → Found b bs t
   by_less true f l d e = less_found b bs t (eqb-true b 60 f) e
   by_less false f l d e = by_minus (b == 45) refl l d f e
 
-  by_digit : (v : Bool) → is_ascii_digit b ≡ v → is_ascii_alphabetic b ≡ false → (if v then found (integer (run is_ascii_digit b bs)) else (if b == 60 then less_sign bs else (if b == 45 then minus_sign bs else (if b == 95 then found (inner (run is_word_byte b bs)) else one_sign b)))) ≡ found t → Found b bs t
-  by_digit true f l e = let same : integer (run is_ascii_digit b bs) ≡ t = cc in subst (λ (x : Token). Found b bs x) same (digits_found b bs l f)
+  by_digit : (v : Bool) → is_ascii_digit b ≡ v → is_ascii_alphabetic b ≡ false → (if v then found (integer (byte_run is_ascii_digit b bs)) else (if b == 60 then less_sign bs else (if b == 45 then minus_sign bs else (if b == 95 then found (inner (byte_run is_word_byte b bs)) else one_sign b)))) ≡ found t → Found b bs t
+  by_digit true f l e = let same : integer (byte_run is_ascii_digit b bs) ≡ t = cc in subst (λ (x : Token). Found b bs x) same (digits_found b bs l f)
   by_digit false f l e = by_less (b == 60) refl l f e
 
-  by_letter : (v : Bool) → is_ascii_alphabetic b ≡ v → (if v then found (word_or_name (reserved_as (run is_word_byte b bs)) (run is_word_byte b bs)) else (if is_ascii_digit b then found (integer (run is_ascii_digit b bs)) else (if b == 60 then less_sign bs else (if b == 45 then minus_sign bs else (if b == 95 then found (inner (run is_word_byte b bs)) else one_sign b))))) ≡ found t → Found b bs t
-  by_letter true f e = let same : word_or_name (reserved_as (run is_word_byte b bs)) (run is_word_byte b bs) ≡ t = cc in subst (λ (x : Token). Found b bs x) same (word_found b bs (reserved_as (run is_word_byte b bs)) f refl)
+  by_letter : (v : Bool) → is_ascii_alphabetic b ≡ v → (if v then found (word_or_name (reserved_as (byte_run is_word_byte b bs)) (byte_run is_word_byte b bs)) else (if is_ascii_digit b then found (integer (byte_run is_ascii_digit b bs)) else (if b == 60 then less_sign bs else (if b == 45 then minus_sign bs else (if b == 95 then found (inner (byte_run is_word_byte b bs)) else one_sign b))))) ≡ found t → Found b bs t
+  by_letter true f e = let same : word_or_name (reserved_as (byte_run is_word_byte b bs)) (byte_run is_word_byte b bs) ≡ t = cc in subst (λ (x : Token). Found b bs x) same (word_found b bs (reserved_as (byte_run is_word_byte b bs)) f refl)
   by_letter false f e = by_digit (is_ascii_digit b) refl f e
 
 -- no token there is longer

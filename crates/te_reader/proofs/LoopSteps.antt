@@ -8,7 +8,7 @@ use Rattle.te_reader.specs.declared.token.Sign.TheVariants as signs
 use Rattle.te_reader.specs.Tokens.{Token}
 use Rattle.te_reader.specs.Heads.{word_first, sign_first, name_first}
 use Rattle.te_reader.specs.NameReads.{Read, ◌>>=◌, declared_in}
-use Rattle.te_reader.specs.Reads.{Body, changed, before_body, before_inside, before_brace, before_repeat, read_names, read_written, read_statement, read_times, named_body, more_body, inside_body, read_body, read_new_thread, read_threads}
+use Rattle.te_reader.specs.Reads.{Body, read_changed, before_body, before_inside, before_brace, before_repeat, read_names, read_written, read_statement, read_times, named_body, more_body, inside_body, read_body, read_new_thread, read_threads}
 use Rattle.te_reader.specs.Behind.{behind, behind_body, behind_syncs, behind_repeat}
 use Rattle.te_script.specs.declared.script.Stmt.{Stmt}
 use Rattle.te_script.specs.declared.script.Stmt.TheVariants as stmts
@@ -104,7 +104,7 @@ module _ (room i : ℕ) (done : List Statement) (channels registers : List (List
       more_syncs open_yet =
           let start : behind_syncs done (read_body (suc (room - (i + 1))) channels true registers ts) ≡ behind_syncs (done ++ s ∷ []) (read_body (room - (i + 1)) channels true more after) = rw (read, open_yet) (by (read_body (room - (i + 1)) channels true more after)) in
           sym start ∙ opened where
-            by : (o : Read Body) → behind_syncs done (changed (before_inside s) o) ≡ behind_syncs (done ++ s ∷ []) o
+            by : (o : Read Body) → behind_syncs done (read_changed (before_inside s) o) ≡ behind_syncs (done ++ s ∷ []) o
             by None = refl
             by (Some b) =
                 ap (λ xs. Some (record { statements = xs; leading = length done + suc b.0.leading; registers = b.0.registers }, b.1)) (sym (append_assoc done (s ∷ []) b.0.statements))
@@ -115,7 +115,7 @@ module _ (room i : ℕ) (done : List Statement) (channels registers : List (List
       last_sync rest close =
           let start : behind_syncs done (read_body (suc (room - (i + 1))) channels true registers ts) ≡ behind_repeat (done ++ s ∷ []) (read_body (room - (i + 1)) channels false more rest) = rw (read, close) (by (read_body (room - (i + 1)) channels false more rest)) in
           sym opened ∙ start where
-            by : (o : Read Body) → behind_syncs done (changed (before_brace s) o) ≡ behind_repeat (done ++ s ∷ []) o
+            by : (o : Read Body) → behind_syncs done (read_changed (before_brace s) o) ≡ behind_repeat (done ++ s ∷ []) o
             by None = refl
             by (Some b) =
                 ap (λ xs. Some (record { statements = xs; leading = length done + 1; registers = b.0.registers }, b.1)) (sym (append_assoc done (s ∷ []) b.0.statements))
@@ -139,7 +139,7 @@ module _ (room : ℕ) (channels registers : List (List ℕ)) (ts : List Token) w
     by (Some b) e = ap (λ n. Some (record { statements = b.0.statements; leading = n; registers = b.0.registers }, b.1)) (omega arith) ∙ e
 
 -- a repeat with its syncs, and what is read behind it
-repeat_read : (times : ℕ) (syncs : List Statement) (o : Read Body) → changed (before_repeat times) (behind_repeat syncs o) ≡ behind_body (repeat times (length syncs) ∷ syncs) o
+repeat_read : (times : ℕ) (syncs : List Statement) (o : Read Body) → read_changed (before_repeat times) (behind_repeat syncs o) ≡ behind_body (repeat times (length syncs) ∷ syncs) o
 repeat_read times syncs None = refl
 repeat_read times syncs (Some b) = refl
 
@@ -147,9 +147,9 @@ pub repeat_is_read : (channels registers more : List (List ℕ)) (before room le
     → read_body room channels true registers inside ≡ behind_repeat syncs (read_body (room - taken) channels false more after)
     → repeat_behind before channels registers ts ≡ behind_body (repeat times (length syncs) ∷ syncs) (read_body left channels false more after)
 repeat_is_read channels registers more before room left taken times ts inside after syncs e size rest read =
-    let start : repeat_behind before channels registers ts ≡ changed (before_repeat times) (read_body (1024 - (before + 1)) channels true registers inside) = rw e refl in
+    let start : repeat_behind before channels registers ts ≡ read_changed (before_repeat times) (read_body (1024 - (before + 1)) channels true registers inside) = rw e refl in
     let step : read_body (1024 - (before + 1)) channels true registers inside ≡ behind_repeat syncs (read_body (room - taken) channels false more after) = ap (λ k. read_body k channels true registers inside) (sym size) ∙ read in
-    start ∙ ap (changed (before_repeat times)) step ∙ repeat_read times syncs (read_body (room - taken) channels false more after)
+    start ∙ ap (read_changed (before_repeat times)) step ∙ repeat_read times syncs (read_body (room - taken) channels false more after)
     ∙ ap (λ k. behind_body (repeat times (length syncs) ∷ syncs) (read_body k channels false more after)) (sym rest)
 
 -- one statement, and what is read behind it
@@ -159,7 +159,7 @@ unfolding more_body
 statement_is_read channels registers more before left s ts after none read size =
     let start : more_behind before channels registers ts ≡ behind_body (s ∷ []) (read_body (1024 - (before + 1)) channels false more after) = rw (none, read) (by (read_body (1024 - (before + 1)) channels false more after)) in
     start ∙ ap (λ k. behind_body (s ∷ []) (read_body k channels false more after)) (sym size) where
-      by : (o : Read Body) → changed (before_body s) o ≡ behind_body (s ∷ []) o
+      by : (o : Read Body) → read_changed (before_body s) o ≡ behind_body (s ∷ []) o
       by None = refl
       by (Some b) = refl
 

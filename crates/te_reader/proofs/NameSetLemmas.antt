@@ -10,7 +10,7 @@ use Rattle.std.proofs.lemmas.Slice.Eq.{bytes_eq-Decides}
 use Rattle.std.proofs.lemmas.Map.Text.{btree_map_updates_str}
 use Rattle.te_reader.specs.Grammar.{IsAt}
 use Rattle.te_reader.specs.Rules.{is_among}
-use Rattle.te_reader.specs.NameSets.{IsFound}
+use Rattle.te_reader.specs.NameSets.{FindsEachName}
 use Rattle.te_reader.proofs.ListsKept.{at_more, at_last}
 
 or_true : (a b : Bool) → b ≡ true → (a || b) ≡ true
@@ -47,9 +47,9 @@ at_split (x ∷ xs) n (suc i) m h = by (at_split xs n i m h) where
   by (inl k) = inl k
   by (inr k) = inr (ap suc k.0, k.1)
 
-module _ (names : List (List ℕ)) (n : List ℕ) (old : BTreeMap (Bor (List ℕ)) ℕ) (found : IsFound names old) where
+module _ (names : List (List ℕ)) (n : List ℕ) (old : BTreeMap (Bor (List ℕ)) ℕ) (found : FindsEachName names old) where
   -- a name that is among them already
-  pub found_again : is_among n names ≡ true → IsFound (names ++ n ∷ []) old
+  pub found_again : is_among n names ≡ true → FindsEachName (names ++ n ∷ []) old
   found_again e i m h = by (at_split names n i m h) where
     by : IsAt names i m ⊎ ((i ≡ length names) × (n ≡ m)) → (j : ℕ) × (get_by (λ k. slice_cmp nat_cmp m k.now) old ≡ Some j) × (j ≤ i) × IsAt (names ++ n ∷ []) j m
     by (inl k) = let f = found i m k in (f.0, f.1, f.2, at_more names (n ∷ []) f.0 m f.3)
@@ -65,7 +65,7 @@ module _ (names : List (List ℕ)) (n : List ℕ) (old : BTreeMap (Bor (List ℕ
 
   module _ (new : BTreeMap (Bor (List ℕ)) ℕ) (number : ℕ) (is : number ≡ length names) (updates : UpdatesBy (λ x y. slice_cmp nat_cmp x.now y.now) (λ k. slice_cmp nat_cmp n k.now) old new (Some number)) (fresh : is_among n names ≡ false) where
     -- the index knows a new name, and the others as before
-    pub still_found : IsFound names new
+    pub still_found : FindsEachName names new
     still_found i m h =
         let f = found i m h in
         (f.0, btree_map_updates_str n old new (Some number) updates m ∙ by (bytes_eq n m) (bytes_eq-Decides n m).0 ∙ f.1, f.2, f.3) where
@@ -73,7 +73,7 @@ module _ (names : List (List ℕ)) (n : List ℕ) (old : BTreeMap (Bor (List ℕ
           by true same = absurd (let here : is_among n names ≡ true = among_at names i n (h ∙ ap Some (sym (same refl))) in cc)
           by false same = refl
 
-    pub found_new : IsFound (names ++ n ∷ []) new
+    pub found_new : FindsEachName (names ++ n ∷ []) new
     found_new i m h = by (at_split names n i m h) where
       by : IsAt names i m ⊎ ((i ≡ length names) × (n ≡ m)) → (j : ℕ) × (get_by (λ k. slice_cmp nat_cmp m k.now) new ≡ Some j) × (j ≤ i) × IsAt (names ++ n ∷ []) j m
       by (inl k) = let f = still_found i m k in (f.0, f.1, f.2, at_more names (n ∷ []) f.0 m f.3)
@@ -89,7 +89,7 @@ another n q e = (bytes_eq-Decides n q).1 cc
 
 -- ---- whether a name is among them, by its index
 
-module _ (names : List (List ℕ)) (numbers : BTreeMap (Bor (List ℕ)) ℕ) (found : IsFound names numbers) (q : List ℕ) where
+module _ (names : List (List ℕ)) (numbers : BTreeMap (Bor (List ℕ)) ℕ) (found : FindsEachName names numbers) (q : List ℕ) where
   -- not in the index
   pub no_number : get_by (λ k. slice_cmp nat_cmp q k.now) numbers ≡ None → false ≡ is_among q names
   no_number e = by (is_among q names) refl where

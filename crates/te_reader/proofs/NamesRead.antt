@@ -13,7 +13,7 @@ use Rattle.te_reader.specs.declared.token.Word.TheVariants as words
 use Rattle.te_reader.specs.declared.token.Sign.TheVariants as signs
 use Rattle.te_reader.specs.Tokens as tokens
 use Rattle.te_reader.specs.Tokens.{Token, word, sign, AreTokens}
-use Rattle.te_reader.specs.Grammar.{Span, is, ◌⨟◌, either, named, under, Names, IsAt, IsFree, with_inner, bound, binds, spells_variable, spells_integer, spells_primitive, spells_calculation, spells_further, spells_inside, spells_expression, Standing, alone, in_do, in_choose, closed, closed_do, closed_choose, in_braces, do_parts, test_sign, arith_sign, spells_event, written_names, spells_sync, spells_statements, spells_thread, spells_threads, spells_names, spells_channels, spells_program}
+use Rattle.te_reader.specs.Grammar.{Span, is, ◌⨟◌, either, some_name, span_under, Names, IsAt, IsFreeName, with_inner, bound_name, binds, spells_variable, spells_integer, spells_primitive, spells_calculation, spells_further, spells_inside, spells_expression, EventPlace, alone, in_do, in_choose, closed_span, closed_do, closed_choose, in_braces, do_parts, test_sign, arith_sign, spells_event, written_names, spells_sync, spells_statements, spells_thread, spells_threads, spells_names, spells_channels, spells_program}
 use Rattle.te_reader.proofs.KeptIsRead.{next_taken, whole_taken}
 
 -- ---- behind a span tokens are left
@@ -31,17 +31,17 @@ leaves_either : (first second : Span) → Leaves first → Leaves second → Lea
 leaves_either first second f g ts rest (inl h) k = f ts rest h k
 leaves_either first second f g ts rest (inr h) k = g ts rest h k
 
-leaves_named : (span : List ℕ → Span) → ((n : List ℕ) → Leaves (span n)) → Leaves (named span)
+leaves_named : (span : List ℕ → Span) → ((n : List ℕ) → Leaves (span n)) → Leaves (some_name span)
 leaves_named span f ts rest h k = f h.0 ts rest h.1 k
 
-leaves_under : (rules : Bool) (fact : Type 0) (span : Span) → Leaves span → Leaves (under rules fact span)
+leaves_under : (rules : Bool) (fact : Type 0) (span : Span) → Leaves span → Leaves (span_under rules fact span)
 leaves_under rules fact span f ts rest h k = f ts rest h.1 k
 
-leaves_bound : (n : List ℕ) → Leaves (bound n)
+leaves_bound : (n : List ℕ) → Leaves (bound_name n)
 leaves_bound n = leaves_either (is (tokens.name n)) (is (tokens.inner n)) (leaves_is (tokens.name n)) (leaves_is (tokens.inner n))
 
 leaves_binds : (rules : Bool) (s : Names) (next : List ℕ → Span) → ((n : List ℕ) → Leaves (next n)) → Leaves (binds rules s next)
-leaves_binds rules s next f = leaves_named _ (λ n. leaves_under rules (IsFree s n) (bound n ⨟ next n) (leaves_both (bound n) (next n) (leaves_bound n) (f n)))
+leaves_binds rules s next f = leaves_named _ (λ n. leaves_under rules (IsFreeName s n) (bound_name n ⨟ next n) (leaves_both (bound_name n) (next n) (leaves_bound n) (f n)))
 
 leaves_integer : (z : ℤ) → Leaves (spells_integer z)
 leaves_integer z ts rest h k = leaves_is (tokens.integer h.0) ts rest h.2 k
@@ -51,7 +51,7 @@ leaves_integer z ts rest h k = leaves_is (tokens.integer h.0) ts rest h.2 k
 module _ (rules : Bool) (s : Names) where
   leaves_variable : (x : Variable) → Leaves (spells_variable rules s x)
   leaves_variable (register r) = leaves_named _ (λ n. leaves_under rules (IsAt s.registers r n) (is (tokens.name n)) (leaves_is (tokens.name n)))
-  leaves_variable (name l) = leaves_named _ (λ n. leaves_under rules (IsAt s.inners l n) (bound n) (leaves_bound n))
+  leaves_variable (name l) = leaves_named _ (λ n. leaves_under rules (IsAt s.inners l n) (bound_name n) (leaves_bound n))
   leaves_variable (known v) = λ ts rest h k. absurd h
 
   leaves_primitive : (p : Primitive) → Leaves (spells_primitive rules s p)
@@ -82,17 +82,17 @@ module _ (rules : Bool) (s : Names) where
 leaves_close : (event : Span) → Leaves event → Leaves (event ⨟ is (sign signs.CloseBrace))
 leaves_close event f = leaves_both event (is (sign signs.CloseBrace)) f (leaves_is (sign signs.CloseBrace))
 
-leaves_closed : (at : Standing) (event : Span) → Leaves event → Leaves (closed at event)
+leaves_closed : (at : EventPlace) (event : Span) → Leaves event → Leaves (closed_span at event)
 leaves_closed alone event f = f
 leaves_closed in_do event f = leaves_close event f
 leaves_closed in_choose event f = leaves_close event f
 
-leaves_closed_do : (at : Standing) (event parts : Span) → Leaves event → Leaves parts → Leaves (closed_do at event parts)
+leaves_closed_do : (at : EventPlace) (event parts : Span) → Leaves event → Leaves parts → Leaves (closed_do at event parts)
 leaves_closed_do in_do event parts f g = leaves_either _ parts (leaves_close event f) g
 leaves_closed_do alone event parts f g = f
 leaves_closed_do in_choose event parts f g = leaves_close event f
 
-leaves_closed_choose : (at : Standing) (event events : Span) → Leaves event → Leaves events → Leaves (closed_choose at event events)
+leaves_closed_choose : (at : EventPlace) (event events : Span) → Leaves event → Leaves events → Leaves (closed_choose at event events)
 leaves_closed_choose in_choose event events f g = leaves_either _ events (leaves_close event f) g
 leaves_closed_choose alone event events f g = f
 leaves_closed_choose in_do event events f g = leaves_close event f
@@ -100,7 +100,7 @@ leaves_closed_choose in_do event events f g = leaves_close event f
 leaves_braces : (event : Span) → Leaves event → Leaves (in_braces event)
 leaves_braces event f = leaves_both (is (sign signs.OpenBrace)) _ (leaves_is (sign signs.OpenBrace)) (leaves_close event f)
 
-leaves_event : (rules : Bool) (at : Standing) (s : Names) (t : Term) → Leaves (spells_event rules at s t)
+leaves_event : (rules : Bool) (at : EventPlace) (s : Names) (t : Term) → Leaves (spells_event rules at s t)
 leaves_event rules at s (always e) = leaves_closed at _ (leaves_both (is (word words.Always)) _ (leaves_is (word words.Always)) (leaves_expression rules s e))
 leaves_event rules at s never = leaves_closed at _ (leaves_is (word words.Never))
 leaves_event rules at s fresh = leaves_closed at _ (leaves_is (word words.Fresh))

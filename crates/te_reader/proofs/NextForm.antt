@@ -10,10 +10,10 @@ use Rattle.te_reader.specs.declared.cause.Cause.{Cause}
 use Rattle.te_reader.specs.Tokens as tokens
 use Rattle.te_reader.specs.Spots.{Spot, Head, token, over, strange}
 use Rattle.te_reader.specs.Forms.{then_also}
-use Rattle.te_reader.specs.Rules.{Context, rules, first_broken, after}
+use Rattle.te_reader.specs.Rules.{Context, rules, first_broken, context_after}
 use Rattle.te_reader.specs.Faults.{misfit}
 use Rattle.te_reader.specs.Runs.{found, pick, pick_plain, event_form, parts_form, part_form, is_bound, run}
-use Rattle.te_reader.specs.Finding.{form_of, is_last, is_end, IsPickedAs, LooksAt, EndsSpots, GoesBehind, first_head}
+use Rattle.te_reader.specs.Finding.{form_seen, is_last, is_end, IsPickedAs, LooksAt, EndsSpots, GoesBehind, first_head}
 
 bound_parts : (h : Head) → is_bound h ≡ true → parts_form h ≡ part_form h
 bound_parts (token (tokens.name n)) e = refl
@@ -82,15 +82,15 @@ plain_picked parts.Operand h d e = refl
 plain_picked parts.Test h d e = refl
 plain_picked (parts.Only r) h d e = refl
 
-pub last_form : (p : Part) (h : Head) (d : Bool) (o : Option declared.Form) (old new : List Part) → is_last p h ≡ true → option_map form_of o ≡ pick_plain parts.Event h d → new ≡ parts.Only roles.Close ∷ old → IsPickedAs o old new (pick p h d)
+pub last_form : (p : Part) (h : Head) (d : Bool) (o : Option declared.Form) (old new : List Part) → is_last p h ≡ true → option_map form_seen o ≡ pick_plain parts.Event h d → new ≡ parts.Only roles.Close ∷ old → IsPickedAs o old new (pick p h d)
 last_form p h d o old new e picked more = rw (last_picked p h d e, ← picked) (by o) where
-  by : (o : Option declared.Form) → IsPickedAs o old new (option_map (then_also (parts.Only roles.Close)) (option_map form_of o))
+  by : (o : Option declared.Form) → IsPickedAs o old new (option_map (then_also (parts.Only roles.Close)) (option_map form_seen o))
   by None = refl
   by (Some f) = (f.wanted.now ++ parts.Only roles.Close ∷ [], refl, append_assoc f.wanted.now (parts.Only roles.Close ∷ []) old ∙ ap (λ x. f.wanted.now ++ x) (sym more))
 
-pub plain_form : (p : Part) (h : Head) (d : Bool) (o : Option declared.Form) (old : List Part) → is_last p h ≡ false → option_map form_of o ≡ pick_plain p h d → IsPickedAs o old old (pick p h d)
+pub plain_form : (p : Part) (h : Head) (d : Bool) (o : Option declared.Form) (old : List Part) → is_last p h ≡ false → option_map form_seen o ≡ pick_plain p h d → IsPickedAs o old old (pick p h d)
 plain_form p h d o old e picked = rw (plain_picked p h d e, ← picked) (by o) where
-  by : (o : Option declared.Form) → IsPickedAs o old old (option_map form_of o)
+  by : (o : Option declared.Form) → IsPickedAs o old old (option_map form_seen o)
   by None = refl
   by (Some f) = (f.wanted.now, refl, refl)
 
@@ -117,14 +117,14 @@ no_more (q ∷ qs) x = refl
 
 -- one token on
 goes_to : (c : Context) (h : Head) (d : Bool) (left : ℕ) (p : Part) (f : declared.Form) (old more wanted : List Part) (ss : List Spot) → wanted ≡ p ∷ old → (look : LooksAt h d left ss) → IsPickedAs (Some f) old more (pick p h d)
-    → first_broken (rules f.role c h) ≡ None → run wanted c ss ≡ run (f.wanted.now ++ more) (after f.role c h) look.0
+    → first_broken (rules f.role c h) ≡ None → run wanted c ss ≡ run (f.wanted.now ++ more) (context_after f.role c h) look.0
 unfolding run
 goes_to c h d left p f old more wanted ss e look picked kept = rw (e, look.1, picked.1, kept, picked.2) refl
 
 pub ended_there : (c : Context) (h : Head) (d : Bool) (left : ℕ) (p : Part) (f : declared.Form) (old more wanted : List Part) (ss : List Spot) → wanted ≡ p ∷ old → LooksAt h d left ss → IsPickedAs (Some f) old more (pick p h d)
     → first_broken (rules f.role c h) ≡ None → is_end h ≡ true → run wanted c ss ≡ None
 ended_there c h d left p f old more wanted ss e look picked kept last =
-    goes_to c h d left p f old more wanted ss e look picked kept ∙ ap (run (f.wanted.now ++ more) (after f.role c h)) (none h last look.2) ∙ no_more (f.wanted.now ++ more) (after f.role c h) where
+    goes_to c h d left p f old more wanted ss e look picked kept ∙ ap (run (f.wanted.now ++ more) (context_after f.role c h)) (none h last look.2) ∙ no_more (f.wanted.now ++ more) (context_after f.role c h) where
       none : (h : Head) → is_end h ≡ true → EndsSpots h look.0 → look.0 ≡ []
       none (token t) e k = absurd cc
       none over e k = k
@@ -132,10 +132,10 @@ ended_there c h d left p f old more wanted ss e look picked kept last =
 
 -- what is wanted, what stands before, and what stands behind are those of the step
 pub went_on : (c : Context) (h : Head) (d : Bool) (left : ℕ) (p : Part) (f : declared.Form) (old more wanted new : List Part) (ss next : List Spot) (next_c : Context) → wanted ≡ p ∷ old → LooksAt h d left ss → IsPickedAs (Some f) old more (pick p h d)
-    → first_broken (rules f.role c h) ≡ None → is_end h ≡ false → next_c ≡ after f.role c h → new ≡ f.wanted.now ++ more → GoesBehind (first_head ss) ss next → run wanted c ss ≡ run new next_c next
+    → first_broken (rules f.role c h) ≡ None → is_end h ≡ false → next_c ≡ context_after f.role c h → new ≡ f.wanted.now ++ more → GoesBehind (first_head ss) ss next → run wanted c ss ≡ run new next_c next
 went_on c h d left p f old more wanted new ss next next_c e look picked kept open_yet is_c is_w behind =
     goes_to c h d left p f old more wanted ss e look picked kept
-    ∙ ap (λ x. run x (after f.role c h) look.0) (sym is_w) ∙ ap (λ x. run new x look.0) (sym is_c)
+    ∙ ap (λ x. run x (context_after f.role c h) look.0) (sym is_w) ∙ ap (λ x. run new x look.0) (sym is_c)
     ∙ ap (run new next_c) (rest_is h open_yet (subst (λ (x : Head). GoesBehind x ss next) (ap first_head look.1) behind)) where
       rest_is : (h : Head) → is_end h ≡ false → GoesBehind h ss next → look.0 ≡ next
       rest_is (token t) e g = same (sym look.1 ∙ g.1) where

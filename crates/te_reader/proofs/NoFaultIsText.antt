@@ -13,7 +13,7 @@ use Rattle.te_reader.specs.Lexed.{Piece, gap, found, other, piece_at, place_afte
 use Rattle.te_reader.specs.Text.{Text}
 use Rattle.te_reader.specs.Spots.{Spot, strange, is_dot, begins_with_dot, spot_before, spots_behind, spots}
 use Rattle.te_reader.specs.Forms.{Form}
-use Rattle.te_reader.specs.Rules.{Context, nothing_before, rules, first_broken, after}
+use Rattle.te_reader.specs.Rules.{Context, nothing_before, rules, first_broken, context_after}
 use Rattle.te_reader.specs.Runs.{Found, pick, pick_plain, fits, next_found, broken_or, run, found_if, fault_of}
 use Rattle.te_reader.proofs.SpelledIsLexed.{spelled_is_lexed}
 use Rattle.te_reader.proofs.LexedIsSpelled.{lexed_is_spelled}
@@ -50,8 +50,8 @@ alike_passes [] (t ∷ ts) wanted c a h = absurd a
 alike_passes (s ∷ ss) [] wanted c a h = absurd a
 alike_passes (s ∷ ss) (t ∷ ts) [] c a h = absurd cc
 alike_passes (s ∷ ss) (t ∷ ts) (p ∷ more) c a h = rw (← a.0, ← a.1) (by (λ w d k. alike_passes ss ts w d a.2 k) (pick p s.head s.dotted) h) where
-  broken : ((w : List Part) (d : Context) → run w d ss ≡ None → run w d ts ≡ None) → (f : Form) (o : Option Cause) → broken_or (run (f.wanted ++ more) (after f.role c s.head) ss) s.left o ≡ None → broken_or (run (f.wanted ++ more) (after f.role c s.head) ts) t.left o ≡ None
-  broken later f None e = later (f.wanted ++ more) (after f.role c s.head) e
+  broken : ((w : List Part) (d : Context) → run w d ss ≡ None → run w d ts ≡ None) → (f : Form) (o : Option Cause) → broken_or (run (f.wanted ++ more) (context_after f.role c s.head) ss) s.left o ≡ None → broken_or (run (f.wanted ++ more) (context_after f.role c s.head) ts) t.left o ≡ None
+  broken later f None e = later (f.wanted ++ more) (context_after f.role c s.head) e
   broken later f (Some k) e = absurd cc
 
   by : ((w : List Part) (d : Context) → run w d ss ≡ None → run w d ts ≡ None) → (o : Option Form) → next_found (λ w d. run w d ss) more c s o ≡ None → next_found (λ w d. run w d ts) more c (record t { head = s.head; dotted = s.dotted }) o ≡ None
@@ -140,7 +140,7 @@ goes_one [] c s ss h = absurd cc
 goes_one (p ∷ more) c s ss h = by (pick p s.head s.dotted) h where
   by : (o : Option Form) → next_found (λ w d. run w d ss) more c s o ≡ None → (w : List Part) × (d : Context) × (run w d ss ≡ None)
   by None e = absurd cc
-  by (Some f) e = let u = unbroken (run (f.wanted ++ more) (after f.role c s.head) ss) s.left (first_broken (rules f.role c s.head)) e in (f.wanted ++ more, after f.role c s.head, u.1)
+  by (Some f) e = let u = unbroken (run (f.wanted ++ more) (context_after f.role c s.head) ss) s.left (first_broken (rules f.role c s.head)) e in (f.wanted ++ more, context_after f.role c s.head, u.1)
 
 never_passed : (place : Between) (k : ℕ) (text : List ℕ) (wanted : List Part) (c : Context) → (lexed_behind place k text).whole ≡ false → run wanted c (spots_behind place k text) ≡ None → ⊥
 unfolding lexed_behind spots_behind

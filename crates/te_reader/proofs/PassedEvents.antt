@@ -8,7 +8,7 @@ use Rattle.te_terms.specs.declared.expr.Test.{Test}
 use Rattle.te_terms.specs.declared.expr.Test.TheVariants as tests
 use Rattle.te_terms.specs.Terms.{Term, always, never, fresh, throw, send, recv, and_then, choose, catch, when}
 use Rattle.te_terms.specs.Measures.{height, fresh_count}
-use Rattle.te_script.specs.Scripts.{one_more, IsEvent}
+use Rattle.te_script.specs.Scripts.{one_deeper, IsEvent}
 use Rattle.te_reader.specs.declared.brace.Brace.{Brace}
 use Rattle.te_reader.specs.declared.token.Word.TheVariants as words
 use Rattle.te_reader.specs.declared.token.Sign.TheVariants as signs
@@ -19,11 +19,11 @@ use Rattle.te_reader.specs.declared.part.Part.{Part}
 use Rattle.te_reader.specs.declared.part.Part.TheVariants as parts
 use Rattle.te_reader.specs.Tokens as tokens
 use Rattle.te_reader.specs.Tokens.{Token, word, sign}
-use Rattle.te_reader.specs.Grammar.{Names, Standing, with_inner, is, ◌⨟◌, IsNew, IsFree, bound, alone, in_do, in_choose, in_braces, test_sign, spells_event}
+use Rattle.te_reader.specs.Grammar.{Names, EventPlace, with_inner, is, ◌⨟◌, IsNew, IsFreeName, bound_name, alone, in_do, in_choose, in_braces, test_sign, spells_event}
 use Rattle.te_reader.specs.Forms.{bound_event}
 use Rattle.te_reader.specs.Rules.{Context, is_among, may_not_be_bound, too_long, check, first_broken, reaching, behind_bar, behind_name, depth_within}
 use Rattle.te_reader.specs.Runs.{pick, pick_plain, run}
-use Rattle.te_reader.specs.Tallies.{Tally, one_node, one_channel, with_event}
+use Rattle.te_reader.specs.Tallies.{Tally, one_node, one_channel, tally_with_event}
 use Rattle.te_reader.proofs.TallyLemmas.{tally_same}
 use Rattle.te_reader.proofs.Passing.{spots_of, dotted, names_in, at, at_same, reaching_same}
 use Rattle.te_reader.proofs.EventPasses.{reached, cut, height_some, deeper, settled_deeper, both_deeper, fresh_bar, opened_at, with_inners, take_all, take_front, PartAndMore, EventAndMore, ClosedEvent, parts_as_event}
@@ -42,7 +42,7 @@ new_name (x ∷ xs) n e =
     let o = or_false (bytes_eq x n) (is_among n xs) e in
     (λ same. absurd (let yes : bytes_eq x n ≡ true = (bytes_eq-Decides x n).1 same in let no : bytes_eq x n ≡ false = o.0 in let both : true ≡ false = sym yes ∙ no in cc), new_name xs n o.1)
 
-free_name : (c : Context) (x : List ℕ) → first_broken (check (may_not_be_bound c x) causes.Shadow ∷ too_long x ∷ []) ≡ None → IsFree (names_in c) x
+free_name : (c : Context) (x : List ℕ) → first_broken (check (may_not_be_bound c x) causes.Shadow ∷ too_long x ∷ []) ≡ None → IsFreeName (names_in c) x
 free_name c x e =
     let k = kept_first (may_not_be_bound c x) causes.Shadow (too_long x ∷ []) e in
     let l = kept_first (nat_lt 32 (length x)) (causes.Limit limits.Name) [] k.1 in
@@ -52,7 +52,7 @@ free_name c x e =
 
 -- ---- the promises
 
-pub record EventPassed (stands : Standing) (more : List Part) (n : Tally) (behind : Term → Context) (c : Context) (ts : List Token) : Type 0 where
+pub record EventPassed (stands : EventPlace) (more : List Part) (n : Tally) (behind : Term → Context) (c : Context) (ts : List Token) : Type 0 where
   pub value : Term
   pub few : n.fresh ≤ 16 → n.fresh + fresh_count value ≤ 16
   pub rest : List Token
@@ -62,10 +62,10 @@ pub record EventPassed (stands : Standing) (more : List Part) (n : Tally) (behin
   pub shorter : length rest < length ts
 
 abbrev pub behind_alone : Context → Brace → List Brace → Tally → Term → Context
-behind_alone c b bs n t = at c (reached b t) bs (with_event n t)
+behind_alone c b bs n t = at c (reached b t) bs (tally_with_event n t)
 
 abbrev behind_closed : Context → Brace → Brace → List Brace → Tally → Term → Context
-behind_closed c b b0 bs n t = at (cut b c) (reaching (depth_within (reached b t)) b0) bs (with_event n t)
+behind_closed c b b0 bs n t = at (cut b c) (reaching (depth_within (reached b t)) b0) bs (tally_with_event n t)
 
 abbrev AloneWithin : ℕ → Type 0
 AloneWithin k =
@@ -115,7 +115,7 @@ closed_is_in_choose (catch e n f) s ts rest h = h
 closed_is_in_choose (when o p q e f) s ts rest h = h
 
 -- the names in scope behind one that is bound
-scope_more : (c : Context) (x : List ℕ) (t : Term) → IsEvent (scope_in (with_inners c (c.inners ++ x ∷ []))) t → IsEvent (one_more (scope_in c)) t
+scope_more : (c : Context) (x : List ℕ) (t : Term) → IsEvent (scope_in (with_inners c (c.inners ++ x ∷ []))) t → IsEvent (one_deeper (scope_in c)) t
 scope_more c x t h =
     let long : length (c.inners ++ x ∷ []) ≡ suc (length c.inners) = omega (arith, length-append c.inners (x ∷ [])) in
     subst (λ (l : ℕ). IsEvent (record (scope_in c) { level = l }) t) long h
@@ -128,7 +128,7 @@ record BracedPassed (more : List Part) (c : Context) (b : Brace) (bs : List Brac
   rest : List Token
   spelled : in_braces (spells_event true alone (names_in c) value) ts rest
   scoped : IsEvent (scope_in c) value
-  later : Passed more (at c (reaching (suc b.level + height value - 1) b) bs (with_event n value)) rest
+  later : Passed more (at c (reaching (suc b.level + height value - 1) b) bs (tally_with_event n value)) rest
   shorter : length rest < length ts
 
 braced_passed : (k : ℕ) → AloneWithin k → (c : Context) (b : Brace) (bs : List Brace) (n : Tally) (more : List Part) (ts : List Token) → length ts ≤ suc k → c.calculations ≡ 0
@@ -137,14 +137,14 @@ braced_passed k a c b bs n more ts short none h =
     let i = opened_at (suc b.level) c in
     let first = took_sign signs.OpenBrace roles.OpenBranch (parts.Event ∷ parts.Only roles.Close ∷ more) (at c b bs n) ts (λ h d. refl) h in
     let e = a c i (b ∷ bs) n (parts.Only roles.Close ∷ more) first.rest (omega (arith, short, ap length first.is)) none first.later in
-    let last = took_sign signs.CloseBrace roles.Close more (at c (reached i e.value) (b ∷ bs) (with_event n e.value)) e.rest (λ h d. refl) e.later in
+    let last = took_sign signs.CloseBrace roles.Close more (at c (reached i e.value) (b ∷ bs) (tally_with_event n e.value)) e.rest (λ h d. refl) e.later in
     record {
       value = e.value;
       few = e.few;
       rest = last.rest;
       spelled = (first.rest, first.is, (e.rest, e.spelled, last.is));
       scoped = e.scoped;
-      later = sym (ap (λ x. run more (at (with_inners c x) (reaching (depth_within (reached i e.value)) b) bs (with_event n e.value)) (spots_of last.rest)) (take_all c.inners)
+      later = sym (ap (λ x. run more (at (with_inners c x) (reaching (depth_within (reached i e.value)) b) bs (tally_with_event n e.value)) (spots_of last.rest)) (take_all c.inners)
           ∙ ap (λ x. run more x (spots_of last.rest)) (at_same c _ _ bs _ _ (reaching_same b _ _ (omega arith)) refl)) ∙ last.later;
       shorter = omega (arith, ap length first.is, e.shorter, ap length last.is);
     }
@@ -158,11 +158,11 @@ record PartPassed (more : List Part) (c : Context) (b b0 : Brace) (bs : List Bra
   rest : List Token
   spelled : PartAndMore (names_in c) first second ts rest
   scoped_first : IsEvent (scope_in c) first
-  scoped_second : IsEvent (one_more (scope_in c)) second
+  scoped_second : IsEvent (one_deeper (scope_in c)) second
   later : Passed more (behind_closed c b b0 bs n (and_then first (length c.inners) second)) rest
   shorter : length rest < length ts
 
-part_passed : (k : ℕ) → Within k → (x : List ℕ) (c : Context) (b b0 : Brace) (bs : List Brace) (n : Tally) (more : List Part) (ts m : List Token) → length m ≤ k → length m < length ts → c.calculations ≡ 0 → b.outer ≤ length c.inners → bound x ts m
+part_passed : (k : ℕ) → Within k → (x : List ℕ) (c : Context) (b b0 : Brace) (bs : List Brace) (n : Tally) (more : List Part) (ts m : List Token) → length m ≤ k → length m < length ts → c.calculations ≡ 0 → b.outer ≤ length c.inners → bound_name x ts m
     → first_broken (check (may_not_be_bound c x) causes.Shadow ∷ too_long x ∷ []) ≡ None → Passed (bound_event (parts.Parts ∷ more)) (at (record c { bound = x ∷ c.bound }) (behind_name b) (b0 ∷ bs) (one_node n)) m → PartPassed more c b b0 bs n ts
 part_passed k w x c b b0 bs n more ts m short less none room named kept h =
     let inside = record c { bound = x ∷ c.bound } in
@@ -171,8 +171,8 @@ part_passed k w x c b b0 bs n more ts m short less none room named kept h =
     let arrow = took_sign signs.Arrow (roles.Sign signs.Arrow) (parts.Event ∷ parts.Only roles.PartEnd ∷ parts.Parts ∷ more) (at inside b1 (b0 ∷ bs) (one_node n)) m (λ h d. refl) h in
     let e = w.by_itself inside b1 (b0 ∷ bs) (one_node n) (parts.Only roles.PartEnd ∷ parts.Parts ∷ more) arrow.rest (omega (arith, short, ap length arrow.is)) none arrow.later in
     let b2 = reached b1 e.value in
-    let last = took_sign signs.Semicolon roles.PartEnd (parts.Parts ∷ more) (at inside b2 (b0 ∷ bs) (with_event (one_node n) e.value)) e.rest (λ h d. refl) e.later in
-    let f = w.after_part outside b2 b0 bs (with_event (one_node n) e.value) more last.rest (omega (arith, short, ap length arrow.is, e.shorter, ap length last.is)) none (omega (arith, room, length-append c.inners (x ∷ []))) last.later in
+    let last = took_sign signs.Semicolon roles.PartEnd (parts.Parts ∷ more) (at inside b2 (b0 ∷ bs) (tally_with_event (one_node n) e.value)) e.rest (λ h d. refl) e.later in
+    let f = w.after_part outside b2 b0 bs (tally_with_event (one_node n) e.value) more last.rest (omega (arith, short, ap length arrow.is, e.shorter, ap length last.is)) none (omega (arith, room, length-append c.inners (x ∷ []))) last.later in
     record {
       first = e.value;
       second = f.value;
@@ -181,7 +181,7 @@ part_passed k w x c b b0 bs n more ts m short less none room named kept h =
       spelled = (x, (free_name c x kept, (m, named, (arrow.rest, arrow.is, (e.rest, e.spelled, (last.rest, last.is, f.spelled))))));
       scoped_first = e.scoped;
       scoped_second = scope_more c x f.value f.scoped;
-      later = sym (ap (λ y. run more (at (with_inners c y) (reaching (depth_within (reached b2 f.value)) b0) bs (with_event (with_event (one_node n) e.value) f.value)) (spots_of f.rest)) (take_front b.outer c.inners (x ∷ []) room)
+      later = sym (ap (λ y. run more (at (with_inners c y) (reaching (depth_within (reached b2 f.value)) b0) bs (tally_with_event (tally_with_event (one_node n) e.value) f.value)) (spots_of f.rest)) (take_front b.outer c.inners (x ∷ []) room)
           ∙ ap (λ y. run more y (spots_of f.rest))
           (at_same (cut b c) _ _ bs _ _ (reaching_same b0 _ _ (ap (λ k. max b0.deepest (max b.settled k)) (deeper b.deepest b.level (height e.value) (height f.value) (height_some e.value) (height_some f.value)))) (tally_same _ _ (omega arith) (omega arith)))) ∙ f.later;
       shorter = omega (arith, less, ap length arrow.is, e.shorter, ap length last.is, f.shorter);
@@ -215,10 +215,10 @@ record ChoicePassed (more : List Part) (c : Context) (b b0 : Brace) (bs : List B
 
 choice_passed : (k : ℕ) → Within k → (c : Context) (b b0 : Brace) (bs : List Brace) (n : Tally) (more tail : List Part) (ts m : List Token) → length m ≤ k → c.calculations ≡ 0 → b.outer ≤ length c.inners
     → (e : EventPassed alone tail n (behind_alone c (fresh_bar b) (b0 ∷ bs) n) c ts) → e.rest ≡ sign signs.Bar ∷ m
-    → Passed (parts.Event ∷ parts.Bars ∷ more) (at c (behind_bar (reached (fresh_bar b) e.value)) (b0 ∷ bs) (one_node (with_event n e.value))) m → ChoicePassed more c b b0 bs n ts
+    → Passed (parts.Event ∷ parts.Bars ∷ more) (at c (behind_bar (reached (fresh_bar b) e.value)) (b0 ∷ bs) (one_node (tally_with_event n e.value))) m → ChoicePassed more c b b0 bs n ts
 choice_passed k w c b b0 bs n more tail ts m short none room e is h =
     let b2 = behind_bar (reached (fresh_bar b) e.value) in
-    let f = w.after_bar c b2 b0 bs (one_node (with_event n e.value)) more m short none room h in
+    let f = w.after_bar c b2 b0 bs (one_node (tally_with_event n e.value)) more m short none room h in
     record {
       first = e.value;
       second = f.value;
@@ -239,20 +239,20 @@ record CatchPassed (more : List Part) (c : Context) (b : Brace) (bs : List Brace
   value : Term
   few : n.fresh ≤ 16 → n.fresh + fresh_count value ≤ 16
   rest : List Token
-  free : IsFree (names_in c) name
-  spelled : (bound name ⨟ in_braces (spells_event true alone (with_inner (names_in c) name) value)) ts rest
-  scoped : IsEvent (one_more (scope_in c)) value
-  later : Passed more (at c (reaching (suc b.level + height value - 1) b) bs (with_event n value)) rest
+  free : IsFreeName (names_in c) name
+  spelled : (bound_name name ⨟ in_braces (spells_event true alone (with_inner (names_in c) name) value)) ts rest
+  scoped : IsEvent (one_deeper (scope_in c)) value
+  later : Passed more (at c (reaching (suc b.level + height value - 1) b) bs (tally_with_event n value)) rest
   shorter : length rest < length ts
 
-caught : (k : ℕ) → AloneWithin k → (x : List ℕ) (c : Context) (b : Brace) (bs : List Brace) (n : Tally) (more : List Part) (ts m : List Token) → length m ≤ k → length m < length ts → c.calculations ≡ 0 → bound x ts m → IsFree (names_in c) x
+caught : (k : ℕ) → AloneWithin k → (x : List ℕ) (c : Context) (b : Brace) (bs : List Brace) (n : Tally) (more : List Part) (ts m : List Token) → length m ≤ k → length m < length ts → c.calculations ≡ 0 → bound_name x ts m → IsFreeName (names_in c) x
     → Passed (parts.Only (roles.Sign signs.OpenBrace) ∷ parts.Event ∷ parts.Only roles.Close ∷ more) (at (with_inners c (c.inners ++ x ∷ [])) (opened_at (suc b.level) c) (b ∷ bs) n) m → CatchPassed more c b bs n ts
 caught k a x c b bs n more ts m short less none named free h =
     let i = opened_at (suc b.level) c in
     let inside = with_inners c (c.inners ++ x ∷ []) in
     let first = took_sign signs.OpenBrace (roles.Sign signs.OpenBrace) (parts.Event ∷ parts.Only roles.Close ∷ more) (at inside i (b ∷ bs) n) m (λ h d. refl) h in
     let e = a inside i (b ∷ bs) n (parts.Only roles.Close ∷ more) first.rest (omega (arith, short, ap length first.is)) none first.later in
-    let last = took_sign signs.CloseBrace roles.Close more (at inside (reached i e.value) (b ∷ bs) (with_event n e.value)) e.rest (λ h d. refl) e.later in
+    let last = took_sign signs.CloseBrace roles.Close more (at inside (reached i e.value) (b ∷ bs) (tally_with_event n e.value)) e.rest (λ h d. refl) e.later in
     record {
       name = x;
       value = e.value;
@@ -261,7 +261,7 @@ caught k a x c b bs n more ts m short less none named free h =
       free = free;
       spelled = (m, named, (first.rest, first.is, (e.rest, e.spelled, last.is)));
       scoped = scope_more c x e.value e.scoped;
-      later = sym (ap (λ y. run more (at (with_inners c y) (reaching (depth_within (reached i e.value)) b) bs (with_event n e.value)) (spots_of last.rest)) (take_front (length c.inners) c.inners (x ∷ []) (omega arith) ∙ take_all c.inners)
+      later = sym (ap (λ y. run more (at (with_inners c y) (reaching (depth_within (reached i e.value)) b) bs (tally_with_event n e.value)) (spots_of last.rest)) (take_front (length c.inners) c.inners (x ∷ []) (omega arith) ∙ take_all c.inners)
           ∙ ap (λ y. run more y (spots_of last.rest)) (at_same c _ _ bs _ _ (reaching_same b _ _ (omega arith)) refl)) ∙ last.later;
       shorter = omega (arith, less, ap length first.is, e.shorter, ap length last.is);
     }
@@ -346,7 +346,7 @@ alone_step k w c b bs n more (word words.Do ∷ ts) short none h =
       rest = p.rest;
       spelled = (ts, refl, (first.rest, first.is, p.spelled));
       scoped = (refl, p.scoped_first, p.scoped_second);
-      later = sym (ap (λ y. run more (at (with_inners c y) (reaching (depth_within (reached i t)) b) bs (with_event n t)) (spots_of p.rest)) (take_all c.inners)
+      later = sym (ap (λ y. run more (at (with_inners c y) (reaching (depth_within (reached i t)) b) bs (tally_with_event n t)) (spots_of p.rest)) (take_all c.inners)
           ∙ ap (λ y. run more y (spots_of p.rest)) (at_same c _ _ bs _ _ (reaching_same b _ _ (omega arith)) refl)) ∙ p.later;
       shorter = omega (arith, ap length first.is, p.shorter);
     }
@@ -355,7 +355,7 @@ alone_step k w c b bs n more (word words.Choose ∷ ts) short none h =
     let u = went (roles.Chain words.Choose) (parts.Only roles.OpenChain ∷ parts.Event ∷ parts.Only roles.Bar ∷ parts.Event ∷ parts.Bars ∷ []) more (at c b bs n) (word words.Choose) ts (dotted ts) h in
     let first = took_sign signs.OpenBrace roles.OpenChain (parts.Event ∷ parts.Only roles.Bar ∷ parts.Event ∷ parts.Bars ∷ more) (at c b bs n) ts (λ h d. refl) u.1 in
     let e = w.by_itself c i (b ∷ bs) n (parts.Only roles.Bar ∷ parts.Event ∷ parts.Bars ∷ more) first.rest (omega (arith, short, ap length first.is)) none first.later in
-    let bar = took_sign signs.Bar roles.Bar (parts.Event ∷ parts.Bars ∷ more) (at c (reached i e.value) (b ∷ bs) (with_event n e.value)) e.rest (λ h d. refl) e.later in
+    let bar = took_sign signs.Bar roles.Bar (parts.Event ∷ parts.Bars ∷ more) (at c (reached i e.value) (b ∷ bs) (tally_with_event n e.value)) e.rest (λ h d. refl) e.later in
     let p = choice_passed k w c i b bs n more (parts.Only roles.Bar ∷ parts.Event ∷ parts.Bars ∷ more) first.rest bar.rest (omega (arith, short, ap length first.is, e.shorter, ap length bar.is)) none (omega arith) e bar.is bar.later in
     let t = choose p.first p.second in
     record {
@@ -364,7 +364,7 @@ alone_step k w c b bs n more (word words.Choose ∷ ts) short none h =
       rest = p.rest;
       spelled = (ts, refl, (first.rest, first.is, p.spelled));
       scoped = (p.scoped_first, p.scoped_second);
-      later = sym (ap (λ y. run more (at (with_inners c y) (reaching (depth_within (reached i t)) b) bs (with_event n t)) (spots_of p.rest)) (take_all c.inners)
+      later = sym (ap (λ y. run more (at (with_inners c y) (reaching (depth_within (reached i t)) b) bs (tally_with_event n t)) (spots_of p.rest)) (take_all c.inners)
           ∙ ap (λ y. run more y (spots_of p.rest)) (at_same c _ _ bs _ _ (reaching_same b _ _ (omega arith)) refl)) ∙ p.later;
       shorter = omega (arith, ap length first.is, p.shorter);
     }
@@ -375,8 +375,8 @@ alone_step k w c b bs n more (word words.Try ∷ ts) short none h =
     ∷ parts.Only roles.CatchName ∷ parts.Only (roles.Sign signs.OpenBrace) ∷ parts.Event ∷ parts.Only roles.Close ∷ []) more (at c b bs n) (word words.Try) ts (dotted ts) h in
     let e = braced_passed k w.by_itself c b bs (one_node n) (parts.Only (roles.Word words.Catch) ∷ handler) ts (omega (arith, short)) none u.1 in
     let b1 = reaching (suc b.level + height e.value - 1) b in
-    let m = took_word words.Catch (roles.Word words.Catch) handler (at c b1 bs (with_event (one_node n) e.value)) e.rest (λ h d. refl) e.later in
-    let f = catch_passed k w.by_itself c b1 bs (with_event (one_node n) e.value) more m.rest (omega (arith, short, e.shorter, ap length m.is)) none m.later in
+    let m = took_word words.Catch (roles.Word words.Catch) handler (at c b1 bs (tally_with_event (one_node n) e.value)) e.rest (λ h d. refl) e.later in
+    let f = catch_passed k w.by_itself c b1 bs (tally_with_event (one_node n) e.value) more m.rest (omega (arith, short, e.shorter, ap length m.is)) none m.later in
     record {
       value = catch e.value (length c.inners) f.value;
       few = λ h. omega (arith, f.few (e.few h));
@@ -400,8 +400,8 @@ alone_step k w c b bs n more (word words.If ∷ ts) short none h =
     let long = ap length o.2 in
     let e = braced_passed k w.by_itself c b bs (one_node n) (parts.Only (roles.Word words.Else) ∷ second) q.rest (omega (arith, short, p.shorter, long, q.shorter)) none q.later in
     let b1 = reaching (suc b.level + height e.value - 1) b in
-    let m = took_word words.Else (roles.Word words.Else) second (at c b1 bs (with_event (one_node n) e.value)) e.rest (λ h d. refl) e.later in
-    let f = braced_passed k w.by_itself c b1 bs (with_event (one_node n) e.value) more m.rest (omega (arith, short, p.shorter, long, q.shorter, e.shorter, ap length m.is)) none m.later in
+    let m = took_word words.Else (roles.Word words.Else) second (at c b1 bs (tally_with_event (one_node n) e.value)) e.rest (λ h d. refl) e.later in
+    let f = braced_passed k w.by_itself c b1 bs (tally_with_event (one_node n) e.value) more m.rest (omega (arith, short, p.shorter, long, q.shorter, e.shorter, ap length m.is)) none m.later in
     record {
       value = when o.0 p.value q.value e.value f.value;
       few = λ h. omega (arith, f.few (e.few h));
@@ -429,7 +429,7 @@ in_do_step k w a c b b0 bs n more (tokens.inner x ∷ ts) short none room h =
     record { value = and_then p.first (length c.inners) p.second; few = λ h. omega (arith, p.few h); rest = p.rest; spelled = inr p.spelled; scoped = (refl, p.scoped_first, p.scoped_second); later = p.later; shorter = p.shorter }
 in_do_step k w a c b b0 bs n more (word v ∷ ts) short none room h =
     let e = a c b (b0 ∷ bs) n (parts.Only roles.Close ∷ more) (word v ∷ ts) short none (sym (parts_as_event (at c b (b0 ∷ bs) n) more v (word v ∷ ts) ts refl) ∙ h) in
-    let last = took_sign signs.CloseBrace roles.Close more (at c (reached b e.value) (b0 ∷ bs) (with_event n e.value)) e.rest (λ h d. refl) e.later in
+    let last = took_sign signs.CloseBrace roles.Close more (at c (reached b e.value) (b0 ∷ bs) (tally_with_event n e.value)) e.rest (λ h d. refl) e.later in
     record {
       value = e.value;
       few = e.few;

@@ -24,7 +24,7 @@ use Rattle.te_reader.specs.Integers.{integer_value}
 use Rattle.te_reader.specs.Grammar.{arith_sign, spells_variable, spells_primitive, spells_calculation, spells_further, spells_inside, spells_expression}
 use Rattle.te_reader.specs.Spots.{Head, token, over}
 use Rattle.te_reader.specs.Forms.{form, place_of_it}
-use Rattle.te_reader.specs.Rules.{Context, Check, check, is_among, is_variable, rules, first_broken, after, begun, fifth}
+use Rattle.te_reader.specs.Rules.{Context, Check, check, is_among, is_variable, rules, first_broken, context_after, begun, fifth}
 use Rattle.te_reader.specs.Runs.{Found, pick, pick_plain, alone_form, operand_form, fits, is_word, is_sign, next_found, broken_or, run}
 use Rattle.te_reader.proofs.PickedForms.{word_fits, sign_fits, place_fits}
 use Rattle.te_reader.proofs.NameSetLemmas.{among_is, at_below}
@@ -46,8 +46,8 @@ kept_first false k ks e = (refl, e)
 
 -- a token that has a form, and breaks no rule
 pub went : (r : Role) (wanted more : List Part) (c : Context) (t : Token) (ts : List Token) (d : Bool) → next_found (λ w x. run w x (spots_of ts)) more c (record { head = token t; dotted = d; left = 0 }) (Some (form r wanted)) ≡ None
-    → (first_broken (rules r c (token t)) ≡ None) × Passed (wanted ++ more) (after r c (token t)) ts
-went r wanted more c t ts d h = unbroken (run (wanted ++ more) (after r c (token t)) (spots_of ts)) 0 (first_broken (rules r c (token t))) h
+    → (first_broken (rules r c (token t)) ≡ None) × Passed (wanted ++ more) (context_after r c (token t)) ts
+went r wanted more c t ts d h = unbroken (run (wanted ++ more) (context_after r c (token t)) (spots_of ts)) 0 (first_broken (rules r c (token t))) h
 
 -- an operand's rules
 operand_kept : (b : Bool) (k : Cause) (first : Bool) (c : Context) → first_broken (check b k ∷ fifth first c ∷ []) ≡ None → (b ≡ false) × ((first && nat_le 4 c.calculations) ≡ false)
@@ -67,7 +67,7 @@ pub record TookAlone (r : Role) (more : List Part) (c : Context) (ts : List Toke
   pub is : ts ≡ first ∷ rest
   pub fit : fits r (token first) (dotted rest) ≡ true
   pub kept : first_broken (rules r c (token first)) ≡ None
-  pub later : Passed more (after r c (token first)) rest
+  pub later : Passed more (context_after r c (token first)) rest
 
 pub took_alone : (r : Role) (more : List Part) (c : Context) (ts : List Token) → fits r over false ≡ false → Passed (parts.Only r ∷ more) c ts → TookAlone r more c ts
 unfolding run pick pick_plain
@@ -85,7 +85,7 @@ pub record TookSign (g : Sign) (r : Role) (more : List Part) (c : Context) (ts :
   pub rest : List Token
   pub is : ts ≡ sign g ∷ rest
   pub kept : first_broken (rules r c (token (sign g))) ≡ None
-  pub later : Passed more (after r c (token (sign g))) rest
+  pub later : Passed more (context_after r c (token (sign g))) rest
 
 pub one_token : (t u : Token) → token t ≡ token u → t ≡ u
 one_token t u e = cc
@@ -98,7 +98,7 @@ took_sign g r more c ts wants h =
       rest = t.rest;
       is = t.is ∙ ap (λ x. x ∷ t.rest) same;
       kept = subst (λ (x : Token). first_broken (rules r c (token x)) ≡ None) same t.kept;
-      later = subst (λ (x : Token). Passed more (after r c (token x)) t.rest) same t.later;
+      later = subst (λ (x : Token). Passed more (context_after r c (token x)) t.rest) same t.later;
     }
 
 -- a word, in a role that wants it
@@ -106,7 +106,7 @@ pub record TookWord (w : Word) (r : Role) (more : List Part) (c : Context) (ts :
   pub rest : List Token
   pub is : ts ≡ word w ∷ rest
   pub kept : first_broken (rules r c (token (word w))) ≡ None
-  pub later : Passed more (after r c (token (word w))) rest
+  pub later : Passed more (context_after r c (token (word w))) rest
 
 pub took_word : (w : Word) (r : Role) (more : List Part) (c : Context) (ts : List Token) → ((h : Head) (d : Bool) → fits r h d ≡ is_word w h) → Passed (parts.Only r ∷ more) c ts → TookWord w r more c ts
 took_word w r more c ts wants h =
@@ -116,7 +116,7 @@ took_word w r more c ts wants h =
       rest = t.rest;
       is = t.is ∙ ap (λ x. x ∷ t.rest) same;
       kept = subst (λ (x : Token). first_broken (rules r c (token x)) ≡ None) same t.kept;
-      later = subst (λ (x : Token). Passed more (after r c (token x)) t.rest) same t.later;
+      later = subst (λ (x : Token). Passed more (context_after r c (token x)) t.rest) same t.later;
     }
 
 -- ---- names

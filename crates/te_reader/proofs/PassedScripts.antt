@@ -17,14 +17,14 @@ use Rattle.te_reader.specs.declared.part.Part.{Part}
 use Rattle.te_reader.specs.declared.part.Part.TheVariants as parts
 use Rattle.te_reader.specs.Tokens as tokens
 use Rattle.te_reader.specs.Tokens.{Token, word, sign}
-use Rattle.te_reader.specs.Grammar.{Span, is, ◌⨟◌, IsAt, IsNew, IsShort, alone, spells_expression, spells_event, spells_sync, behind_sync, spells_statements, spells_threads, spells_names, spells_channels, spells_program}
+use Rattle.te_reader.specs.Grammar.{Span, is, ◌⨟◌, IsAt, IsNew, IsShortName, alone, spells_expression, spells_event, spells_sync, behind_sync, spells_statements, spells_threads, spells_names, spells_channels, spells_program}
 use Rattle.te_reader.specs.Integers.{integer_value}
 use Rattle.te_terms.specs.Values.{fits_i64}
 use Rattle.te_reader.specs.Forms.{sync_behind}
 use Rattle.te_reader.specs.Spots.{token, over}
 use Rattle.te_reader.specs.Rules as rules
 use Rattle.te_reader.specs.Rules.{Context, nothing_before, is_count, is_among, whole_event, first_broken, check, too_long, too_many_statements}
-use Rattle.te_reader.specs.Tallies.{no_node, with_event}
+use Rattle.te_reader.specs.Tallies.{no_node, tally_with_event}
 use Rattle.te_reader.specs.Runs.{pick, pick_plain, run}
 use Rattle.te_reader.proofs.ListsKept.{distinct_push, at_more, at_last, taken, Grows, stays, goes_on, grows_one}
 use Rattle.te_reader.proofs.NameSetLemmas.{among_is, at_below}
@@ -64,7 +64,7 @@ in_scope channels registers all g = rw g.appended (taken registers g.added)
 -- what a register's rules say
 record RegisterKept (channels registers : List (List ℕ)) (st : ℕ) (n : List ℕ) : Type 0 where
   no_channel : IsNew n channels
-  short : IsShort n
+  short : IsShortName n
   room : st < 1024
   few : (not (is_among n registers) && nat_le 8 (length registers)) ≡ false
 
@@ -82,7 +82,7 @@ register_kept channels threads registers st j n e =
 record RegisterIs (channels registers : List (List ℕ)) (n : List ℕ) : Type 0 where
   number : ℕ
   more : List (List ℕ)
-  is : rules.with_register registers n ≡ more
+  is : rules.with_named_register registers n ≡ more
   grows : Grows channels registers more
   at : IsAt more number n
   known : number ≤ length registers
@@ -170,11 +170,11 @@ sync_passed channels threads registers st j n tail ts kept h =
     let arrow = took_sign signs.Arrow (roles.Sign signs.Arrow) (parts.Only roles.SyncWord ∷ parts.Event ∷ parts.Only roles.SyncEnd ∷ tail) d ts (λ h d. refl) h in
     let the_sync = took_word words.Sync roles.SyncWord (parts.Event ∷ parts.Only roles.SyncEnd ∷ tail) d arrow.rest (λ h d. refl) arrow.later in
     let e = event_passed d whole_event [] no_node (parts.Only roles.SyncEnd ∷ tail) the_sync.rest refl the_sync.later in
-    let last = took_sign signs.Semicolon roles.SyncEnd tail (at d (reached whole_event e.value) [] (with_event no_node e.value)) e.rest (λ h d. refl) e.later in
+    let last = took_sign signs.Semicolon roles.SyncEnd tail (at d (reached whole_event e.value) [] (tally_with_event no_node e.value)) e.rest (λ h d. refl) e.later in
     let low = kept_first (nat_lt 32 (max 0 (max 0 (1 + height e.value - 1)))) (causes.Limit limits.Depth) (check (nat_lt 4096 (0 + node_count e.value)) (causes.Limit limits.Nodes) ∷ []) last.kept in
     let small = kept_first (nat_lt 4096 (0 + node_count e.value)) (causes.Limit limits.Nodes) [] low.1 in
     let r = register_is channels registers st n kept in
-    let j_next : Rest = record { written = n; bound = j.bound; braces = []; counted = with_event no_node e.value } in
+    let j_next : Rest = record { written = n; bound = j.bound; braces = []; counted = tally_with_event no_node e.value } in
     record {
       number = r.number;
       event = e.value;
@@ -323,7 +323,7 @@ repeat_step k f channels threads registers st j more ts short room h =
     let a = kept_first (not (fits_i64 (integer_value digits))) causes.Integer (check (not (is_count (integer_value digits))) (causes.Limit limits.Repeat) ∷ []) kept in
     let b = kept_first (not (is_count (integer_value digits))) (causes.Limit limits.Repeat) [] a.1 in
     let times = times_kept digits (not_false (is_count (integer_value digits)) b.0) in
-    let later : Passed (parts.Only (roles.Sign signs.OpenBrace) ∷ inside) d t.rest = subst (λ (x : Token). Passed (parts.Only (roles.Sign signs.OpenBrace) ∷ inside) (rules.after roles.Times d (token x)) t.rest) same t.later in
+    let later : Passed (parts.Only (roles.Sign signs.OpenBrace) ∷ inside) d t.rest = subst (λ (x : Token). Passed (parts.Only (roles.Sign signs.OpenBrace) ∷ inside) (rules.context_after roles.Times d (token x)) t.rest) same t.later in
     let brace = took_sign signs.OpenBrace (roles.Sign signs.OpenBrace) inside d t.rest (λ h d. refl) later in
     let g = first_inside k f channels threads registers (suc st) j more brace.rest (omega (arith, short, ap length is, ap length brace.is)) (omega (arith, room)) brace.later in
     record {
@@ -446,7 +446,7 @@ thread_step k f channels threads j ts short room distinct h =
     let kept : first_broken (check (is_among n threads) causes.Twice ∷ too_long n ∷ []) ≡ None = subst (λ (x : Token). first_broken (rules.rules roles.ThreadName c (token x)) ≡ None) same t.kept in
     let more = threads ++ n ∷ [] in
     let later : Passed (parts.Only (roles.Sign signs.OpenBrace) ∷ tail) (stand channels more [] 0 j) t.rest =
-    subst (λ (x : Token). Passed (parts.Only (roles.Sign signs.OpenBrace) ∷ tail) (rules.after roles.ThreadName c (token x)) t.rest) same t.later in
+    subst (λ (x : Token). Passed (parts.Only (roles.Sign signs.OpenBrace) ∷ tail) (rules.context_after roles.ThreadName c (token x)) t.rest) same t.later in
     let a = kept_first (is_among n threads) causes.Twice (too_long n ∷ []) kept in
     let b = kept_first (nat_lt 32 (length n)) (causes.Limit limits.Name) [] a.1 in
     let brace = took_sign signs.OpenBrace (roles.Sign signs.OpenBrace) tail (stand channels more [] 0 j) t.rest (λ h d. refl) later in
@@ -490,7 +490,7 @@ record NamesPassed (before : List (List ℕ)) (j : Rest) (more : List Part) (ts 
 -- what a channel's rules say
 record ChannelKept (channels : List (List ℕ)) (n : List ℕ) : Type 0 where
   new : IsNew n channels
-  short : IsShort n
+  short : IsShortName n
   room : length channels < 256
 
 channel_kept : (channels : List (List ℕ)) (j : Rest) (n : List ℕ) → first_broken (rules.rules roles.ChannelName (stand channels [] [] 0 j) (token (tokens.name n))) ≡ None → ChannelKept channels n
@@ -563,7 +563,7 @@ channels_step j ts h =
     let same : t.first ≡ tokens.name n = one_token t.first (tokens.name n) name.1 in
     let is : ts ≡ tokens.name n ∷ t.rest = t.is ∙ ap (λ x. x ∷ t.rest) same in
     let k = channel_kept [] j n (subst (λ (x : Token). first_broken (rules.rules roles.ChannelName c (token x)) ≡ None) same t.kept) in
-    let later : Passed (parts.Channels ∷ parts.Threads ∷ []) (stand (n ∷ []) [] [] 0 j) t.rest = subst (λ (x : Token). Passed (parts.Channels ∷ parts.Threads ∷ []) (rules.after roles.ChannelName c (token x)) t.rest) same t.later in
+    let later : Passed (parts.Channels ∷ parts.Threads ∷ []) (stand (n ∷ []) [] [] 0 j) t.rest = subst (λ (x : Token). Passed (parts.Channels ∷ parts.Threads ∷ []) (rules.context_after roles.ChannelName c (token x)) t.rest) same t.later in
     let g = names_passed t.rest (n ∷ []) j (parts.Threads ∷ []) (omega arith) later in
     let distinct : AreDistinct (n ∷ g.all) = g.names (tt, tt) in
     let threads = threads_within (length g.rest) (n ∷ g.all) [] [] 0 j g.rest (omega arith) (omega arith) distinct g.later in

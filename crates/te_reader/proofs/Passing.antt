@@ -11,7 +11,7 @@ use Rattle.te_reader.specs.Tokens.{Token}
 use Rattle.te_reader.specs.Grammar.{Names, IsNew}
 use Rattle.te_reader.specs.Spots.{Spot, token, over, spot, begins_with_dot}
 use Rattle.te_reader.specs.Forms.{Form, form}
-use Rattle.te_reader.specs.Rules.{Context, is_among, rules, first_broken, after, reaching}
+use Rattle.te_reader.specs.Rules.{Context, is_among, rules, first_broken, context_after, reaching}
 use Rattle.te_reader.specs.Tallies.{Tally}
 use Rattle.te_reader.specs.Runs.{pick, pick_plain, fits, run}
 use Rattle.te_reader.proofs.FaultIsFound.{step}
@@ -31,12 +31,12 @@ Goes wanted c ts wanted_then d rest = run wanted c (spots_of ts) ≡ run wanted_
 
 -- one token
 pub goes : (p : Part) (f : Form) (more : List Part) (c : Context) (t : Token) (ts rest : List Token) → ts ≡ t ∷ rest → pick p (token t) (dotted rest) ≡ Some f → first_broken (rules f.role c (token t)) ≡ None
-    → Goes (p ∷ more) c ts (f.wanted ++ more) (after f.role c (token t)) rest
+    → Goes (p ∷ more) c ts (f.wanted ++ more) (context_after f.role c (token t)) rest
 goes p f more c t ts rest e picked kept = ap (λ x. run (p ∷ more) c (spots_of x)) e ∙ step p more c (record { head = token t; dotted = dotted rest; left = 0 }) (spots_of rest) f picked kept
 
 -- one token that stands alone
 pub goes_alone : (r : Role) (more : List Part) (c : Context) (t : Token) (ts rest : List Token) → ts ≡ t ∷ rest → fits r (token t) (dotted rest) ≡ true → first_broken (rules r c (token t)) ≡ None
-    → Goes (parts.Only r ∷ more) c ts more (after r c (token t)) rest
+    → Goes (parts.Only r ∷ more) c ts more (context_after r c (token t)) rest
 unfolding pick pick_plain
 goes_alone r more c t ts rest e fit kept = goes (parts.Only r) (form r []) more c t ts rest e (rw fit refl) kept
 

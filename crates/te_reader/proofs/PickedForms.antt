@@ -16,7 +16,7 @@ use Rattle.te_reader.proofs.HeadLemmas.{word_is, sign_is}
 use Rattle.te_reader.specs.Tokens.{Token, word, name, inner, integer, sign}
 use Rattle.te_reader.specs.Integers.{integer_value}
 use Rattle.te_reader.specs.Spots.{Spot, Head, token, over, strange}
-use Rattle.te_reader.specs.Forms.{Form, form, then_also, forms, forms_of_events, IsAmong, Fits, bound_event, place_of_it}
+use Rattle.te_reader.specs.Forms.{Form, form, then_also, forms, forms_of_events, IsAmong, FitsRole, bound_event, place_of_it}
 use Rattle.te_reader.specs.Runs.{script_form, threads_form, channels_form, statements_form, sync_form, syncs_form, event_form, parts_form, bars_form, expression_form, operand_form, further_form, behind_form, inside_form, test_form, alone_form, fits, is_word, is_sign, is_name, is_bound, is_integer, is_small, is_place, is_variable_first, is_channel_first, is_over, pick_plain, pick}
 
 -- ---- tokens that stand alone
@@ -119,7 +119,7 @@ module _ (at : ℕ) where
   -- a form that was picked is one of these, and its role fits the token
   abbrev Good : List Form → Head → Bool → Option Form → Type 0
   Good all h d None = Unit {0}
-  Good all h d (Some f) = IsAmong f all × Fits f.role (record { head = h; dotted = d; left = at })
+  Good all h d (Some f) = IsAmong f all × FitsRole f.role (record { head = h; dotted = d; left = at })
 
   -- ---- by part
 
@@ -247,7 +247,7 @@ module _ (at : ℕ) where
   test_good (token (sign signs.Less)) d = (inr (inl refl), refl)
   test_good _ d = tt
 
-  fits_good : (r : Role) (h : Head) (d : Bool) → fits r h d ≡ true → Fits r (record { head = h; dotted = d; left = at })
+  fits_good : (r : Role) (h : Head) (d : Bool) → fits r h d ≡ true → FitsRole r (record { head = h; dotted = d; left = at })
   fits_good (roles.Word w) h d e = word_fits w h e
   fits_good (roles.Sign g) h d e = sign_fits g h e
   fits_good roles.ChannelName h d e = name_fits h e
@@ -303,7 +303,7 @@ module _ (at : ℕ) where
   pick_good (parts.Only r) h d = alone_good r h d (fits r h d) refl
 
 -- what is picked has a form of the part, which fits
-pub picked_fits : (p : Part) (s : Spot) (f : Form) → pick p s.head s.dotted ≡ Some f → IsAmong f (forms p) × Fits f.role s
+pub picked_fits : (p : Part) (s : Spot) (f : Form) → pick p s.head s.dotted ≡ Some f → IsAmong f (forms p) × FitsRole f.role s
 picked_fits p s f e = subst (λ (o : Option Form). Good s.left (forms p) s.head s.dotted o) e (pick_good s.left p s.head s.dotted)
 
 -- ---- the other way round: a form of a part that fits is the one that is picked
@@ -325,7 +325,7 @@ variable_true s (inr h) = rw h.1 refl
 small_true : (z : ℤ) (d : ℕ) → z ≡ pos d → d ≤ 3 → is_small z ≡ true
 small_true z d e h = rw e (grind (arith, nat_tests))
 
-fits_true : (r : Role) (s : Spot) → Fits r s → fits r s.head s.dotted ≡ true
+fits_true : (r : Role) (s : Spot) → FitsRole r s → fits r s.head s.dotted ≡ true
 fits_true (roles.Word w) s h = word_true w s.head h
 fits_true (roles.Sign g) s h = sign_true g s.head h
 fits_true roles.ChannelName s h = rw h.1 refl
@@ -358,7 +358,7 @@ fits_true roles.End s h = rw h refl
 
 -- the form that stands first is picked where it fits
 abbrev Picks : Part → Spot → Form → Type 0
-Picks p s f = Fits f.role s → pick p s.head s.dotted ≡ Some f
+Picks p s f = FitsRole f.role s → pick p s.head s.dotted ≡ Some f
 
 first : (p : Part) (s : Spot) (f g : Form) → Picks p s g → f ≡ g → Picks p s f
 first p s f g picks e = subst (λ (x : Form). Picks p s x) (sym e) picks
@@ -479,5 +479,5 @@ all_picked parts.Operand s = operand_picked s
 all_picked parts.Test s = test_picked s
 all_picked (parts.Only r) s = only_picked s r
 
-pub fitting_is_picked : (p : Part) (s : Spot) (f : Form) → IsAmong f (forms p) → Fits f.role s → pick p s.head s.dotted ≡ Some f
+pub fitting_is_picked : (p : Part) (s : Spot) (f : Form) → IsAmong f (forms p) → FitsRole f.role s → pick p s.head s.dotted ≡ Some f
 fitting_is_picked p s f h = among_picked p s f (forms p) (all_picked p s) h

@@ -14,12 +14,12 @@ use Rattle.te_reader.specs.Tokens.{Token, word, sign}
 use Rattle.te_reader.specs.Heads.{word_first, sign_first, name_first, integer_first}
 use Rattle.te_reader.specs.Integers.{integer_value}
 use Rattle.te_terms.specs.Limits.{IsWithinLimits}
-use Rattle.te_reader.specs.Grammar.{Span, is, ◌⨟◌, IsAt, IsNew, IsShort, alone, spells_expression, spells_event, spells_integer, spells_sync, behind_sync, spells_statements, spells_thread, spells_threads, spells_names, spells_channels, spells_program}
-use Rattle.te_reader.specs.NameReads.{Read, ◌>>=◌, checked, if_absent, place_of, names_of, declared_in}
+use Rattle.te_reader.specs.Grammar.{Span, is, ◌⨟◌, IsAt, IsNew, IsShortName, alone, spells_expression, spells_event, spells_integer, spells_sync, behind_sync, spells_statements, spells_thread, spells_threads, spells_names, spells_channels, spells_program}
+use Rattle.te_reader.specs.NameReads.{Read, ◌>>=◌, checked, if_absent, first_place_of, names_of, declared_in}
 use Rattle.te_reader.specs.ExpressionReads.{read_expression}
 use Rattle.te_reader.specs.Tallies.{no_node}
 use Rattle.te_reader.specs.EventReads.{read_event}
-use Rattle.te_reader.specs.Reads.{old_or_new, register_of, read_sync, read_written, read_emit, emit_or_sync, read_statement, count_in, read_times, Body, changed, before_body, before_repeat, before_inside, before_brace, repeat_or_statement, more_body, brace_or_sync, inside_body, brace_or_more, read_body, named_body, read_thread, read_new_thread, end_or_thread, read_threads, semicolon_or_name, read_names, if_some, none_or_channels, read_channels, read_program}
+use Rattle.te_reader.specs.Reads.{old_or_new, register_of, read_sync, read_written, read_emit, emit_or_sync, read_statement, repeats_in, read_times, Body, read_changed, before_body, before_repeat, before_inside, before_brace, repeat_or_statement, more_body, brace_or_sync, inside_body, brace_or_more, read_body, named_body, read_thread, read_new_thread, end_or_thread, read_threads, semicolon_or_name, read_names, if_some, none_or_channels, read_channels, read_program}
 use Rattle.te_reader.proofs.NameLemmas.{bind_some, checked_some, absent_some, place_is, place_none, declared}
 use Rattle.te_reader.proofs.HeadLemmas.{both_same, name_is, word_is, sign_is, integer_is}
 use Rattle.te_reader.proofs.ListsKept.{distinct_push, at_more, at_last, short_at, taken, Grows, stays, goes_on, grows_one}
@@ -38,9 +38,9 @@ pub record ReadRegister (channels registers : List (List ℕ)) (n : List ℕ) (r
 pub register_read : (channels registers : List (List ℕ)) (n : List ℕ) (r : ℕ) (more : List (List ℕ)) → register_of channels registers n ≡ Some (r, more) → ReadRegister channels registers n r more
 unfolding register_of
 register_read channels registers n r more e =
-    let a = bind_some (if_absent (place_of channels n)) _ _ e in
-    by (place_none channels n (absent_some _ _ a.1)) (place_of registers n) refl a.2 where
-      by : IsNew n channels → (o : Option ℕ) → place_of registers n ≡ o → old_or_new registers n o ≡ Some (r, more) → ReadRegister channels registers n r more
+    let a = bind_some (if_absent (first_place_of channels n)) _ _ e in
+    by (place_none channels n (absent_some _ _ a.1)) (first_place_of registers n) refl a.2 where
+      by : IsNew n channels → (o : Option ℕ) → first_place_of registers n ≡ o → old_or_new registers n o ≡ Some (r, more) → ReadRegister channels registers n r more
       by no_channel (Some old) f e =
           let same = both_same _ _ e in
           let at = place_is registers n old f in
@@ -75,10 +75,10 @@ module _ (m : ℕ) (channels : List (List ℕ)) (many : length channels ≤ m) w
     pub leads : IsLeading inside body.leading
     pub syncs : AreSyncs body.leading body.statements
     pub in_order : AreStatements m (length body.registers) (length registers) body.statements
-    pub spelled : AllByRecursion IsShort registers → (spells_statements true channels body.registers (length registers) body.leading body.statements ⨟ is (sign signs.CloseBrace)) ts rest
+    pub spelled : AllByRecursion IsShortName registers → (spells_statements true channels body.registers (length registers) body.leading body.statements ⨟ is (sign signs.CloseBrace)) ts rest
 
   -- outside of repeats
-  pub spelled_outside : (left : ℕ) (registers : List (List ℕ)) (body : Body) (ts rest : List Token) → ReadBody left false registers body ts rest → AllByRecursion IsShort registers
+  pub spelled_outside : (left : ℕ) (registers : List (List ℕ)) (body : Body) (ts rest : List Token) → ReadBody left false registers body ts rest → AllByRecursion IsShortName registers
       → (spells_statements true channels body.registers (length registers) 0 body.statements ⨟ is (sign signs.CloseBrace)) ts rest
   spelled_outside left registers body ts rest b short =
       let l = b.spelled short in
@@ -118,8 +118,8 @@ module _ (m : ℕ) (channels : List (List ℕ)) (many : length channels ≤ m) w
     written : with_register (length registers) r ≡ length more
     scoped : IsEvent (scope_of m (names_of channels registers)) t
     within : IsWithinLimits t
-    still : AllByRecursion IsShort registers → AllByRecursion IsShort more
-    spelled : AllByRecursion IsShort registers → (tail : Span) (rest : List Token) → tail after rest → spells_sync true channels all (length registers) r t tail ts rest
+    still : AllByRecursion IsShortName registers → AllByRecursion IsShortName more
+    spelled : AllByRecursion IsShortName registers → (tail : Span) (rest : List Token) → tail after rest → spells_sync true channels all (length registers) r t tail ts rest
 
   sync_read : (registers more all : List (List ℕ)) (n : List ℕ) (r : ℕ) (t : Term) (ts inside after : List Token) → ts ≡ tokens.name n ∷ inside → read_sync channels registers inside ≡ Some (t, after)
       → register_of channels registers n ≡ Some (r, more) → Grows channels more all → ReadSync registers more all r t ts after
@@ -256,7 +256,7 @@ module _ (m : ℕ) (channels : List (List ℕ)) (many : length channels ≤ m) w
   both_true true b e = (refl, e)
   both_true false b e = absurd cc
 
-  count_is : (z : ℤ) (n : ℕ) → count_in z ≡ Some n → (z ≡ pos n) × (0 < n) × (n ≤ 10000)
+  count_is : (z : ℤ) (n : ℕ) → repeats_in z ≡ Some n → (z ≡ pos n) × (0 < n) × (n ≤ 10000)
   count_is (negsuc k) n e = absurd cc
   count_is (pos k) n e = by (nat_le 1 k && nat_le k 10000) refl e where
     by : (b : Bool) → (nat_le 1 k && nat_le k 10000) ≡ b → (if b then Some k else None) ≡ Some n → (pos k ≡ pos n) × (0 < n) × (n ≤ 10000)
@@ -272,7 +272,7 @@ module _ (m : ℕ) (channels : List (List ℕ)) (many : length channels ≤ m) w
   unfolding read_times
   times_read times ts rest e =
       let a = bind_some (integer_first ts) _ _ e in
-      let b = bind_some (count_in (integer_value a.0.0)) _ _ a.2 in
+      let b = bind_some (repeats_in (integer_value a.0.0)) _ _ a.2 in
       let c = bind_some (sign_first signs.OpenBrace a.0.1) _ _ b.2 in
       let same = both_same _ _ c.2 in
       let count = count_is (integer_value a.0.0) times (b.1 ∙ ap Some same.0) in
@@ -328,7 +328,7 @@ module _ (m : ℕ) (channels : List (List ℕ)) (many : length channels ≤ m) w
         let w = was_written registers more s ts after e in
         put (sync w.number w.event) w.is_sync (sync_before left registers more w.number w.event body ts after rest (sync_read registers more body.registers w.name w.number w.event ts w.inside after w.begins w.read w.of later.grows) later)
 
-  changed_some : (f : Body → Body) (o : Read Body) (b : Body) (rest : List Token) → changed f o ≡ Some (b, rest) → (c : Body) × (o ≡ Some (c, rest)) × (f c ≡ b)
+  changed_some : (f : Body → Body) (o : Read Body) (b : Body) (rest : List Token) → read_changed f o ≡ Some (b, rest) → (c : Body) × (o ≡ Some (c, rest)) × (f c ≡ b)
   changed_some f None b rest e = absurd cc
   changed_some f (Some x) b rest e =
       let same = both_same _ _ e in
@@ -394,7 +394,7 @@ module _ (m : ℕ) (channels : List (List ℕ)) (many : length channels ≤ m) w
     pub apart : AreApart t.registers channels
     pub spelled : (all : List Token) → all ≡ word words.Thread ∷ ts → spells_thread true channels t all rest
 
-  pub thread_of_body : (n : List ℕ) (body : Body) (ts inside within rest : List Token) → IsShort n → ts ≡ tokens.name n ∷ inside → inside ≡ sign signs.OpenBrace ∷ within → ReadBody 1024 false [] body within rest
+  pub thread_of_body : (n : List ℕ) (body : Body) (ts inside within rest : List Token) → IsShortName n → ts ≡ tokens.name n ∷ inside → inside ≡ sign signs.OpenBrace ∷ within → ReadBody 1024 false [] body within rest
       → ReadThread (record { name = n; registers = body.registers; statements = body.statements }) ts rest
   thread_of_body n body ts inside within rest short named opened b = record {
     kept = record { registers = b.grows.few (omega arith); distinct = b.grows.distinct tt; statements = b.most; in_order = b.in_order };
@@ -410,7 +410,7 @@ module _ (m : ℕ) (channels : List (List ℕ)) (many : length channels ≤ m) w
       let c = bind_some (sign_first signs.OpenBrace a.0.1) _ _ b.2 in
       let fits = checked_some _ _ b.1 in
       by a.0.0 (grind (arith, nat_tests, fits)) a.0.1 (name_is ts a.0.0 a.0.1 a.1) c.0 (sign_is signs.OpenBrace a.0.1 c.0 c.1) (read_body 1024 channels false [] c.0) refl c.2 where
-        by : (n : List ℕ) → IsShort n → (inside : List Token) → ts ≡ tokens.name n ∷ inside → (within : List Token) → inside ≡ sign signs.OpenBrace ∷ within → (o : Read Body) → read_body 1024 channels false [] within ≡ o → named_body n o ≡ Some (t, rest) → ReadThread t ts rest
+        by : (n : List ℕ) → IsShortName n → (inside : List Token) → ts ≡ tokens.name n ∷ inside → (within : List Token) → inside ≡ sign signs.OpenBrace ∷ within → (o : Read Body) → read_body 1024 channels false [] within ≡ o → named_body n o ≡ Some (t, rest) → ReadThread t ts rest
         by n short inside named within opened None f e = absurd cc
         by n short inside named within opened (Some b) f e =
             let same = both_same _ _ e in
@@ -437,7 +437,7 @@ module _ (m : ℕ) (channels : List (List ℕ)) (many : length channels ≤ m) w
   unfolding read_new_thread
   thread_before left names more t threads ts behind after rest begins e later =
       let a = bind_some (read_thread channels behind) _ _ e in
-      let b = bind_some (if_absent (place_of names a.0.0.name)) _ _ a.2 in
+      let b = bind_some (if_absent (first_place_of names a.0.0.name)) _ _ a.2 in
       let same = both_same _ _ b.2 in
       let t_is : a.0.0 ≡ t = ap (λ p. p.0) same.0 in
       let read : ReadThread t behind after = subst (λ (last : List Token). ReadThread t behind last) same.1 (subst (λ (x : Thread). ReadThread x behind a.0.1) t_is (thread_read a.0.0 behind a.0.1 a.1)) in

@@ -14,8 +14,8 @@ use Rattle.te_reader.specs.Tokens.{Token, sign}
 use Rattle.te_reader.specs.Heads.{sign_first, name_first, inner_first, integer_first}
 use Rattle.te_reader.specs.Integers.{integer_value}
 use Rattle.te_reader.specs.Grammar.{Names, spells_variable, spells_integer, arith_sign, spells_primitive, spells_calculation, spells_inside, spells_further, spells_expression}
-use Rattle.te_reader.specs.NameReads.{Read, place_of, fitting, integer_of, or_inner, variable_named}
-use Rattle.te_reader.specs.ExpressionReads.{place_in, read_place, read_inner_part, part_or_channel, read_named, named_or_inner, integer_or_name, read_primitive, or_star, or_minus, or_plus, arith_first, one_or_both, read_calculation, end_or_more, read_calculations, empty_or_calculations, read_tuple, inner_or_tuple, variable_or_tuple, read_expression}
+use Rattle.te_reader.specs.NameReads.{Read, first_place_of, fitting, integer_read, or_inner, variable_named}
+use Rattle.te_reader.specs.ExpressionReads.{place_read, read_place, read_inner_part, part_or_channel, read_named, named_or_inner, integer_or_name, read_primitive, or_star, or_minus, or_plus, arith_first, one_or_both, read_calculation, end_or_more, read_calculations, empty_or_calculations, read_tuple, inner_or_tuple, variable_or_tuple, read_expression}
 use Rattle.te_reader.proofs.NameLemmas.{bind_some, place_is}
 use Rattle.te_reader.proofs.HeadLemmas.{carried, name_is, inner_is, integer_is, sign_is}
 
@@ -28,7 +28,7 @@ fitting_some z y = by (fits_i64 z) refl where
   by true f e = let same : z ≡ y = cc in (same, ap fits_i64 (sym same) ∙ f)
   by false f e = absurd cc
 
-place_some : (z : ℤ) (d : ℕ) → place_in z ≡ Some d → (z ≡ pos d) × (d ≤ 3)
+place_some : (z : ℤ) (d : ℕ) → place_read z ≡ Some d → (z ≡ pos d) × (d ≤ 3)
 place_some (pos n) d e = by (nat_le n 3) refl e where
   by : (b : Bool) → nat_le n 3 ≡ b → (if b then Some n else None) ≡ Some d → (pos n ≡ pos d) × (d ≤ 3)
   by true f e = let same : n ≡ d = cc in (ap pos same, subst (λ (x : ℕ). x ≤ 3) same (grind (arith, nat_tests, f)))
@@ -39,7 +39,7 @@ pub place_read : (d : ℕ) (ts rest : List Token) → read_place ts ≡ Some (d,
 unfolding read_place
 place_read d ts rest e =
     let a = bind_some (integer_first ts) _ _ e in
-    let b = bind_some (place_in (integer_value a.0.0)) _ _ a.2 in
+    let b = bind_some (place_read (integer_value a.0.0)) _ _ a.2 in
     let at = place_some (integer_value a.0.0) b.0 b.1 in
     carried (λ x last. spells_integer (pos x) ts last × (x ≤ 3)) b.0 d a.0.1 rest b.2 ((a.0.0, at.0, integer_is ts a.0.0 a.0.1 a.1), at.1)
 
@@ -66,15 +66,15 @@ module _ (m : ℕ) (s : Names) (many : length s.channels ≤ m) where
 
   pub variable_read : (n : List ℕ) (x : Variable) → variable_named s n ≡ Some x → ReadVariable n x
   unfolding variable_named
-  variable_read n x e = by (place_of s.registers n) refl e where
-    by : (o : Option ℕ) → place_of s.registers n ≡ o → or_inner s n o ≡ Some x → ReadVariable n x
+  variable_read n x e = by (first_place_of s.registers n) refl e where
+    by : (o : Option ℕ) → first_place_of s.registers n ≡ o → or_inner s n o ≡ Some x → ReadVariable n x
     by (Some r) f e =
         let at = place_is s.registers n r f in
         let good : ReadVariable n (register r) = record { spelled = λ ts rest h. (n, (at.0, h)); scoped = at.1 } in
         let same : register r ≡ x = cc in
         subst (λ (y : Variable). ReadVariable n y) same good
     by None f e =
-        let a = bind_some (place_of s.inners n) _ _ e in
+        let a = bind_some (first_place_of s.inners n) _ _ e in
         let at = place_is s.inners n a.0 a.1 in
         let good : ReadVariable n (name a.0) = record { spelled = λ ts rest h. (n, (at.0, inl h)); scoped = at.1 } in
         let same : name a.0 ≡ x = let f = a.2 in cc in
@@ -95,7 +95,7 @@ module _ (m : ℕ) (s : Names) (many : length s.channels ≤ m) where
   unfolding read_inner_part
   inner_part_read p ts rest e =
       let a = bind_some (inner_first ts) _ _ e in
-      let b = bind_some (place_of s.inners a.0.0) _ _ a.2 in
+      let b = bind_some (first_place_of s.inners a.0.0) _ _ a.2 in
       let c = bind_some (sign_first signs.Dot a.0.1) _ _ b.2 in
       let d = bind_some (read_place c.0) _ _ c.2 in
       let at = place_is s.inners a.0.0 b.0 b.1 in
@@ -112,12 +112,12 @@ module _ (m : ℕ) (s : Names) (many : length s.channels ≤ m) where
         let v = variable_read n a.0 a.1 in
         carried (λ x last. ReadPrimitive x ts last) (part a.0 b.0.0) p b.0.1 rest b.2 (part_is a.0 b.0.0 ts behind after b.0.1 (v.spelled ts behind begins) v.scoped f b.1)
     by None f e =
-        let a = bind_some (place_of s.channels n) _ _ e in
+        let a = bind_some (first_place_of s.channels n) _ _ e in
         let at = place_is s.channels n a.0 a.1 in
         carried (λ x last. ReadPrimitive x ts last) (chan a.0) p behind rest a.2 (record { spelled = (n, (at.0, begins)); scoped = omega (arith, at.1) })
 
   pub primitive_read : (p : Primitive) (ts rest : List Token) → read_primitive s ts ≡ Some (p, rest) → ReadPrimitive p ts rest
-  unfolding read_primitive integer_of
+  unfolding read_primitive integer_read
   primitive_read p ts rest e = by (integer_first ts) refl e where
     by_name : (o : Read (List ℕ)) → name_first ts ≡ o → named_or_inner s ts o ≡ Some (p, rest) → ReadPrimitive p ts rest
     by_name (Some n) f e = named_read n.0 p ts n.1 rest (name_is ts n.0 n.1 f) e
@@ -200,7 +200,7 @@ module _ (m : ℕ) (s : Names) (many : length s.channels ≤ m) where
   expression_read x ts rest e = by (name_first ts) refl e where
     by_inner : (o : Read (List ℕ)) → inner_first ts ≡ o → inner_or_tuple s ts o ≡ Some (x, rest) → ReadExpression x ts rest
     by_inner (Some n) f e =
-        let a = bind_some (place_of s.inners n.0) _ _ e in
+        let a = bind_some (first_place_of s.inners n.0) _ _ e in
         let at = place_is s.inners n.0 a.0 a.1 in
         carried (λ y last. ReadExpression y ts last) (whole (name a.0)) x n.1 rest a.2 (record { spelled = (n.0, (at.0, inr (inner_is ts n.0 n.1 f))); scoped = at.1 })
     by_inner None f e =

@@ -8,7 +8,7 @@ use Rattle.te_script.specs.Names.{reserved_words}
 use Rattle.te_reader.specs.declared.token.Word.{Word}
 use Rattle.te_reader.specs.declared.token.Word.TheVariants as words
 use Rattle.te_reader.specs.Tokens.{word_spelling}
-use Rattle.te_reader.specs.Lexed.{words_of, word_among, reserved_as}
+use Rattle.te_reader.specs.Lexed.{words_so_long, word_among, reserved_as}
 
 among_spells : (ws : List Word) (bytes : List ℕ) (w : Word) → word_among ws bytes ≡ Some w → word_spelling w ≡ bytes
 among_spells [] bytes w e = absurd cc
@@ -19,7 +19,7 @@ among_spells (v ∷ ws) bytes w e = by (bytes_eq bytes (word_spelling v)) (bytes
 
 pub reserved_spells : (bytes : List ℕ) (w : Word) → reserved_as bytes ≡ Some w → word_spelling w ≡ bytes
 unfolding reserved_as
-reserved_spells bytes w e = among_spells (words_of (length bytes)) bytes w e
+reserved_spells bytes w e = among_spells (words_so_long (length bytes)) bytes w e
 
 pub reserved_back : (w : Word) → reserved_as (word_spelling w) ≡ Some w
 unfolding reserved_as

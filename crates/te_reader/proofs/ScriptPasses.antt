@@ -8,7 +8,7 @@ use Rattle.te_terms.specs.Expressions.{Expression, whole, tuple}
 use Rattle.te_terms.specs.Terms.{Term, always, never, fresh, throw, send, recv, and_then, choose, catch, when}
 use Rattle.te_terms.specs.Measures.{height, node_count}
 use Rattle.te_terms.specs.Limits.{IsWithinLimits}
-use Rattle.te_script.specs.Scripts.{Scope, one_more, IsExpression, IsEvent, Statement, sync, emit, repeat, Thread, Program, with_register, AreStatements, AreDistinct, AreApart, IsThread, thread_names, IsProgram}
+use Rattle.te_script.specs.Scripts.{Scope, one_deeper, IsExpression, IsEvent, Statement, sync, emit, repeat, Thread, Program, with_register, AreStatements, AreDistinct, AreApart, IsThread, thread_names, IsProgram}
 use Rattle.te_reader.specs.declared.brace.Brace.{Brace}
 use Rattle.te_reader.specs.declared.token.Word.TheVariants as words
 use Rattle.te_reader.specs.declared.token.Sign.TheVariants as signs
@@ -17,14 +17,14 @@ use Rattle.te_reader.specs.declared.part.Part.{Part}
 use Rattle.te_reader.specs.declared.part.Part.TheVariants as parts
 use Rattle.te_reader.specs.Tokens as tokens
 use Rattle.te_reader.specs.Tokens.{Token, word, sign}
-use Rattle.te_reader.specs.Grammar.{Span, is, ◌⨟◌, IsAt, IsNew, IsShort, spells_expression, spells_sync, spells_statements, spells_thread, spells_threads, spells_names, spells_channels, spells_program}
+use Rattle.te_reader.specs.Grammar.{Span, is, ◌⨟◌, IsAt, IsNew, IsShortName, spells_expression, spells_sync, spells_statements, spells_thread, spells_threads, spells_names, spells_channels, spells_program}
 use Rattle.te_reader.specs.Integers.{integer_value}
 use Rattle.te_terms.specs.Values.{fits_i64}
 use Rattle.te_reader.specs.Spots.{token}
 use Rattle.te_reader.specs.Forms.{form, sync_behind}
 use Rattle.te_reader.specs.Rules as rules
 use Rattle.te_reader.specs.Rules.{Context, nothing_before, is_among, whole_event, first_broken}
-use Rattle.te_reader.specs.Tallies.{Tally, no_node, with_event}
+use Rattle.te_reader.specs.Tallies.{Tally, no_node, tally_with_event}
 use Rattle.te_reader.specs.Runs.{pick, pick_plain, run}
 use Rattle.te_script.proofs.Appending.{AllByRecursion-append}
 use Rattle.te_reader.proofs.ListsKept.{all_at}
@@ -47,9 +47,9 @@ few_event s fresh h = tt
 few_event s (throw e) h = few_expression s e h
 few_event s (send p e) h = few_expression s e h.1
 few_event s (recv p) h = tt
-few_event s (and_then e n f) h = (few_event s e h.1, few_event (one_more s) f h.2)
+few_event s (and_then e n f) h = (few_event s e h.1, few_event (one_deeper s) f h.2)
 few_event s (choose e f) h = (few_event s e h.0, few_event s f h.1)
-few_event s (catch e n f) h = (few_event s e h.1, few_event (one_more s) f h.2)
+few_event s (catch e n f) h = (few_event s e h.1, few_event (one_deeper s) f h.2)
 few_event s (when o p q e f) h = (few_event s e h.2, few_event s f h.3)
 
 -- ---- between two statements
@@ -78,7 +78,7 @@ stand channels threads registers statements r = record {
 
 module _ (channels threads registers : List (List ℕ)) (keeps : Registers channels registers) where
   -- the first token of a sync
-  register_kept : (w r k : ℕ) (n : List ℕ) (rest : Rest) → r ≤ w → IsShort n → IsAt registers r n → k < 1024
+  register_kept : (w r k : ℕ) (n : List ℕ) (rest : Rest) → r ≤ w → IsShortName n → IsAt registers r n → k < 1024
       → first_broken (rules.rules roles.Register (stand channels threads (take w registers) k rest) (token (tokens.name n))) ≡ None
   register_kept w r k n rest most short at few =
       let apart : is_among n channels ≡ false = not_among channels n (no_channel n channels (all_at (λ x. AllByRecursion (λ y. x ≢ y) channels) registers r n keeps.apart at)) in
@@ -99,9 +99,9 @@ module _ (channels threads registers : List (List ℕ)) (keeps : Registers chann
               by false = refl
 
   -- the registers behind a sync
-  registers_then : (w r : ℕ) (n : List ℕ) → r ≤ w → IsAt registers r n → rules.with_register (take w registers) n ≡ take (with_register w r) registers
+  registers_then : (w r : ℕ) (n : List ℕ) → r ≤ w → IsAt registers r n → rules.with_named_register (take w registers) n ≡ take (with_register w r) registers
   registers_then w r n most at = by (nat_lt r w) refl where
-    by : (b : Bool) → nat_lt r w ≡ b → rules.with_register (take w registers) n ≡ take (if b then w else suc r) registers
+    by : (b : Bool) → nat_lt r w ≡ b → rules.with_named_register (take w registers) n ≡ take (if b then w else suc r) registers
     by true e =
         let before : r < w = grind (arith, nat_tests) in
         rw (among_at (take w registers) r n (at_taken registers w r n before at)) refl
@@ -139,13 +139,13 @@ module _ (channels threads registers : List (List ℕ)) (keeps : Registers chann
       let b = reached whole_event t in
       let low : nat_lt 32 (max 0 (max 0 (1 + height t - 1))) ≡ false = grind (arith, nat_tests, within.low) in
       let small : nat_lt 4096 (0 + node_count t) ≡ false = grind (arith, nat_tests, within.few) in
-      let behind : Rest = record { written = n; bound = j.bound; braces = []; counted = with_event no_node t } in (
+      let behind : Rest = record { written = n; bound = j.bound; braces = []; counted = tally_with_event no_node t } in (
         behind,
         goes p (form roles.Register (sync_behind tail)) wanted c (tokens.name n) ts first.0 first.1 (begins n (dotted first.0)) (register_kept w r k n j most short is few)
             ∙ goes_alone (roles.Sign signs.Arrow) (parts.Only roles.SyncWord ∷ parts.Event ∷ parts.Only roles.SyncEnd ∷ (tail ++ wanted)) d (sign signs.Arrow) first.0 arrow.0 arrow.1 refl refl
             ∙ goes_alone roles.SyncWord (parts.Event ∷ parts.Only roles.SyncEnd ∷ (tail ++ wanted)) d (word words.Sync) arrow.0 the_sync.0 the_sync.1 refl refl
             ∙ event_goes t d whole_event [] no_node (parts.Only roles.SyncEnd ∷ (tail ++ wanted)) the_sync.0 event.0 event.1 calm (omega (arith, within.low), omega (arith, within.few_fresh)) refl (rw ends.1 refl)
-            ∙ goes_alone roles.SyncEnd (tail ++ wanted) (at d b [] (with_event no_node t)) (sign signs.Semicolon) event.0 ends.0 ends.1 refl (rw (low, small) refl)
+            ∙ goes_alone roles.SyncEnd (tail ++ wanted) (at d b [] (tally_with_event no_node t)) (sign signs.Semicolon) event.0 ends.0 ends.1 refl (rw (low, small) refl)
             ∙ ap (λ x. run (tail ++ wanted) (stand channels threads x (suc k) behind) (spots_of ends.0)) (registers_then w r n most is),
       )
 
@@ -328,7 +328,7 @@ names_go before (n ∷ ns) wanted j ts m rest h e few new =
     goes parts.Channels (form roles.ChannelName (parts.Channels ∷ [])) wanted (stand before [] [] 0 j) (tokens.name n) ts k.0 k.1 refl (name_kept before n h.0 new.0 (omega (arith, few)))
     ∙ names_go (before ++ n ∷ []) ns wanted j k.0 m rest k.2 e (omega (arith, few, length-append before (n ∷ []))) new.1
     ∙ ap (λ x. run wanted (stand x [] [] 0 j) (spots_of rest)) (append_assoc before (n ∷ []) ns) where
-      name_kept : (before : List (List ℕ)) (n : List ℕ) → IsShort n → IsNew n before → length before < 256 → first_broken (rules.rules roles.ChannelName (stand before [] [] 0 j) (token (tokens.name n))) ≡ None
+      name_kept : (before : List (List ℕ)) (n : List ℕ) → IsShortName n → IsNew n before → length before < 256 → first_broken (rules.rules roles.ChannelName (stand before [] [] 0 j) (token (tokens.name n))) ≡ None
       name_kept before n short new few =
           let long : nat_lt 32 (length n) ≡ false = grind (arith, nat_tests, short) in
           let room : nat_le 256 (length before) ≡ false = grind (arith, nat_tests, few) in

@@ -9,7 +9,7 @@ use Rattle.te_reader.specs.declared.token.Sign.{Sign}
 use Rattle.te_reader.specs.declared.token.Sign.TheVariants as signs
 use Rattle.te_script.specs.Names.{is_word_byte}
 use Rattle.te_reader.specs.Tokens.{Token, word, name, inner, integer, sign, word_spelling, sign_spelling, spelling, IsDigits, IsToken, Between, in_blanks, in_comment, is_blank, IsGap, IsLongest, Spells}
-use Rattle.te_reader.specs.Lexed.{gap, found, reserved_as, word_or_name, token_at, piece_at, before, run, lexed_behind, lexed}
+use Rattle.te_reader.specs.Lexed.{gap, found, reserved_as, word_or_name, token_at, piece_at, before, byte_run, lexed_behind, lexed}
 use Rattle.te_reader.proofs.ByteKinds.{letter_is_no_gap, digit_is_no_gap, digit_is_no_letter}
 use Rattle.te_reader.proofs.ReservedWords.{reserved_spells, reserved_back, differs_from_words}
 use Rattle.te_reader.specs.Spots.{token, spot, spots}
@@ -163,7 +163,7 @@ minus_there : (x : ℕ) (ys : List ℕ) → x ≡ 45 → (t : Token) × (token_a
 minus_there x [] e = (sign signs.Minus, rw e refl)
 minus_there x (d ∷ ds) e = by (is_ascii_digit d) refl where
   by : (v : Bool) → is_ascii_digit d ≡ v → (t : Token) × (token_at x (d ∷ ds) ≡ found t)
-  by true f = (integer (45 ∷ run is_ascii_digit d ds), rw (e, f) refl)
+  by true f = (integer (45 ∷ byte_run is_ascii_digit d ds), rw (e, f) refl)
   by false f = (sign signs.Minus, rw (e, f) refl)
 
 less_there : (x : ℕ) (ys : List ℕ) → x ≡ 60 → (t : Token) × (token_at x ys ≡ found t)
@@ -175,9 +175,9 @@ less_there x (d ∷ ds) e = by (d == 45) refl where
 
 -- some token stands where one begins
 pub token_there : (x : ℕ) (xs ys : List ℕ) → Kind x xs → (t : Token) × (token_at x ys ≡ found t)
-token_there x xs ys (letters e all) = (word_or_name (reserved_as (run is_word_byte x ys)) (run is_word_byte x ys), rw e refl)
-token_there x xs ys (underscore e all) = (inner (run is_word_byte x ys), rw e refl)
-token_there x xs ys (digits e all) = (integer (run is_ascii_digit x ys), rw (digit_is_no_letter x e, e) refl)
+token_there x xs ys (letters e all) = (word_or_name (reserved_as (byte_run is_word_byte x ys)) (byte_run is_word_byte x ys), rw e refl)
+token_there x xs ys (underscore e all) = (inner (byte_run is_word_byte x ys), rw e refl)
+token_there x xs ys (digits e all) = (integer (byte_run is_ascii_digit x ys), rw (digit_is_no_letter x e, e) refl)
 token_there x xs ys (negative e all) = minus_there x ys e
 token_there x xs ys (arrow e f) = less_there x ys e
 token_there x xs ys (less e f) = less_there x ys e

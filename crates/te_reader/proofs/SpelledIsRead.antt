@@ -17,8 +17,8 @@ use Rattle.te_reader.specs.declared.token.Sign.TheVariants as signs
 use Rattle.te_reader.specs.Tokens as tokens
 use Rattle.te_reader.specs.Tokens.{Token, word, sign}
 use Rattle.te_reader.specs.Heads.{word_number, sign_number, word_first, sign_first, name_first, inner_first, bound_first, integer_first}
-use Rattle.te_reader.specs.Grammar.{Names, IsAt, IsNew, IsShort, IsFree, bound, with_inner, spells_variable, spells_integer, spells_primitive, arith_sign, spells_calculation, spells_further, spells_inside, spells_expression}
-use Rattle.te_reader.specs.NameReads.{place_of, declared_in, bound_in, integer_of, variable_named}
+use Rattle.te_reader.specs.Grammar.{Names, IsAt, IsNew, IsShortName, IsFreeName, bound_name, with_inner, spells_variable, spells_integer, spells_primitive, arith_sign, spells_calculation, spells_further, spells_inside, spells_expression}
+use Rattle.te_reader.specs.NameReads.{first_place_of, declared_in, bound_in, integer_read, variable_named}
 use Rattle.te_reader.specs.ExpressionReads.{read_place, read_inner_part, read_named, read_primitive, arith_first, read_calculation, read_calculations, read_tuple, read_expression}
 use Rattle.te_reader.proofs.NameLemmas.{place_cons}
 use Rattle.te_reader.proofs.ListsKept.{distinct_push, all_at}
@@ -41,7 +41,7 @@ pub other_word : (v w : Word) (ts rest : List Token) → ts ≡ word w ∷ rest 
 unfolding word_first
 other_word v w ts rest e unlike = rw (e, unlike) refl
 
-pub takes_bound : (n : List ℕ) (ts rest : List Token) → bound n ts rest → bound_first ts ≡ Some (n, rest)
+pub takes_bound : (n : List ℕ) (ts rest : List Token) → bound_name n ts rest → bound_first ts ≡ Some (n, rest)
 unfolding bound_first
 takes_bound n ts rest (inl e) = rw e refl
 takes_bound n ts rest (inr e) = rw e refl
@@ -63,14 +63,14 @@ no_sign_at_integer : (g : Sign) (n : List ℕ) (ts rest : List Token) → ts ≡
 unfolding sign_first
 no_sign_at_integer g n ts rest e = rw e refl
 
-no_sign_at_bound : (g : Sign) (n : List ℕ) (ts rest : List Token) → bound n ts rest → sign_first g ts ≡ None
+no_sign_at_bound : (g : Sign) (n : List ℕ) (ts rest : List Token) → bound_name n ts rest → sign_first g ts ≡ None
 no_sign_at_bound g n ts rest (inl e) = no_sign_at_name g n ts rest e
 no_sign_at_bound g n ts rest (inr e) = no_sign_at_inner g n ts rest e
 
 -- ---- places
 
 -- the place of a name among distinct ones
-pub place_found : (names : List (List ℕ)) (i : ℕ) (n : List ℕ) → AreDistinct names → IsAt names i n → place_of names n ≡ Some i
+pub place_found : (names : List (List ℕ)) (i : ℕ) (n : List ℕ) → AreDistinct names → IsAt names i n → first_place_of names n ≡ Some i
 place_found [] i n d at = absurd cc
 place_found (x ∷ xs) zero n d at =
     let same : x ≡ n = cc in
@@ -84,25 +84,25 @@ place_found (x ∷ xs) (suc i) n d at =
       unlike (y ∷ ys) zero h at = λ same. h.0 (let y_is : y ≡ n = cc in same ∙ sym y_is)
       unlike (y ∷ ys) (suc j) h at = unlike ys j h.1 at
 
-      by : (b : Bool) → (b ≡ true → x ≡ n) → place_of xs n ≡ Some i → (if b then Some 0 else option_map suc (place_of xs n)) ≡ Some (suc i)
+      by : (b : Bool) → (b ≡ true → x ≡ n) → first_place_of xs n ≡ Some i → (if b then Some 0 else option_map suc (first_place_of xs n)) ≡ Some (suc i)
       by true same later = absurd (unlike xs i d.0 at (same refl))
       by false same later = rw later refl
 
-nowhere : (n : List ℕ) → place_of [] n ≡ None
-unfolding place_of
+nowhere : (n : List ℕ) → first_place_of [] n ≡ None
+unfolding first_place_of
 nowhere n = refl
 
 -- a new name has none
-pub place_absent : (names : List (List ℕ)) (n : List ℕ) → IsNew n names → place_of names n ≡ None
+pub place_absent : (names : List (List ℕ)) (n : List ℕ) → IsNew n names → first_place_of names n ≡ None
 place_absent [] n new = nowhere n
 place_absent (x ∷ xs) n new =
     let later = place_absent xs n new.1 in
     place_cons x xs n ∙ by (bytes_eq x n) (bytes_eq-Decides x n).0 later where
-      by : (b : Bool) → (b ≡ true → x ≡ n) → place_of xs n ≡ None → (if b then Some 0 else option_map suc (place_of xs n)) ≡ None
+      by : (b : Bool) → (b ≡ true → x ≡ n) → first_place_of xs n ≡ None → (if b then Some 0 else option_map suc (first_place_of xs n)) ≡ None
       by true same later = absurd (new.0 (same refl))
       by false same later = rw later refl
 
-pub declares : (most : ℕ) (names : List (List ℕ)) (n : List ℕ) → length names < most → IsShort n → IsNew n names → declared_in most names n ≡ Some (names ++ n ∷ [])
+pub declares : (most : ℕ) (names : List (List ℕ)) (n : List ℕ) → length names < most → IsShortName n → IsNew n names → declared_in most names n ≡ Some (names ++ n ∷ [])
 unfolding declared_in
 declares most names n room short new =
     let absent = place_absent names n new in
@@ -118,7 +118,7 @@ pub record InScope (s : Names) : Type 0 where
   pub inners : AreDistinct s.inners
   pub apart : AllByRecursion (λ n. IsNew n s.registers) s.inners
 
-pub one_more_in_scope : (s : Names) (n : List ℕ) → InScope s → IsFree s n → InScope (with_inner s n)
+pub one_more_in_scope : (s : Names) (n : List ℕ) → InScope s → IsFreeName s n → InScope (with_inner s n)
 one_more_in_scope s n keeps free = record {
   channels = keeps.channels;
   registers = keeps.registers;
@@ -126,7 +126,7 @@ one_more_in_scope s n keeps free = record {
   apart = AllByRecursion-append (λ x. IsNew x s.registers) s.inners n keeps.apart free.no_register;
 }
 
-pub binds : (s : Names) (n : List ℕ) → IsFree s n → bound_in s n ≡ Some (with_inner s n)
+pub binds : (s : Names) (n : List ℕ) → IsFreeName s n → bound_in s n ≡ Some (with_inner s n)
 unfolding bound_in
 binds s n free =
     let short : nat_le (length n) 32 ≡ true = grind (arith, nat_tests, free.short) in
@@ -196,7 +196,7 @@ module _ (s : Names) (keeps : InScope s) where
   unfolding read_primitive integer_first name_first
   at_inner n ts behind e = rw e refl
 
-  named_channel : (c : ℕ) (n : List ℕ) (ts : List Token) → sign_first signs.Dot ts ≡ None → place_of s.channels n ≡ Some c → read_named s n ts ≡ Some (chan c, ts)
+  named_channel : (c : ℕ) (n : List ℕ) (ts : List Token) → sign_first signs.Dot ts ≡ None → first_place_of s.channels n ≡ Some c → read_named s n ts ≡ Some (chan c, ts)
   unfolding read_named
   named_channel c n ts e f = rw (e, f) refl
 
@@ -204,20 +204,20 @@ module _ (s : Names) (keeps : InScope s) where
   unfolding read_named
   named_part x d n ts behind rest e f g = rw (e, f, g) refl
 
-  inner_part : (l d : ℕ) (n : List ℕ) (ts middle behind rest : List Token) → ts ≡ tokens.inner n ∷ middle → place_of s.inners n ≡ Some l → sign_first signs.Dot middle ≡ Some behind → read_place behind ≡ Some (d, rest) → read_inner_part s ts ≡ Some (part (name l) d, rest)
+  inner_part : (l d : ℕ) (n : List ℕ) (ts middle behind rest : List Token) → ts ≡ tokens.inner n ∷ middle → first_place_of s.inners n ≡ Some l → sign_first signs.Dot middle ≡ Some behind → read_place behind ≡ Some (d, rest) → read_inner_part s ts ≡ Some (part (name l) d, rest)
   unfolding read_inner_part inner_first
   inner_part l d n ts middle behind rest e f g h = rw (e, f, g, h) refl
 
   part_is_read : (x : Variable) (d : ℕ) (ts middle behind rest : List Token) → spells_variable true s x ts middle → sign_first signs.Dot middle ≡ Some behind → read_place behind ≡ Some (d, rest) → read_primitive s ts ≡ Some (part x d, rest)
   part_is_read (register r) d ts middle behind rest h dot place = at_name h.0 ts middle h.1.1 ∙ named_part (register r) d h.0 middle behind rest dot (register_named r h.0 h.1.0) place
   part_is_read (name l) d ts middle behind rest h dot place = by h.1.1 where
-    by : bound h.0 ts middle → read_primitive s ts ≡ Some (part (name l) d, rest)
+    by : bound_name h.0 ts middle → read_primitive s ts ≡ Some (part (name l) d, rest)
     by (inl e) = at_name h.0 ts middle e ∙ named_part (name l) d h.0 middle behind rest dot (inner_named l h.0 h.1.0) place
     by (inr e) = at_inner h.0 ts middle e ∙ inner_part l d h.0 ts middle behind rest e (place_found s.inners l h.0 keeps.inners h.1.0) dot place
   part_is_read (known v) d ts middle behind rest h dot place = absurd h
 
   pub primitive_is_read : (p : Primitive) (ts rest : List Token) → spells_primitive true s p ts rest → sign_first signs.Dot rest ≡ None → read_primitive s ts ≡ Some (p, rest)
-  unfolding read_primitive integer_of integer_first
+  unfolding read_primitive integer_read integer_first
   primitive_is_read (int z) ts rest h no_dot = rw (h.1.2, h.1.1, h.0) refl
   primitive_is_read (chan c) ts rest h no_dot = at_name h.0 ts rest h.1.1 ∙ named_channel c h.0 rest no_dot (place_found s.channels c h.0 keeps.channels h.1.0)
   primitive_is_read (part x d) ts rest h no_dot =
@@ -251,7 +251,7 @@ module _ (s : Names) (keeps : InScope s) where
   unfolding read_expression name_first inner_first
   expression_is_read scope (whole (register r)) ts rest scoped h = rw (h.1.1, register_named r h.0 h.1.0) refl
   expression_is_read scope (whole (name l)) ts rest scoped h = by h.1.1 where
-    by : bound h.0 ts rest → read_expression s ts ≡ Some (whole (name l), rest)
+    by : bound_name h.0 ts rest → read_expression s ts ≡ Some (whole (name l), rest)
     by (inl e) = rw (e, inner_named l h.0 h.1.0) refl
     by (inr e) = rw (e, place_found s.inners l h.0 keeps.inners h.1.0) refl
   expression_is_read scope (whole (known v)) ts rest scoped h = absurd h

@@ -15,7 +15,7 @@ use Rattle.te_reader.specs.declared.token.Word.TheVariants as words
 use Rattle.te_reader.specs.declared.token.Sign.TheVariants as signs
 use Rattle.te_reader.specs.Tokens as tokens
 use Rattle.te_reader.specs.Tokens.{Token, word, sign}
-use Rattle.te_reader.specs.Grammar.{Span, is, ◌⨟◌, IsAt, IsShort, alone, spells_integer, spells_expression, spells_event, written_names, spells_sync, behind_sync, spells_statements}
+use Rattle.te_reader.specs.Grammar.{Span, is, ◌⨟◌, IsAt, IsShortName, alone, spells_integer, spells_expression, spells_event, written_names, spells_sync, behind_sync, spells_statements}
 use Rattle.te_reader.specs.Canonical.{Spelling, name_at, expression_text, event_text, indent, closing, sync_text, emit_text, lines_text}
 use Rattle.te_reader.proofs.ListsKept.{all_at}
 use Rattle.te_reader.proofs.Regrouped.{four, five}
@@ -84,7 +84,7 @@ module _ (channels registers : List (List ℕ)) (named_channels : AllByRecursion
       let whole = then_writes n (codes " <- sync " ++ (e ++ (codes ";\n" ++ more))) (is (tokens.name n)) _ (name_writes n is_name.identifier) behind_name (λ b a. refl) in
       let text : n ++ (codes " <- sync " ++ (e ++ (codes ";\n" ++ more))) ≡ sync_text spelling r t ++ more =
       sym (five n (codes " <- sync ") e (codes ";\n") more) in
-      named_writes (sync_text spelling r t ++ more) n (λ m. IsAt registers r m × IsShort m)
+      named_writes (sync_text spelling r t ++ more) n (λ m. IsAt registers r m × IsShortName m)
       (λ m. is (tokens.name m) ⨟ is (sign signs.Arrow) ⨟ is (word words.Sync) ⨟ spells_event true alone (written_names channels registers w) t ⨟ is (sign signs.Semicolon) ⨟ rest)
       (at, is_name.short)
       (subst (λ (xs : List ℕ). Writes xs (is (tokens.name n) ⨟ is (sign signs.Arrow) ⨟ is (word words.Sync) ⨟ spells_event true alone (written_names channels registers w) t ⨟ is (sign signs.Semicolon) ⨟ rest)) text whole)

@@ -13,7 +13,7 @@ use Rattle.te_reader.specs.declared.token.Lexeme.{Lexeme}
 use Rattle.te_reader.specs.declared.token.Lexeme.TheVariants as lexemes
 use Rattle.te_script.specs.Names.{is_word_byte}
 use Rattle.te_reader.specs.Tokens.{Token, inner, integer, sign, word_spelling, spelling, is_blank, Between, in_blanks, in_comment}
-use Rattle.te_reader.specs.Lexed.{gap, found, other, piece_at, token_at, before, run, reserved_as, word_or_name, lexed_behind, lexed, one_sign, place_in, IsAtToken, IsOneSign}
+use Rattle.te_reader.specs.Lexed.{gap, found, other, piece_at, token_at, before, byte_run, reserved_as, word_or_name, lexed_behind, lexed, one_sign, between_place, IsAtToken, IsOneSign}
 use Rattle.te_reader.specs.Spots.{token, over, strange, spot, spots_behind, spots}
 use Rattle.te_reader.specs.Finding.{IsHeaded}
 use Rattle.te_reader.proofs.ByteKinds.{letter_is_no_gap, letter_is_word, digit_is_no_gap, digit_is_no_letter}
@@ -65,7 +65,7 @@ length_word : (o : Option Word) (r : List ℕ) → ((w : Word) → o ≡ Some w 
 length_word None r h = refl
 length_word (Some w) r h = ap length (h w refl)
 
-length_run : (p : ℕ → Bool) (b : ℕ) (bs : List ℕ) → length (run p b bs) ≡ suc (prefix_len p bs)
+length_run : (p : ℕ → Bool) (b : ℕ) (bs : List ℕ) → length (byte_run p b bs) ≡ suc (prefix_len p bs)
 length_run p b bs = ap suc (length-prefix_len p bs)
 
 -- a run whose first byte passes is that byte and the run behind it
@@ -75,8 +75,8 @@ run_is p b bs n h e = e ∙ (rw h (one-add _))
 pub word_first : (text : List ℕ) (n : ℕ) → is_ascii_alphabetic (get_or text 0 0) ≡ true → n ≡ prefix_len is_word_byte text → IsFirst (word_or_name (reserved_as (take n text)) (take n text)) n text
 word_first [] n h e = absurd cc
 word_first (b ∷ bs) n h e =
-    let at : piece_at in_blanks b bs ≡ found (word_or_name (reserved_as (run is_word_byte b bs)) (run is_word_byte b bs)) = at_token b bs (letter_is_no_gap b h) ∙ (rw h refl) in
-    let long = length_word (reserved_as (run is_word_byte b bs)) (run is_word_byte b bs) (reserved_spells (run is_word_byte b bs)) ∙ length_run is_word_byte b bs in
+    let at : piece_at in_blanks b bs ≡ found (word_or_name (reserved_as (byte_run is_word_byte b bs)) (byte_run is_word_byte b bs)) = at_token b bs (letter_is_no_gap b h) ∙ (rw h refl) in
+    let long = length_word (reserved_as (byte_run is_word_byte b bs)) (byte_run is_word_byte b bs) (reserved_spells (byte_run is_word_byte b bs)) ∙ length_run is_word_byte b bs in
     rw (run_is is_word_byte b bs n (letter_is_word b h) e) (found_first _ b bs _ at long)
 
 -- the run is empty where the first byte fails, and only there
@@ -95,14 +95,14 @@ first_digit d ds n = by (is_ascii_digit d) where
 pub inner_first : (text : List ℕ) (n : ℕ) → get_or text 0 0 ≡ 95 → n ≡ prefix_len is_word_byte text → IsFirst (inner (take n text)) n text
 inner_first [] n h e = absurd cc
 inner_first (b ∷ bs) n h e =
-    let at : piece_at in_blanks b bs ≡ found (inner (run is_word_byte b bs)) = rw h refl in
+    let at : piece_at in_blanks b bs ≡ found (inner (byte_run is_word_byte b bs)) = rw h refl in
     let passes : is_word_byte b ≡ true = rw h refl in
     rw (run_is is_word_byte b bs n passes e) (found_first _ b bs _ at (length_run is_word_byte b bs))
 
 pub digits_first : (text : List ℕ) (n : ℕ) → is_ascii_digit (get_or text 0 0) ≡ true → n ≡ prefix_len is_ascii_digit text → IsFirst (integer (take n text)) n text
 digits_first [] n h e = absurd cc
 digits_first (b ∷ bs) n h e =
-    let at : piece_at in_blanks b bs ≡ found (integer (run is_ascii_digit b bs)) = at_token b bs (digit_is_no_gap b h) ∙ (rw (digit_is_no_letter b h, h) refl) in
+    let at : piece_at in_blanks b bs ≡ found (integer (byte_run is_ascii_digit b bs)) = at_token b bs (digit_is_no_gap b h) ∙ (rw (digit_is_no_letter b h, h) refl) in
     rw (run_is is_ascii_digit b bs n h e) (found_first _ b bs _ at (length_run is_ascii_digit b bs))
 
 -- ---- signs
@@ -117,8 +117,8 @@ negative_first [] n h e some = absurd cc
 negative_first (b ∷ []) n h e some = absurd (some e)
 negative_first (b ∷ d ∷ ds) n h e some =
     let digit = first_digit d ds n e some in
-    let at : piece_at in_blanks b (d ∷ ds) ≡ found (integer (45 ∷ run is_ascii_digit d ds)) = rw (h, digit) refl in
-    let long : length (spelling (integer (45 ∷ run is_ascii_digit d ds))) ≡ suc (suc (prefix_len is_ascii_digit ds)) = ap suc (length_run is_ascii_digit d ds) in
+    let at : piece_at in_blanks b (d ∷ ds) ≡ found (integer (45 ∷ byte_run is_ascii_digit d ds)) = rw (h, digit) refl in
+    let long : length (spelling (integer (45 ∷ byte_run is_ascii_digit d ds))) ≡ suc (suc (prefix_len is_ascii_digit ds)) = ap suc (length_run is_ascii_digit d ds) in
     rw (one-add n, run_is is_ascii_digit d ds n digit e, h) (found_first _ 45 (d ∷ ds) _ (ap (λ x. piece_at in_blanks x (d ∷ ds)) (sym h) ∙ at) long)
 
 pub arrow_first : (text : List ℕ) → get_or text 0 0 ≡ 60 → get_or text 1 0 ≡ 45 → IsFirst (sign signs.Arrow) 2 text
@@ -166,9 +166,9 @@ still : (place next : Between) (i j : ℕ) (text : List ℕ) → GoesOn place i 
 still place next i j text g h = (sym g.0 ∙ h.0, sym g.1 ∙ h.1)
 
 -- a comment goes on up to its line feed
-pub comment_goes : (i : ℕ) (text : List ℕ) (next : Bool) → i < length text → next ≡ not (nat_eq (get_or text i 0) 10) → StillSame in_comment i text → StillSame (place_in next) (i + 1) text
-comment_goes i text next h e = still in_comment (place_in next) i (i + 1) text (rw (e, add-one) (gap_goes in_comment _ i text h (by (nat_eq (get_or text i 0) 10)))) where
-  by : (b : Bool) → (if b then gap in_blanks else gap in_comment) ≡ gap (place_in (not b))
+pub comment_goes : (i : ℕ) (text : List ℕ) (next : Bool) → i < length text → next ≡ not (nat_eq (get_or text i 0) 10) → StillSame in_comment i text → StillSame (between_place next) (i + 1) text
+comment_goes i text next h e = still in_comment (between_place next) i (i + 1) text (rw (e, add-one) (gap_goes in_comment _ i text h (by (nat_eq (get_or text i 0) 10)))) where
+  by : (b : Bool) → (if b then gap in_blanks else gap in_comment) ≡ gap (between_place (not b))
   by true = refl
   by false = refl
 
@@ -179,11 +179,11 @@ pub blank_goes : (i : ℕ) (text : List ℕ) → i < length text → is_blank (g
 blank_goes i text h b = still in_blanks in_blanks i (i + 1) text (rw add-one (gap_goes in_blanks in_blanks i text h (rw b refl)))
 
 -- a text that is a gap has no token
-pub all_gap : (text : List ℕ) (inside : Bool) (i : ℕ) → length text ≤ i → StillSame (place_in inside) i text → StillSame in_blanks (length text) text
+pub all_gap : (text : List ℕ) (inside : Bool) (i : ℕ) → length text ≤ i → StillSame (between_place inside) i text → StillSame in_blanks (length text) text
 unfolding lexed_behind spots_behind
 all_gap text inside i h e =
     let none : drop i text ≡ [] = drop_all i text h in
-    (rw (drop-length text) (ap (lexed_behind (place_in inside) 0) (sym none) ∙ e.0), rw (drop-length text) (ap (spots_behind (place_in inside) 0) (sym none) ∙ e.1))
+    (rw (drop-length text) (ap (lexed_behind (between_place inside) 0) (sym none) ∙ e.0), rw (drop-length text) (ap (spots_behind (between_place inside) 0) (sym none) ∙ e.1))
 
-pub kept : (text : List ℕ) (i : ℕ) (now known : Bool) → known ≡ now → StillSame (place_in now) i text → StillSame (place_in known) i text
+pub kept : (text : List ℕ) (i : ℕ) (now known : Bool) → known ≡ now → StillSame (between_place now) i text → StillSame (between_place known) i text
 kept text i now known e h = rw e h

@@ -10,8 +10,8 @@ use Rattle.te_reader.specs.declared.token.Word.TheVariants as words
 use Rattle.te_reader.specs.declared.token.Sign.{Sign}
 use Rattle.te_reader.specs.declared.token.Sign.TheVariants as signs
 use Rattle.te_reader.specs.Tokens.{Token, word, name, inner, integer, sign, word_spelling, sign_spelling, spelling, is_blank, IsToken, IsLongest, Spells}
-use Rattle.te_reader.specs.Lexed.{found, run, reserved_as, word_or_name, token_at}
-use Rattle.te_reader.specs.Grammar.{Span, is, ◌⨟◌, nothing, either, named, under}
+use Rattle.te_reader.specs.Lexed.{found, byte_run, reserved_as, word_or_name, token_at}
+use Rattle.te_reader.specs.Grammar.{Span, is, ◌⨟◌, nothing, either, some_name, span_under}
 use Rattle.te_reader.proofs.ReservedWords.{reserved_back, differs_from_words}
 use Rattle.te_reader.proofs.LongestTokens.{passes, passes_all, token_found, longest_found}
 use Rattle.te_reader.proofs.SpelledIsLexed.{not_reserved}
@@ -54,7 +54,7 @@ ends_found u b bs behind spelled e = record {
   is_longest = subst (λ (text : List ℕ). IsLongest u text) (ap (λ x. x ++ behind) (sym spelled)) (longest_found b (bs ++ behind) u e);
 }
 
-run_is : (p : ℕ → Bool) (b : ℕ) (xs behind : List ℕ) → AllByRecursion (λ x. p x ≡ true) xs → StopsAt p behind → run p b (xs ++ behind) ≡ b ∷ xs
+run_is : (p : ℕ → Bool) (b : ℕ) (xs behind : List ℕ) → AllByRecursion (λ x. p x ≡ true) xs → StopsAt p behind → byte_run p b (xs ++ behind) ≡ b ∷ xs
 run_is p b xs behind all stop = ap (λ ys. b ∷ ys) (taken_run p xs behind all stop)
 
 letters_end : (u : Token) (b : ℕ) (bs behind : List ℕ) → spelling u ≡ b ∷ bs → is_ascii_alphabetic b ≡ true → AllByRecursion (λ x. is_word_byte x ≡ true) bs → word_or_name (reserved_as (b ∷ bs)) (b ∷ bs) ≡ u → IsApart behind → Ends u behind
@@ -188,10 +188,10 @@ pub blank_writes : (b : ℕ) (text : List ℕ) (span : Span) → is_blank b ≡ 
 blank_writes b text span blank f = record { before = λ rest behind h k. let w = f.before rest behind h k in (w.0, w.1, blank_first b w.0 (text ++ behind) blank w.2) }
 
 -- for this name, of which this is true
-pub named_writes : (text n : List ℕ) (fact : List ℕ → Type 0) (span : List ℕ → Span) → fact n → Writes text (span n) → Writes text (named (λ x. under true (fact x) (span x)))
+pub named_writes : (text n : List ℕ) (fact : List ℕ → Type 0) (span : List ℕ → Span) → fact n → Writes text (span n) → Writes text (some_name (λ x. span_under true (fact x) (span x)))
 named_writes text n fact span true_of f = record { before = λ rest behind h k. let w = f.before rest behind h k in (w.0, (n, (true_of, w.1)), w.2) }
 
-pub under_writes : (text : List ℕ) (fact : Type 0) (span : Span) → fact → Writes text span → Writes text (under true fact span)
+pub under_writes : (text : List ℕ) (fact : Type 0) (span : Span) → fact → Writes text span → Writes text (span_under true fact span)
 under_writes text fact span true_of f = record { before = λ rest behind h k. let w = f.before rest behind h k in (w.0, (true_of, w.1), w.2) }
 
 pub second_writes : (text : List ℕ) (first second : Span) → Writes text second → Writes text (either first second)

@@ -14,7 +14,7 @@ use Rattle.te_reader.specs.Lexed.{reserved_as, lexed_behind, lexed}
 use Rattle.te_reader.specs.Heads.{word_first, sign_first, name_first, inner_first, bound_first, integer_first}
 use Rattle.te_reader.specs.Grammar.{spells_statements, spells_threads, spells_channels, spells_program}
 use Rattle.te_reader.specs.Text.{Text}
-use Rattle.te_reader.specs.NameReads.{place_of, declared_in, integer_of, variable_named, bound_in}
+use Rattle.te_reader.specs.NameReads.{first_place_of, declared_in, integer_read, variable_named, bound_in}
 use Rattle.te_reader.specs.ExpressionReads.{read_place, read_inner_part, read_named, read_primitive, arith_first, read_calculation, read_calculations, read_tuple, read_expression}
 use Rattle.te_reader.specs.EventReads.{read_leaf, made, read_braced, read_part, read_do, read_second, read_choose, read_try, test_first, read_condition, read_if, read_one, read_alone, read_in_do, read_in_choose, read_event}
 use Rattle.te_reader.specs.Reads.{read_sync, register_of, read_emit, read_written, read_statement, more_body, read_body, read_thread, read_new_thread, read_threads, read_names, read_channels, read_program, read_text}
@@ -37,7 +37,7 @@ exchange = record {
 }
 
 exchange_is_read : read_text exchange_text ≡ Some exchange
-unfolding reserved_as lexed_behind word_first sign_first name_first inner_first bound_first integer_first place_of declared_in integer_of variable_named read_place read_inner_part read_named read_primitive arith_first read_calculation read_calculations read_tuple read_expression read_leaf made bound_in read_braced read_part read_do read_second read_choose read_try test_first read_condition read_if read_one read_alone read_in_do read_in_choose read_event read_sync register_of read_emit read_written read_statement more_body read_body read_thread read_new_thread read_threads read_names read_channels read_program read_text
+unfolding reserved_as lexed_behind word_first sign_first name_first inner_first bound_first integer_first first_place_of declared_in integer_read variable_named read_place read_inner_part read_named read_primitive arith_first read_calculation read_calculations read_tuple read_expression read_leaf made bound_in read_braced read_part read_do read_second read_choose read_try test_first read_condition read_if read_one read_alone read_in_do read_in_choose read_event read_sync register_of read_emit read_written read_statement more_body read_body read_thread read_new_thread read_threads read_names read_channels read_program read_text
 exchange_is_read = refl
 
 pub exchange_has_its_text : Text exchange_text exchange
@@ -64,7 +64,7 @@ caught = record {
 }
 
 caught_is_read : read_text caught_text ≡ Some caught
-unfolding reserved_as lexed_behind word_first sign_first name_first inner_first bound_first integer_first place_of declared_in integer_of variable_named read_place read_inner_part read_named read_primitive arith_first read_calculation read_calculations read_tuple read_expression read_leaf made bound_in read_braced read_part read_do read_second read_choose read_try test_first read_condition read_if read_one read_alone read_in_do read_in_choose read_event read_sync register_of read_emit read_written read_statement more_body read_body read_thread read_new_thread read_threads read_names read_channels read_program read_text
+unfolding reserved_as lexed_behind word_first sign_first name_first inner_first bound_first integer_first first_place_of declared_in integer_read variable_named read_place read_inner_part read_named read_primitive arith_first read_calculation read_calculations read_tuple read_expression read_leaf made bound_in read_braced read_part read_do read_second read_choose read_try test_first read_condition read_if read_one read_alone read_in_do read_in_choose read_event read_sync register_of read_emit read_written read_statement more_body read_body read_thread read_new_thread read_threads read_names read_channels read_program read_text
 caught_is_read = refl
 
 pub caught_has_its_text : Text caught_text caught

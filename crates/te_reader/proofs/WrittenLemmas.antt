@@ -13,7 +13,7 @@ use Rattle.te_reader.specs.Tokens as tokens
 use Rattle.te_reader.specs.Tokens.{Token}
 use Rattle.te_reader.specs.Heads.{word_first, sign_first, name_first}
 use Rattle.te_reader.specs.NameReads.{Read}
-use Rattle.te_reader.specs.Reads.{Body, Bodies, changed, before_body, read_emit, read_written, read_statement, more_body, read_body}
+use Rattle.te_reader.specs.Reads.{Body, Bodies, read_changed, before_body, read_emit, read_written, read_statement, more_body, read_body}
 use Rattle.te_reader.specs.Behind.{behind_body, behind_syncs, behind_repeat}
 use Rattle.te_reader.specs.Bodies.{OnRead, AreAppended, more_behind}
 use Rattle.te_reader.specs.Written.{AreWritten, AreSyncsRead}
@@ -50,7 +50,7 @@ module _ (channels : List (List ℕ)) where
 
   more_first : (next : Bodies) (registers more : List (List ℕ)) (ts behind : List Token) (s : Statement)
       → read_written channels registers ts ≡ Some ((s, more), behind)
-      → more_body next channels registers ts ≡ changed (before_body s) (next false more behind)
+      → more_body next channels registers ts ≡ read_changed (before_body s) (next false more behind)
   unfolding more_body read_statement
   more_first next registers more ts behind s e =
       let at = at_sync registers ts ((s, more), behind) e in
@@ -58,33 +58,33 @@ module _ (channels : List (List ℕ)) where
 
   body_first : (left : ℕ) (registers more : List (List ℕ)) (ts behind : List Token) (s : Statement)
       → read_written channels registers ts ≡ Some ((s, more), behind)
-      → read_body (suc left) channels false registers ts ≡ changed (before_body s) (read_body left channels false more behind)
+      → read_body (suc left) channels false registers ts ≡ read_changed (before_body s) (read_body left channels false more behind)
   unfolding read_body
   body_first left registers more ts behind s e = rw ((at_sync registers ts ((s, more), behind) e).no_brace, more_first (read_body left channels) registers more ts behind s e) refl
 
-  before_one : (s : Statement) (o : Read Body) → changed (before_body s) o ≡ behind_body (s ∷ []) o
+  before_one : (s : Statement) (o : Read Body) → read_changed (before_body s) o ≡ behind_body (s ∷ []) o
   before_one s None = refl
   before_one s (Some b) = refl
 
   before_more : (s x : Statement) (ss : List Statement) (o : Read Body)
-      → changed (before_body s) (behind_body (x ∷ ss) o) ≡ behind_body (s ∷ x ∷ ss) o
+      → read_changed (before_body s) (behind_body (x ∷ ss) o) ≡ behind_body (s ∷ x ∷ ss) o
   before_more s x ss None = refl
   before_more s x ss (Some b) = refl
 
   -- behind one sync, the others
   others_behind : (left : ℕ) (last : List (List ℕ)) (rest : List Token) (s : Statement) (ss : List Statement) (more : List (List ℕ)) (behind : List Token)
       → AreWritten channels more behind ss last rest → length ss ≤ left
-      → changed (before_body s) (read_body left channels false more behind) ≡ behind_body (s ∷ ss) (read_body (left - length ss) channels false last rest)
+      → read_changed (before_body s) (read_body left channels false more behind) ≡ behind_body (s ∷ ss) (read_body (left - length ss) channels false last rest)
   others_behind left last rest s [] more behind h most =
       let less : left ≡ left - 0 = omega arith in
-      ap (λ r. changed (before_body s) (read_body left channels false r behind)) h.0
-      ∙ ap (λ ts. changed (before_body s) (read_body left channels false last ts)) h.1
+      ap (λ r. read_changed (before_body s) (read_body left channels false r behind)) h.0
+      ∙ ap (λ ts. read_changed (before_body s) (read_body left channels false last ts)) h.1
       ∙ before_one s (read_body left channels false last rest)
       ∙ ap (λ k. behind_body (s ∷ []) (read_body k channels false last rest)) less
   others_behind zero last rest s (x ∷ ss) more behind h most = absurd (omega arith)
   others_behind (suc left) last rest s (x ∷ ss) more behind h most =
       let less : left - length ss ≡ suc left - suc (length ss) = omega arith in
-      ap (changed (before_body s)) (body_first left more h.0 behind h.1 x h.2 ∙ others_behind left last rest x ss h.0 h.1 h.3 (omega arith))
+      ap (read_changed (before_body s)) (body_first left more h.0 behind h.1 x h.2 ∙ others_behind left last rest x ss h.0 h.1 h.3 (omega arith))
       ∙ before_more s x ss (read_body (left - length ss) channels false last rest)
       ∙ ap (λ k. behind_body (s ∷ x ∷ ss) (read_body k channels false last rest)) less
 

@@ -15,17 +15,17 @@ use Rattle.te_reader.specs.NameReads.{Read}
 use Rattle.te_terms.specs.Limits.{most_nodes, most_fresh, greatest_height}
 
 -- what is read must be what a call answers, with the tokens behind it; want of memory tells nothing
-abbrev pub Answers : {R X : Type 0} → Result R Refusal → (R → X) → Stream → Stream → Read X → Type 0
-Answers (Ok r) seen old new o = (o ≡ Some (seen r, new.tokens)) × (new.whole ≡ old.whole)
-Answers (Err faults.Refused) seen old new o = o ≡ None
-Answers (Err faults.Memory) seen old new o = Unit {0}
+abbrev pub AnswersRead : {R X : Type 0} → Result R Refusal → (R → X) → Stream → Stream → Read X → Type 0
+AnswersRead (Ok r) seen old new o = (o ≡ Some (seen r, new.tokens)) × (new.whole ≡ old.whole)
+AnswersRead (Err faults.Refused) seen old new o = o ≡ None
+AnswersRead (Err faults.Memory) seen old new o = Unit {0}
 
 -- the first node of a code, as a term
 abbrev pub leaf : Node → Term
 leaf node = term_under (node ∷ []) 0
 
 -- a code that grew
-pub record Extends (before after : List Node) : Type 0 where
+pub record CodeExtends (before after : List Node) : Type 0 where
   pub added : List Node
   pub appended : after ≡ before ++ added
 

@@ -8,7 +8,7 @@ use Rattle.te_reader.specs.declared.refusal.Refusal.{Refusal}
 use Rattle.te_reader.specs.declared.refusal.Refusal.TheVariants as faults
 use Rattle.te_reader.specs.Tokens.{Token}
 use Rattle.te_reader.specs.NameReads.{◌>>=◌, Read}
-use Rattle.te_reader.specs.Reads.{Body, read_times, changed, before_repeat, read_body, more_body}
+use Rattle.te_reader.specs.Reads.{Body, read_times, read_changed, before_repeat, read_body, more_body}
 use Rattle.te_reader.specs.Behind.{behind_body, behind_repeat}
 
 -- a fact of what was read, or nothing is read there
@@ -32,7 +32,7 @@ pub record AreAppended (channels : List (List ℕ)) (old new : List Stmt) (regis
 
 -- a repeat behind its word, behind so many other statements
 abbrev pub repeat_behind : ℕ → List (List ℕ) → List (List ℕ) → List Token → Read Body
-repeat_behind before channels registers ts = read_times ts >>= λ h. changed (before_repeat h.0) (read_body (most_statements - (before + 1)) channels true registers h.1)
+repeat_behind before channels registers ts = read_times ts >>= λ h. read_changed (before_repeat h.0) (read_body (most_statements - (before + 1)) channels true registers h.1)
 
 -- one statement, or a repeat with its syncs, behind so many others
 abbrev pub more_behind : ℕ → List (List ℕ) → List (List ℕ) → List Token → Read Body

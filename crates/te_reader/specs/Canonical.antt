@@ -9,17 +9,17 @@ use Rattle.te_terms.specs.declared.expr.Test.TheVariants as tests
 use Rattle.te_terms.specs.Expressions.{Variable, register, name, known, Primitive, int, chan, part, Calculation, one, both, Expression, whole, tuple}
 use Rattle.te_terms.specs.Terms.{Term, always, never, fresh, throw, send, recv, and_then, choose, catch, when}
 use Rattle.te_script.specs.Scripts.{Statement, sync, emit, repeat, Thread, Program}
-use Rattle.te_reader.specs.Grammar.{Standing, alone, in_do, in_choose}
+use Rattle.te_reader.specs.Grammar.{EventPlace, alone, in_do, in_choose}
 
 -- ---- names
 
 -- a name by its number; nothing where there is none, which no script has
-abbrev pub or_nothing : Option (List ℕ) → List ℕ
-or_nothing (Some n) = n
-or_nothing None = []
+abbrev pub name_or_nothing : Option (List ℕ) → List ℕ
+name_or_nothing (Some n) = n
+name_or_nothing None = []
 
 abbrev pub name_at : List (List ℕ) → ℕ → List ℕ
-name_at names place = or_nothing (slice_get names place)
+name_at names place = name_or_nothing (slice_get names place)
 
 -- the inner name of a level is `_` and the level in decimal
 abbrev pub inner_text : ℕ → List ℕ
@@ -70,28 +70,28 @@ test_text tests.Equal = codes " = "
 test_text tests.Less = codes " < "
 
 -- behind a part of a `do` further parts stand without braces of their own
-abbrev pub do_open : Standing → List ℕ
+abbrev pub do_open : EventPlace → List ℕ
 do_open in_do = []
 do_open alone = codes "do { "
 do_open in_choose = codes "do { "
 
-abbrev pub do_close : Standing → List ℕ
+abbrev pub do_close : EventPlace → List ℕ
 do_close in_do = []
 do_close alone = codes " }"
 do_close in_choose = codes " }"
 
 -- behind a bar of a `choose` further events do
-abbrev pub choose_open : Standing → List ℕ
+abbrev pub choose_open : EventPlace → List ℕ
 choose_open in_choose = []
 choose_open alone = codes "choose { "
 choose_open in_do = codes "choose { "
 
-abbrev pub choose_close : Standing → List ℕ
+abbrev pub choose_close : EventPlace → List ℕ
 choose_close in_choose = []
 choose_close alone = codes " }"
 choose_close in_do = codes " }"
 
-abbrev pub event_text : Spelling → Standing → Term → List ℕ
+abbrev pub event_text : Spelling → EventPlace → Term → List ℕ
 event_text s at (always e) = codes "always " ++ expression_text s e
 event_text s at never = codes "never"
 event_text s at fresh = codes "fresh"

@@ -9,11 +9,11 @@ use Rattle.te_reader.specs.declared.token.Word.TheVariants as words
 use Rattle.te_reader.specs.declared.token.Sign.TheVariants as signs
 use Rattle.te_reader.specs.Tokens.{Token}
 use Rattle.te_reader.specs.Heads.{word_first, sign_first, bound_first}
-use Rattle.te_reader.specs.Grammar.{Names, Standing, alone, in_do, in_choose}
+use Rattle.te_reader.specs.Grammar.{Names, EventPlace, alone, in_do, in_choose}
 use Rattle.te_reader.specs.NameReads.{◌>>=◌, Read, checked, bound_in}
 use Rattle.te_reader.specs.ExpressionReads.{read_primitive, read_expression}
 use Rattle.te_terms.specs.Limits.{most_nodes, most_fresh, greatest_height}
-use Rattle.te_reader.specs.Tallies.{Tally, with_event}
+use Rattle.te_reader.specs.Tallies.{Tally, tally_with_event}
 
 -- ---- events of one node
 
@@ -67,7 +67,7 @@ made used t ts = do
 
 -- what reads the parts of an event, behind so many nodes
 abbrev pub Parts : Type 0
-Parts = Standing → Names → Tally → List Token → Read Term
+Parts = EventPlace → Names → Tally → List Token → Read Term
 
 -- an event in braces
 unfoldable pub read_braced : Parts → Names → Tally → List Token → Read Term
@@ -84,7 +84,7 @@ read_part next s used n ts = do
   e ← next alone s used a
   b ← sign_first signs.Semicolon e.1
   more ← bound_in s n
-  f ← next in_do more (with_event used e.0) b
+  f ← next in_do more (tally_with_event used e.0) b
   made used (and_then e.0 (length s.inners) f.0) f.1
 
 -- the parts of a `do` behind its word
@@ -97,7 +97,7 @@ read_do next s used ts = do
 -- behind a bar of a `choose`, whose first event is e
 unfoldable pub read_second : Parts → Names → Tally → Term → List Token → Read Term
 read_second next s used e ts = do
-  f ← next in_choose s (with_event used e) ts
+  f ← next in_choose s (tally_with_event used e) ts
   made used (choose e f.0) f.1
 
 unfoldable pub read_choose : Parts → Names → Tally → List Token → Read Term
@@ -113,7 +113,7 @@ read_try next s used ts = do
   a ← word_first words.Catch e.1
   n ← bound_first a
   more ← bound_in s n.0
-  h ← read_braced next more (with_event used e.0) n.1
+  h ← read_braced next more (tally_with_event used e.0) n.1
   made used (catch e.0 (length s.inners) h.0) h.1
 
 abbrev pub or_less : List Token → Option (List Token) → Read Test
@@ -140,7 +140,7 @@ read_if next s used ts = do
   c ← read_condition s ts
   e ← read_braced next s used c.1
   a ← word_first words.Else e.1
-  f ← read_braced next s (with_event used e.0) a
+  f ← read_braced next s (tally_with_event used e.0) a
   made used (when c.0.0 c.0.1 c.0.2 e.0 f.0) f.1
 
 unfoldable pub read_one : Names → Tally → List Token → Read Term
@@ -194,12 +194,12 @@ read_in_choose next s used ts = do
   e ← read_alone next s used ts
   bar_or_end next s used e.0 e.1 (sign_first signs.Bar e.1)
 
-abbrev pub read_standing : Parts → Standing → Names → Tally → List Token → Read Term
+abbrev pub read_standing : Parts → EventPlace → Names → Tally → List Token → Read Term
 read_standing next alone s used ts = read_alone next s used ts
 read_standing next in_do s used ts = read_in_do next s used ts
 read_standing next in_choose s used ts = read_in_choose next s used ts
 
 -- an event in at most so many layers
-unfoldable pub read_event : ℕ → Standing → Names → Tally → List Token → Read Term
+unfoldable pub read_event : ℕ → EventPlace → Names → Tally → List Token → Read Term
 read_event zero at s used ts = None
 read_event (suc layers) at s used ts = read_standing (read_event layers) at s used ts

@@ -8,25 +8,25 @@ use Rattle.te_reader.specs.Tokens.{Token}
 use Rattle.te_reader.specs.Heads.{sign_first, name_first, inner_first, integer_first}
 use Rattle.te_reader.specs.Integers.{integer_value}
 use Rattle.te_reader.specs.Grammar.{Names}
-use Rattle.te_reader.specs.NameReads.{◌>>=◌, Read, place_of, integer_of, variable_named}
+use Rattle.te_reader.specs.NameReads.{◌>>=◌, Read, first_place_of, integer_read, variable_named}
 use Rattle.te_terms.specs.Limits.{most_atoms}
 
 -- 0, 1, 2 or 3
-abbrev pub place_in : ℤ → Option ℕ
-place_in (pos d) = if nat_le d 3 then Some d else None
-place_in (negsuc n) = None
+abbrev pub place_read : ℤ → Option ℕ
+place_read (pos d) = if nat_le d 3 then Some d else None
+place_read (negsuc n) = None
 
 unfoldable pub read_place : List Token → Read ℕ
 read_place ts = do
   d ← integer_first ts
-  place ← place_in (integer_value d.0)
+  place ← place_read (integer_value d.0)
   Some (place, d.1)
 
 -- a place of an inner name that is spelled as an INNER
 unfoldable pub read_inner_part : Names → List Token → Read Primitive
 read_inner_part s ts = do
   n ← inner_first ts
-  l ← place_of s.inners n.0
+  l ← first_place_of s.inners n.0
   behind ← sign_first signs.Dot n.1
   d ← read_place behind
   Some (part (name l) d.0, d.1)
@@ -38,7 +38,7 @@ part_or_channel s n ts (Some behind) = do
   d ← read_place behind
   Some (part x d.0, d.1)
 part_or_channel s n ts None = do
-  c ← place_of s.channels n
+  c ← first_place_of s.channels n
   Some (chan c, ts)
 
 unfoldable pub read_named : Names → List ℕ → List Token → Read Primitive
@@ -50,7 +50,7 @@ named_or_inner s ts None = read_inner_part s ts
 
 abbrev pub integer_or_name : Names → List Token → Read (List ℕ) → Read Primitive
 integer_or_name s ts (Some d) = do
-  z ← integer_of d.0
+  z ← integer_read d.0
   Some (int z, d.1)
 integer_or_name s ts None = named_or_inner s ts (name_first ts)
 
@@ -108,7 +108,7 @@ read_tuple s ts = empty_or_calculations s ts (sign_first signs.Close ts)
 
 abbrev pub inner_or_tuple : Names → List Token → Read (List ℕ) → Read Expression
 inner_or_tuple s ts (Some n) = do
-  l ← place_of s.inners n.0
+  l ← first_place_of s.inners n.0
   Some (whole (name l), n.1)
 inner_or_tuple s ts None = do
   inside ← sign_first signs.Open ts

@@ -8,31 +8,31 @@ use Rattle.te_reader.specs.declared.part.Part.{Part}
 use Rattle.te_reader.specs.declared.part.Part.TheVariants as parts
 use Rattle.te_reader.specs.Runs.{is_bound, Found, found}
 use Rattle.te_reader.specs.Tokens.{word, name, inner, integer, sign}
-use Rattle.te_reader.specs.Lexed.{lexed, headed}
+use Rattle.te_reader.specs.Lexed.{lexed, stream_headed}
 use Rattle.te_reader.specs.Spots.{Spot, Head, token, over, strange, spot, spots}
 use Rattle.te_reader.specs.Forms.{Form, form}
 
 -- a token, the end or a byte that begins none
-abbrev pub head_of : Lexeme → Head
-head_of (lexemes.Word w) = token (word w)
-head_of (lexemes.Name n) = token (name n.now)
-head_of (lexemes.Inner n) = token (inner n.now)
-head_of (lexemes.Integer n) = token (integer n.now)
-head_of (lexemes.Sign g) = token (sign g)
-head_of lexemes.End = over
-head_of (lexemes.Other b) = strange b
+abbrev pub lexeme_head : Lexeme → Head
+lexeme_head (lexemes.Word w) = token (word w)
+lexeme_head (lexemes.Name n) = token (name n.now)
+lexeme_head (lexemes.Inner n) = token (inner n.now)
+lexeme_head (lexemes.Integer n) = token (integer n.now)
+lexeme_head (lexemes.Sign g) = token (sign g)
+lexeme_head lexemes.End = over
+lexeme_head (lexemes.Other b) = strange b
 
-abbrev pub form_of : declared.Form → Form
-form_of f = form f.role f.wanted.now
+abbrev pub form_seen : declared.Form → Form
+form_seen f = form f.role f.wanted.now
 
 -- the top of a stack, and the rest
 abbrev pub PopsTop : {A : Type 0} → Option A → List A → List A → Type 0
 PopsTop (Some a) old new = old ≡ a ∷ new
 PopsTop None old new = (old ≡ []) × (new ≡ [])
 
-abbrev pub IsTop : {A : Type 0} → Option A → List A → Type 0
-IsTop {A = A} (Some a) items = (rest : List A) × (items ≡ a ∷ rest)
-IsTop None items = items ≡ []
+abbrev pub IsOnTop : {A : Type 0} → Option A → List A → Type 0
+IsOnTop {A = A} (Some a) items = (rest : List A) × (items ≡ a ∷ rest)
+IsOnTop None items = items ≡ []
 
 -- these items, the first on top of those that stood there
 abbrev pub set_top : {A : Type 0} → A → List A → List A
@@ -51,7 +51,7 @@ headed_spots (lexemes.Other b) left more = spot (strange b) left []
 
 -- what stands at the front of a text, and the bytes behind it, are the text's tokens and spots
 abbrev pub IsHeaded : Lexeme → List ℕ → List ℕ → Type 0
-IsHeaded l rest text = (headed l (lexed rest) ≡ lexed text) × (headed_spots l (length text) (spots rest) ≡ spots text)
+IsHeaded l rest text = (stream_headed l (lexed rest) ≡ lexed text) × (headed_spots l (length text) (spots rest) ≡ spots text)
 
 -- ---- places in a text
 

@@ -117,8 +117,8 @@ BeginScript rs = (more : List Role) × MakeUp (rs ++ more) (parts.Script ∷ [])
 
 -- ---- which tokens may have a role
 
-abbrev pub IsName : Spot → Type 0
-IsName s = (n : List ℕ) × (s.head ≡ token (tokens.name n))
+abbrev pub IsNameSpot : Spot → Type 0
+IsNameSpot s = (n : List ℕ) × (s.head ≡ token (tokens.name n))
 
 abbrev pub IsInnerName : Spot → Type 0
 IsInnerName s = (n : List ℕ) × (s.head ≡ token (tokens.inner n))
@@ -134,33 +134,33 @@ abbrev pub IsInt : Spot → (ℤ → Type 0) → Type 0
 IsInt s fact = (digits : List ℕ) × (s.head ≡ token (tokens.integer digits)) × fact (integer_value digits)
 
 -- a name in the place of an operand is a channel's where no `.` is behind it, else a variable's; an inner name always is
-abbrev pub Fits : Role → Spot → Type 0
-Fits (roles.Word w) s = IsWord s w
-Fits (roles.Sign g) s = IsSign s g
-Fits roles.ChannelName s = IsName s
-Fits roles.ThreadWord s = IsWord s words.Thread
-Fits roles.ThreadName s = IsName s
-Fits roles.Register s = IsName s
-Fits roles.EmitWord s = IsWord s words.Emit
-Fits roles.RepeatWord s = IsWord s words.Repeat
-Fits roles.Times s = IsInt s (λ z. Unit {0})
-Fits roles.SyncWord s = IsWord s words.Sync
-Fits roles.SyncEnd s = IsSign s signs.Semicolon
-Fits (roles.Leaf w) s = IsWord s w
-Fits roles.Fresh s = IsWord s words.Fresh
-Fits (roles.Chain w) s = IsWord s w
-Fits (roles.Branch w) s = IsWord s w
-Fits roles.OpenChain s = IsSign s signs.OpenBrace
-Fits roles.OpenBranch s = IsSign s signs.OpenBrace
-Fits roles.Close s = IsSign s signs.CloseBrace
-Fits roles.Bar s = IsSign s signs.Bar
-Fits roles.PartName s = IsName s ⊎ IsInnerName s
-Fits roles.PartEnd s = IsSign s signs.Semicolon
-Fits roles.CatchName s = IsName s ⊎ IsInnerName s
-Fits roles.Whole s = IsName s ⊎ IsInnerName s
-Fits (roles.Integer first) s = IsInt s (λ z. Unit {0})
-Fits (roles.Channel first) s = IsName s × (s.dotted ≡ false)
-Fits (roles.Variable first) s = (IsName s × (s.dotted ≡ true)) ⊎ IsInnerName s
-Fits roles.Place s = IsInt s (λ z. (d : ℕ) × (z ≡ pos d) × (d ≤ 3))
-Fits roles.TupleEnd s = IsSign s signs.Close
-Fits roles.End s = s.head ≡ over
+abbrev pub FitsRole : Role → Spot → Type 0
+FitsRole (roles.Word w) s = IsWord s w
+FitsRole (roles.Sign g) s = IsSign s g
+FitsRole roles.ChannelName s = IsNameSpot s
+FitsRole roles.ThreadWord s = IsWord s words.Thread
+FitsRole roles.ThreadName s = IsNameSpot s
+FitsRole roles.Register s = IsNameSpot s
+FitsRole roles.EmitWord s = IsWord s words.Emit
+FitsRole roles.RepeatWord s = IsWord s words.Repeat
+FitsRole roles.Times s = IsInt s (λ z. Unit {0})
+FitsRole roles.SyncWord s = IsWord s words.Sync
+FitsRole roles.SyncEnd s = IsSign s signs.Semicolon
+FitsRole (roles.Leaf w) s = IsWord s w
+FitsRole roles.Fresh s = IsWord s words.Fresh
+FitsRole (roles.Chain w) s = IsWord s w
+FitsRole (roles.Branch w) s = IsWord s w
+FitsRole roles.OpenChain s = IsSign s signs.OpenBrace
+FitsRole roles.OpenBranch s = IsSign s signs.OpenBrace
+FitsRole roles.Close s = IsSign s signs.CloseBrace
+FitsRole roles.Bar s = IsSign s signs.Bar
+FitsRole roles.PartName s = IsNameSpot s ⊎ IsInnerName s
+FitsRole roles.PartEnd s = IsSign s signs.Semicolon
+FitsRole roles.CatchName s = IsNameSpot s ⊎ IsInnerName s
+FitsRole roles.Whole s = IsNameSpot s ⊎ IsInnerName s
+FitsRole (roles.Integer first) s = IsInt s (λ z. Unit {0})
+FitsRole (roles.Channel first) s = IsNameSpot s × (s.dotted ≡ false)
+FitsRole (roles.Variable first) s = (IsNameSpot s × (s.dotted ≡ true)) ⊎ IsInnerName s
+FitsRole roles.Place s = IsInt s (λ z. (d : ℕ) × (z ≡ pos d) × (d ≤ 3))
+FitsRole roles.TupleEnd s = IsSign s signs.Close
+FitsRole roles.End s = s.head ≡ over

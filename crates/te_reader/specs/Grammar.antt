@@ -40,16 +40,16 @@ abbrev pub either : Span → Span → Span
 either first second ts rest = first ts rest ⊎ second ts rest
 
 -- for some name
-abbrev pub named : (List ℕ → Span) → Span
-named span ts rest = (n : List ℕ) × span n ts rest
+abbrev pub some_name : (List ℕ → Span) → Span
+some_name span ts rest = (n : List ℕ) × span n ts rest
 
 -- a fact, where rules are asked for
 abbrev pub Rule : Bool → Type 0 → Type 0
 Rule true fact = fact
 Rule false fact = Unit {0}
 
-abbrev pub under : Bool → Type 0 → Span → Span
-under rules fact span ts rest = Rule rules fact × span ts rest
+abbrev pub span_under : Bool → Type 0 → Span → Span
+span_under rules fact span ts rest = Rule rules fact × span ts rest
 
 -- ---- names
 
@@ -66,19 +66,19 @@ IsAt names place n = slice_get names place ≡ Some n
 abbrev pub IsNew : List ℕ → List (List ℕ) → Type 0
 IsNew n names = AllByRecursion (λ x. x ≢ n) names
 
-abbrev pub IsShort : List ℕ → Type 0
-IsShort n = length n ≤ longest_name
+abbrev pub IsShortName : List ℕ → Type 0
+IsShortName n = length n ≤ longest_name
 
 -- an inner name differs from every channel and from what is in scope
-pub record IsFree (s : Names) (n : List ℕ) : Type 0 where
-  pub short : IsShort n
+pub record IsFreeName (s : Names) (n : List ℕ) : Type 0 where
+  pub short : IsShortName n
   pub no_channel : IsNew n s.channels
   pub no_register : IsNew n s.registers
   pub no_inner : IsNew n s.inners
 
 -- a NAME or an INNER
-abbrev pub bound : List ℕ → Span
-bound n = either (is (tokens.name n)) (is (tokens.inner n))
+abbrev pub bound_name : List ℕ → Span
+bound_name n = either (is (tokens.name n)) (is (tokens.inner n))
 
 -- one name more is in scope
 abbrev pub with_inner : Names → List ℕ → Names
@@ -86,13 +86,13 @@ with_inner s n = record s { inners = s.inners ++ n ∷ [] }
 
 -- binds some inner name, with which the rest goes on
 abbrev pub binds : Bool → Names → (List ℕ → Span) → Span
-binds rules s next = named (λ n. under rules (IsFree s n) (bound n ⨟ next n))
+binds rules s next = some_name (λ n. span_under rules (IsFreeName s n) (bound_name n ⨟ next n))
 
 -- ---- expressions
 
 abbrev pub spells_variable : Bool → Names → Variable → Span
-spells_variable rules s (register r) = named (λ n. under rules (IsAt s.registers r n) (is (tokens.name n)))
-spells_variable rules s (name l) = named (λ n. under rules (IsAt s.inners l n) (bound n))
+spells_variable rules s (register r) = some_name (λ n. span_under rules (IsAt s.registers r n) (is (tokens.name n)))
+spells_variable rules s (name l) = some_name (λ n. span_under rules (IsAt s.inners l n) (bound_name n))
 spells_variable rules s (known v) = λ ts rest. ⊥
 
 -- an INT that denotes this integer
@@ -100,9 +100,9 @@ abbrev pub spells_integer : ℤ → Span
 spells_integer z ts rest = (digits : List ℕ) × (integer_value digits ≡ z) × is (tokens.integer digits) ts rest
 
 abbrev pub spells_primitive : Bool → Names → Primitive → Span
-spells_primitive rules s (int z) = under rules (fits_i64 z ≡ true) (spells_integer z)
-spells_primitive rules s (chan c) = named (λ n. under rules (IsAt s.channels c n) (is (tokens.name n)))
-spells_primitive rules s (part x d) = under true (d ≤ 3) (spells_variable rules s x ⨟ is (sign signs.Dot) ⨟ spells_integer (pos d))
+spells_primitive rules s (int z) = span_under rules (fits_i64 z ≡ true) (spells_integer z)
+spells_primitive rules s (chan c) = some_name (λ n. span_under rules (IsAt s.channels c n) (is (tokens.name n)))
+spells_primitive rules s (part x d) = span_under true (d ≤ 3) (spells_variable rules s x ⨟ is (sign signs.Dot) ⨟ spells_integer (pos d))
 
 abbrev pub arith_sign : Arith → Sign
 arith_sign ariths.Add = signs.Plus
@@ -129,24 +129,24 @@ spells_expression rules s (tuple cs) = is (sign signs.Open) ⨟ spells_inside ru
 -- ---- events
 
 -- an event stands by itself, or behind a part of a `do`, or behind a bar of a `choose`; the latter two go on to the closing brace
-pub data Standing : Type 0 where
-  alone : Standing
-  in_do : Standing
-  in_choose : Standing
+pub data EventPlace : Type 0 where
+  alone : EventPlace
+  in_do : EventPlace
+  in_choose : EventPlace
 
-abbrev pub closed : Standing → Span → Span
-closed alone event = event
-closed in_do event = event ⨟ is (sign signs.CloseBrace)
-closed in_choose event = event ⨟ is (sign signs.CloseBrace)
+abbrev pub closed_span : EventPlace → Span → Span
+closed_span alone event = event
+closed_span in_do event = event ⨟ is (sign signs.CloseBrace)
+closed_span in_choose event = event ⨟ is (sign signs.CloseBrace)
 
 -- behind a part of a `do` the parts of a further one may stand without its braces
-abbrev pub closed_do : Standing → Span → Span → Span
+abbrev pub closed_do : EventPlace → Span → Span → Span
 closed_do in_do event parts = either (event ⨟ is (sign signs.CloseBrace)) parts
 closed_do alone event parts = event
 closed_do in_choose event parts = event ⨟ is (sign signs.CloseBrace)
 
 -- behind a bar of a `choose` the events of a further one may
-abbrev pub closed_choose : Standing → Span → Span → Span
+abbrev pub closed_choose : EventPlace → Span → Span → Span
 closed_choose in_choose event events = either (event ⨟ is (sign signs.CloseBrace)) events
 closed_choose alone event events = event
 closed_choose in_do event events = event ⨟ is (sign signs.CloseBrace)
@@ -168,13 +168,13 @@ choose_event events = is (word words.Choose) ⨟ is (sign signs.OpenBrace) ⨟ e
 abbrev pub do_parts : Span → Span → Span
 do_parts event rest = is (sign signs.Arrow) ⨟ event ⨟ is (sign signs.Semicolon) ⨟ rest
 
-abbrev pub spells_event : Bool → Standing → Names → Term → Span
-spells_event rules at s (always e) = closed at (is (word words.Always) ⨟ spells_expression rules s e)
-spells_event rules at s never = closed at (is (word words.Never))
-spells_event rules at s fresh = closed at (is (word words.Fresh))
-spells_event rules at s (throw e) = closed at (is (word words.Throw) ⨟ spells_expression rules s e)
-spells_event rules at s (send p e) = closed at (is (word words.Send) ⨟ spells_primitive rules s p ⨟ spells_expression rules s e)
-spells_event rules at s (recv p) = closed at (is (word words.Recv) ⨟ spells_primitive rules s p)
+abbrev pub spells_event : Bool → EventPlace → Names → Term → Span
+spells_event rules at s (always e) = closed_span at (is (word words.Always) ⨟ spells_expression rules s e)
+spells_event rules at s never = closed_span at (is (word words.Never))
+spells_event rules at s fresh = closed_span at (is (word words.Fresh))
+spells_event rules at s (throw e) = closed_span at (is (word words.Throw) ⨟ spells_expression rules s e)
+spells_event rules at s (send p e) = closed_span at (is (word words.Send) ⨟ spells_primitive rules s p ⨟ spells_expression rules s e)
+spells_event rules at s (recv p) = closed_span at (is (word words.Recv) ⨟ spells_primitive rules s p)
 spells_event rules at s (and_then e n f) =
     closed_do at (do_event (binds rules s (λ x. do_parts (spells_event rules alone s e) (spells_event rules in_do (with_inner s x) f))))
     (binds rules s (λ x. do_parts (spells_event rules alone s e) (spells_event rules in_do (with_inner s x) f)))
@@ -182,9 +182,9 @@ spells_event rules at s (choose e f) =
     closed_choose at (choose_event (spells_event rules alone s e ⨟ is (sign signs.Bar) ⨟ spells_event rules in_choose s f))
     (spells_event rules alone s e ⨟ is (sign signs.Bar) ⨟ spells_event rules in_choose s f)
 spells_event rules at s (catch e n h) =
-    closed at (is (word words.Try) ⨟ in_braces (spells_event rules alone s e) ⨟ is (word words.Catch) ⨟ binds rules s (λ x. in_braces (spells_event rules alone (with_inner s x) h)))
+    closed_span at (is (word words.Try) ⨟ in_braces (spells_event rules alone s e) ⨟ is (word words.Catch) ⨟ binds rules s (λ x. in_braces (spells_event rules alone (with_inner s x) h)))
 spells_event rules at s (when test p q e f) =
-    closed at
+    closed_span at
     (is (word words.If) ⨟ spells_primitive rules s p ⨟ is (sign (test_sign test)) ⨟ spells_primitive rules s q ⨟ in_braces (spells_event rules alone s e) ⨟ is (word words.Else)
     ⨟ in_braces (spells_event rules alone s f))
 
@@ -197,8 +197,8 @@ written_names channels registers written = record { channels = channels; registe
 -- a sync, and what stands behind it
 abbrev pub spells_sync : Bool → List (List ℕ) → List (List ℕ) → ℕ → ℕ → Term → Span → Span
 spells_sync rules channels registers written r t rest =
-    named
-    (λ n. under rules (IsAt registers r n × IsShort n)
+    some_name
+    (λ n. span_under rules (IsAt registers r n × IsShortName n)
     (is (tokens.name n) ⨟ is (sign signs.Arrow) ⨟ is (word words.Sync) ⨟ spells_event rules alone (written_names channels registers written) t ⨟ is (sign signs.Semicolon) ⨟ rest))
 
 -- behind a statement of a repeat of which so many are still to come; behind the last one stands its brace
@@ -218,13 +218,13 @@ spells_statements rules channels registers written zero (emit e ∷ more) =
     is (word words.Emit) ⨟ spells_expression rules (written_names channels registers written) e ⨟ is (sign signs.Semicolon) ⨟ spells_statements rules channels registers written zero more
 spells_statements rules channels registers written (suc left) (emit e ∷ more) = λ ts rest. ⊥
 spells_statements rules channels registers written zero (repeat times count ∷ more) =
-    under true (0 < count)
+    span_under true (0 < count)
     (is (word words.Repeat) ⨟ spells_integer (pos times) ⨟ is (sign signs.OpenBrace) ⨟ spells_statements rules channels registers written count more)
 spells_statements rules channels registers written (suc left) (repeat times count ∷ more) = λ ts rest. ⊥
 
 abbrev pub spells_thread : Bool → List (List ℕ) → Thread → Span
 spells_thread rules channels t =
-    under rules (IsShort t.name) (is (word words.Thread) ⨟ is (tokens.name t.name) ⨟ in_braces (spells_statements rules channels t.registers 0 0 t.statements))
+    span_under rules (IsShortName t.name) (is (word words.Thread) ⨟ is (tokens.name t.name) ⨟ in_braces (spells_statements rules channels t.registers 0 0 t.statements))
 
 abbrev pub spells_threads : Bool → List (List ℕ) → List Thread → Span
 spells_threads rules channels [] = nothing
@@ -232,7 +232,7 @@ spells_threads rules channels (t ∷ more) = spells_thread rules channels t ⨟ 
 
 abbrev pub spells_names : Bool → List (List ℕ) → Span
 spells_names rules [] = nothing
-spells_names rules (n ∷ more) = under rules (IsShort n) (is (tokens.name n) ⨟ spells_names rules more)
+spells_names rules (n ∷ more) = span_under rules (IsShortName n) (is (tokens.name n) ⨟ spells_names rules more)
 
 -- a script without channels has no word for them
 abbrev pub spells_channels : Bool → List (List ℕ) → Span

@@ -85,5 +85,5 @@ TakesBytes (Some n) old new o = (o ≡ Some (n.now, new.tokens)) × (new.whole �
 TakesBytes None old new o = (o ≡ None) × (new ≡ old)
 
 -- nothing is left, and no byte that begins no token stands there
-abbrev pub IsEnd : Stream → Type 0
-IsEnd s = (s.tokens ≡ []) × (s.whole ≡ true)
+abbrev pub IsEndOfText : Stream → Type 0
+IsEndOfText s = (s.tokens ≡ []) × (s.whole ≡ true)

@@ -25,8 +25,8 @@ pub data Piece : Type 0 where
 -- ---- reserved words
 
 -- those with so many letters
-abbrev pub words_of : ℕ → List Word
-words_of n =
+abbrev pub words_so_long : ℕ → List Word
+words_so_long n =
     if n == 4 then words.Sync ∷ words.Send ∷ words.Recv ∷ words.Emit ∷ words.Else ∷ []
     else (if n == 6 then words.Thread ∷ words.Always ∷ words.Choose ∷ words.Repeat ∷ []
     else (if n == 5 then words.Never ∷ words.Throw ∷ words.Catch ∷ words.Fresh ∷ []
@@ -41,7 +41,7 @@ word_among (w ∷ ws) bytes = if bytes_eq bytes (word_spelling w) then Some w el
 
 -- the reserved word of this spelling
 unfoldable pub reserved_as : List ℕ → Option Word
-reserved_as bytes = word_among (words_of (length bytes)) bytes
+reserved_as bytes = word_among (words_so_long (length bytes)) bytes
 
 abbrev pub word_or_name : Option Word → List ℕ → Token
 word_or_name None bytes = name bytes
@@ -50,8 +50,8 @@ word_or_name (Some w) bytes = word w
 -- ---- the token at a byte
 
 -- the first byte with the run of such bytes behind it
-abbrev pub run : (ℕ → Bool) → ℕ → List ℕ → List ℕ
-run p b bs = b ∷ take (prefix_len p bs) bs
+abbrev pub byte_run : (ℕ → Bool) → ℕ → List ℕ → List ℕ
+byte_run p b bs = b ∷ take (prefix_len p bs) bs
 
 abbrev pub one_sign : ℕ → Piece
 one_sign b =
@@ -76,15 +76,15 @@ less_sign (b ∷ bs) = if b == 45 then found (sign signs.Arrow) else found (sign
 -- a `-` that a digit follows begins an integer
 abbrev pub minus_sign : List ℕ → Piece
 minus_sign [] = found (sign signs.Minus)
-minus_sign (b ∷ bs) = if is_ascii_digit b then found (integer (45 ∷ run is_ascii_digit b bs)) else found (sign signs.Minus)
+minus_sign (b ∷ bs) = if is_ascii_digit b then found (integer (45 ∷ byte_run is_ascii_digit b bs)) else found (sign signs.Minus)
 
 abbrev pub token_at : ℕ → List ℕ → Piece
 token_at b bs =
-    if is_ascii_alphabetic b then found (word_or_name (reserved_as (run is_word_byte b bs)) (run is_word_byte b bs))
-    else (if is_ascii_digit b then found (integer (run is_ascii_digit b bs))
+    if is_ascii_alphabetic b then found (word_or_name (reserved_as (byte_run is_word_byte b bs)) (byte_run is_word_byte b bs))
+    else (if is_ascii_digit b then found (integer (byte_run is_ascii_digit b bs))
     else (if b == 60 then less_sign bs
     else (if b == 45 then minus_sign bs
-    else (if b == 95 then found (inner (run is_word_byte b bs))
+    else (if b == 95 then found (inner (byte_run is_word_byte b bs))
     else one_sign b))))
 
 abbrev pub piece_at : Between → ℕ → List ℕ → Piece
@@ -119,18 +119,18 @@ abbrev pub lexed : List ℕ → Stream
 lexed text = lexed_behind in_blanks 0 text
 
 -- a token, the end or a byte that begins none, before what follows
-abbrev pub headed : Lexeme → Stream → Stream
-headed (lexemes.Word w) s = record s { tokens = word w ∷ s.tokens }
-headed (lexemes.Name n) s = record s { tokens = name n.now ∷ s.tokens }
-headed (lexemes.Inner n) s = record s { tokens = inner n.now ∷ s.tokens }
-headed (lexemes.Integer n) s = record s { tokens = integer n.now ∷ s.tokens }
-headed (lexemes.Sign g) s = record s { tokens = sign g ∷ s.tokens }
-headed lexemes.End s = record { tokens = []; whole = true }
-headed (lexemes.Other b) s = record { tokens = []; whole = false }
+abbrev pub stream_headed : Lexeme → Stream → Stream
+stream_headed (lexemes.Word w) s = record s { tokens = word w ∷ s.tokens }
+stream_headed (lexemes.Name n) s = record s { tokens = name n.now ∷ s.tokens }
+stream_headed (lexemes.Inner n) s = record s { tokens = inner n.now ∷ s.tokens }
+stream_headed (lexemes.Integer n) s = record s { tokens = integer n.now ∷ s.tokens }
+stream_headed (lexemes.Sign g) s = record s { tokens = sign g ∷ s.tokens }
+stream_headed lexemes.End s = record { tokens = []; whole = true }
+stream_headed (lexemes.Other b) s = record { tokens = []; whole = false }
 
-abbrev pub place_in : Bool → Between
-place_in true = in_comment
-place_in false = in_blanks
+abbrev pub between_place : Bool → Between
+between_place true = in_comment
+between_place false = in_blanks
 
 -- no gap stands here
 abbrev pub IsAtToken : List ℕ → Type 0

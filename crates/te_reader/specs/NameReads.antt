@@ -24,8 +24,8 @@ checked false = None
 -- ---- names and integers
 
 -- the first place of a name
-unfoldable pub place_of : List (List ℕ) → List ℕ → Option ℕ
-place_of names n = position (λ x. bytes_eq x n) names
+unfoldable pub first_place_of : List (List ℕ) → List ℕ → Option ℕ
+first_place_of names n = position (λ x. bytes_eq x n) names
 
 abbrev pub if_absent : Option ℕ → Option (Unit {0})
 if_absent None = Some tt
@@ -34,7 +34,7 @@ if_absent (Some i) = None
 -- a list with one name more, which is short and not yet among them
 unfoldable pub declared_in : ℕ → List (List ℕ) → List ℕ → Option (List (List ℕ))
 declared_in most names n = do
-  _ ← if_absent (place_of names n)
+  _ ← if_absent (first_place_of names n)
   _ ← checked (nat_lt (length names) most && nat_le (length n) longest_name)
   Some (names ++ n ∷ [])
 
@@ -42,8 +42,8 @@ declared_in most names n = do
 abbrev pub fitting : ℤ → Option ℤ
 fitting z = if fits_i64 z then Some z else None
 
-unfoldable pub integer_of : List ℕ → Option ℤ
-integer_of spelling = fitting (integer_value spelling)
+unfoldable pub integer_read : List ℕ → Option ℤ
+integer_read spelling = fitting (integer_value spelling)
 
 -- the names in scope where no inner name is
 abbrev pub names_of : List (List ℕ) → List (List ℕ) → Names
@@ -52,18 +52,18 @@ names_of channels registers = record { channels = channels; registers = register
 abbrev pub or_inner : Names → List ℕ → Option ℕ → Option Variable
 or_inner s n (Some r) = Some (register r)
 or_inner s n None = do
-  l ← place_of s.inners n
+  l ← first_place_of s.inners n
   Some (name l)
 
 -- the register of a NAME, or else its inner name
 unfoldable pub variable_named : Names → List ℕ → Option Variable
-variable_named s n = or_inner s n (place_of s.registers n)
+variable_named s n = or_inner s n (first_place_of s.registers n)
 
 -- an inner name more, where it may be bound
 unfoldable pub bound_in : Names → List ℕ → Option Names
 bound_in s n = do
-  _ ← if_absent (place_of s.channels n)
-  _ ← if_absent (place_of s.registers n)
-  _ ← if_absent (place_of s.inners n)
+  _ ← if_absent (first_place_of s.channels n)
+  _ ← if_absent (first_place_of s.registers n)
+  _ ← if_absent (first_place_of s.inners n)
   _ ← checked (nat_le (length n) longest_name)
   Some (with_inner s n)

@@ -10,7 +10,7 @@ use Rattle.te_reader.specs.Lexed.{lexed}
 use Rattle.te_reader.specs.Heads.{word_first, sign_first, name_first, integer_first}
 use Rattle.te_reader.specs.Integers.{integer_value}
 use Rattle.te_reader.specs.Grammar.{alone}
-use Rattle.te_reader.specs.NameReads.{◌>>=◌, Read, checked, place_of, if_absent, declared_in, names_of}
+use Rattle.te_reader.specs.NameReads.{◌>>=◌, Read, checked, first_place_of, if_absent, declared_in, names_of}
 use Rattle.te_reader.specs.ExpressionReads.{read_expression}
 use Rattle.te_reader.specs.Tallies.{no_node}
 use Rattle.te_reader.specs.EventReads.{read_event}
@@ -38,8 +38,8 @@ old_or_new registers n None = do
 -- the register of a name, and all registers with it
 unfoldable pub register_of : List (List ℕ) → List (List ℕ) → List ℕ → Option (ℕ × List (List ℕ))
 register_of channels registers n = do
-  _ ← if_absent (place_of channels n)
-  old_or_new registers n (place_of registers n)
+  _ ← if_absent (first_place_of channels n)
+  old_or_new registers n (first_place_of registers n)
 
 unfoldable pub read_emit : List (List ℕ) → List (List ℕ) → List Token → Read Expression
 read_emit channels registers ts = do
@@ -66,15 +66,15 @@ unfoldable pub read_statement : List (List ℕ) → List (List ℕ) → List Tok
 read_statement channels registers ts = emit_or_sync channels registers ts (word_first words.Emit ts)
 
 -- how often a repeat may be done
-abbrev pub count_in : ℤ → Option ℕ
-count_in (pos n) = if nat_le 1 n && nat_le n most_times then Some n else None
-count_in (negsuc n) = None
+abbrev pub repeats_in : ℤ → Option ℕ
+repeats_in (pos n) = if nat_le 1 n && nat_le n most_times then Some n else None
+repeats_in (negsuc n) = None
 
 -- how often a repeat is done, and its brace
 unfoldable pub read_times : List Token → Read ℕ
 read_times ts = do
   d ← integer_first ts
-  n ← count_in (integer_value d.0)
+  n ← repeats_in (integer_value d.0)
   rest ← sign_first signs.OpenBrace d.1
   Some (n, rest)
 
@@ -84,9 +84,9 @@ pub record Body : Type 0 where
   pub leading : ℕ
   pub registers : List (List ℕ)
 
-abbrev pub changed : (Body → Body) → Read Body → Read Body
-changed f None = None
-changed f (Some b) = Some (f b.0, b.1)
+abbrev pub read_changed : (Body → Body) → Read Body → Read Body
+read_changed f None = None
+read_changed f (Some b) = Some (f b.0, b.1)
 
 abbrev pub before_body : Statement → Body → Body
 before_body s b = record { statements = s ∷ b.statements; leading = 0; registers = b.registers }
@@ -106,15 +106,15 @@ abbrev pub Bodies : Type 0
 Bodies = Bool → List (List ℕ) → List Token → Read Body
 
 abbrev pub repeat_or_statement : Bodies → List (List ℕ) → List (List ℕ) → List Token → Option (List Token) → Read Body
-repeat_or_statement next channels registers ts (Some behind) = read_times behind >>= λ h. changed (before_repeat h.0) (next true registers h.1)
-repeat_or_statement next channels registers ts None = read_statement channels registers ts >>= λ s. changed (before_body s.0.0) (next false s.0.1 s.1)
+repeat_or_statement next channels registers ts (Some behind) = read_times behind >>= λ h. read_changed (before_repeat h.0) (next true registers h.1)
+repeat_or_statement next channels registers ts None = read_statement channels registers ts >>= λ s. read_changed (before_body s.0.0) (next false s.0.1 s.1)
 
 unfoldable pub more_body : Bodies → List (List ℕ) → List (List ℕ) → List Token → Read Body
 more_body next channels registers ts = repeat_or_statement next channels registers ts (word_first words.Repeat ts)
 
 abbrev pub brace_or_sync : Bodies → Statement → List (List ℕ) → List Token → Option (List Token) → Read Body
-brace_or_sync next s registers ts (Some rest) = changed (before_brace s) (next false registers rest)
-brace_or_sync next s registers ts None = changed (before_inside s) (next true registers ts)
+brace_or_sync next s registers ts (Some rest) = read_changed (before_brace s) (next false registers rest)
+brace_or_sync next s registers ts None = read_changed (before_inside s) (next true registers ts)
 
 unfoldable pub inside_body : Bodies → List (List ℕ) → List (List ℕ) → List Token → Read Body
 inside_body next channels registers ts = read_written channels registers ts >>= λ s. brace_or_sync next s.0.0 s.0.1 s.1 (sign_first signs.CloseBrace s.1)
@@ -150,7 +150,7 @@ read_thread channels ts = do
 unfoldable pub read_new_thread : List (List ℕ) → List (List ℕ) → List Token → Read (Thread × List (List ℕ))
 read_new_thread channels names ts = do
   t ← read_thread channels ts
-  _ ← if_absent (place_of names t.0.name)
+  _ ← if_absent (first_place_of names t.0.name)
   Some ((t.0, names ++ t.0.name ∷ []), t.1)
 
 -- no word `thread` stands there, or a thread and more

@@ -66,11 +66,11 @@ is_among n [] = false
 is_among n (x ∷ xs) = bytes_eq x n || is_among n xs
 
 -- the bytes of a name or an integer
-abbrev pub spelled : Head → List ℕ
-spelled (token (tokens.name n)) = n
-spelled (token (tokens.inner n)) = n
-spelled (token (tokens.integer n)) = n
-spelled _ = []
+abbrev pub head_spelled : Head → List ℕ
+head_spelled (token (tokens.name n)) = n
+head_spelled (token (tokens.inner n)) = n
+head_spelled (token (tokens.integer n)) = n
+head_spelled _ = []
 
 -- whether a rule is broken, and what the fault is then
 pub record Check : Type 0 where
@@ -112,20 +112,20 @@ too_deep c = check (nat_lt 32 (text_depth c)) (causes.Limit limits.Depth)
 -- the rules that are asked of a token, those of a lower number first, and limits in the order of their names, but the depth of an event before its nodes
 abbrev pub rules : Role → Context → Head → List Check
 rules roles.ChannelName c h =
-    check (is_among (spelled h) c.channels) causes.Twice
-    ∷ too_long (spelled h)
+    check (is_among (head_spelled h) c.channels) causes.Twice
+    ∷ too_long (head_spelled h)
     ∷ check (nat_le 256 (length c.channels)) (causes.Limit limits.Channels) ∷ []
 rules roles.ThreadWord c h = check (nat_le 64 (length c.threads)) (causes.Limit limits.Threads) ∷ []
-rules roles.ThreadName c h = check (is_among (spelled h) c.threads) causes.Twice ∷ too_long (spelled h) ∷ []
+rules roles.ThreadName c h = check (is_among (head_spelled h) c.threads) causes.Twice ∷ too_long (head_spelled h) ∷ []
 rules roles.Register c h =
-    check (is_among (spelled h) c.channels) causes.Shadow
-    ∷ too_long (spelled h)
+    check (is_among (head_spelled h) c.channels) causes.Shadow
+    ∷ too_long (head_spelled h)
     ∷ too_many_statements c
-    ∷ check (not (is_among (spelled h) c.registers) && nat_le 8 (length c.registers)) (causes.Limit limits.Registers) ∷ []
+    ∷ check (not (is_among (head_spelled h) c.registers) && nat_le 8 (length c.registers)) (causes.Limit limits.Registers) ∷ []
 rules roles.EmitWord c h = too_many_statements c ∷ []
 rules roles.RepeatWord c h = too_many_statements c ∷ []
 rules roles.Times c h =
-    check (not (fits_i64 (integer_value (spelled h)))) causes.Integer ∷ check (not (is_count (integer_value (spelled h)))) (causes.Limit limits.Repeat) ∷ []
+    check (not (fits_i64 (integer_value (head_spelled h)))) causes.Integer ∷ check (not (is_count (integer_value (head_spelled h)))) (causes.Limit limits.Repeat) ∷ []
 rules (roles.Leaf w) c h = too_deep c ∷ []
 rules roles.Fresh c h = too_deep c ∷ check (nat_le 16 c.fresh) (causes.Limit limits.Fresh) ∷ []
 rules (roles.Chain w) c h = too_deep c ∷ []
@@ -133,11 +133,11 @@ rules (roles.Branch w) c h = too_deep c ∷ []
 rules roles.SyncEnd c h =
     check (nat_lt 32 (depth_within (innermost c.braces))) (causes.Limit limits.Depth)
     ∷ check (nat_lt 4096 c.nodes) (causes.Limit limits.Nodes) ∷ []
-rules roles.PartName c h = check (may_not_be_bound c (spelled h)) causes.Shadow ∷ too_long (spelled h) ∷ []
-rules roles.CatchName c h = check (may_not_be_bound c (spelled h)) causes.Shadow ∷ too_long (spelled h) ∷ []
+rules roles.PartName c h = check (may_not_be_bound c (head_spelled h)) causes.Shadow ∷ too_long (head_spelled h) ∷ []
+rules roles.CatchName c h = check (may_not_be_bound c (head_spelled h)) causes.Shadow ∷ too_long (head_spelled h) ∷ []
 rules roles.Whole c h = check (not (is_variable c h)) causes.Unbound ∷ []
-rules (roles.Integer first) c h = check (not (fits_i64 (integer_value (spelled h)))) causes.Integer ∷ fifth first c ∷ []
-rules (roles.Channel first) c h = check (not (is_among (spelled h) c.channels)) causes.Unbound ∷ fifth first c ∷ []
+rules (roles.Integer first) c h = check (not (fits_i64 (integer_value (head_spelled h)))) causes.Integer ∷ fifth first c ∷ []
+rules (roles.Channel first) c h = check (not (is_among (head_spelled h) c.channels)) causes.Unbound ∷ fifth first c ∷ []
 rules (roles.Variable first) c h = check (not (is_variable c h)) causes.Unbound ∷ fifth first c ∷ []
 rules roles.End c h = check (nat_le (length c.threads) 0) causes.NoThread ∷ []
 rules _ c h = []
@@ -166,8 +166,8 @@ opened level c =
 abbrev pub this_level : Context → ℕ
 this_level c = (innermost c.braces).level
 
-abbrev pub with_register : List (List ℕ) → List ℕ → List (List ℕ)
-with_register registers n = if is_among n registers then registers else registers ++ n ∷ []
+abbrev pub with_named_register : List (List ℕ) → List ℕ → List (List ℕ)
+with_named_register registers n = if is_among n registers then registers else registers ++ n ∷ []
 
 -- an event reaches so deep
 abbrev pub reaching : ℕ → Brace → Brace
@@ -195,27 +195,27 @@ begun true c = record c { calculations = suc c.calculations }
 begun false c = c
 
 -- behind a token in its role
-abbrev pub after : Role → Context → Head → Context
-after roles.ChannelName c h = record c { channels = c.channels ++ spelled h ∷ [] }
-after roles.ThreadWord c h = record c { registers = []; statements = 0 }
-after roles.ThreadName c h = record c { threads = c.threads ++ spelled h ∷ [] }
-after roles.Register c h = with_statement (record c { written = spelled h })
-after roles.EmitWord c h = with_statement c
-after roles.RepeatWord c h = with_statement c
-after roles.SyncWord c h = record c { braces = whole_event ∷ []; nodes = 0; fresh = 0 }
-after roles.SyncEnd c h = record c { braces = []; registers = with_register c.registers c.written }
-after (roles.Leaf w) c h = with_node (in_innermost (reaching (this_level c)) c)
-after roles.Fresh c h = with_channel (in_innermost (reaching (this_level c)) c)
-after (roles.Branch w) c h = with_node c
-after roles.OpenChain c h = opened (this_level c) c
-after roles.OpenBranch c h = opened (suc (this_level c)) c
-after roles.Close c h = closed_brace c.braces c
-after roles.Bar c h = with_node (in_innermost behind_bar c)
-after roles.PartName c h = with_node (in_innermost behind_name (record c { bound = spelled h ∷ c.bound }))
-after roles.PartEnd c h = in_scope c.bound c
-after roles.CatchName c h = record (opened (suc (this_level c)) c) { inners = c.inners ++ spelled h ∷ [] }
-after (roles.Integer first) c h = begun first c
-after (roles.Channel first) c h = begun first c
-after (roles.Variable first) c h = begun first c
-after roles.TupleEnd c h = record c { calculations = 0 }
-after _ c h = c
+abbrev pub context_after : Role → Context → Head → Context
+context_after roles.ChannelName c h = record c { channels = c.channels ++ head_spelled h ∷ [] }
+context_after roles.ThreadWord c h = record c { registers = []; statements = 0 }
+context_after roles.ThreadName c h = record c { threads = c.threads ++ head_spelled h ∷ [] }
+context_after roles.Register c h = with_statement (record c { written = head_spelled h })
+context_after roles.EmitWord c h = with_statement c
+context_after roles.RepeatWord c h = with_statement c
+context_after roles.SyncWord c h = record c { braces = whole_event ∷ []; nodes = 0; fresh = 0 }
+context_after roles.SyncEnd c h = record c { braces = []; registers = with_named_register c.registers c.written }
+context_after (roles.Leaf w) c h = with_node (in_innermost (reaching (this_level c)) c)
+context_after roles.Fresh c h = with_channel (in_innermost (reaching (this_level c)) c)
+context_after (roles.Branch w) c h = with_node c
+context_after roles.OpenChain c h = opened (this_level c) c
+context_after roles.OpenBranch c h = opened (suc (this_level c)) c
+context_after roles.Close c h = closed_brace c.braces c
+context_after roles.Bar c h = with_node (in_innermost behind_bar c)
+context_after roles.PartName c h = with_node (in_innermost behind_name (record c { bound = head_spelled h ∷ c.bound }))
+context_after roles.PartEnd c h = in_scope c.bound c
+context_after roles.CatchName c h = record (opened (suc (this_level c)) c) { inners = c.inners ++ head_spelled h ∷ [] }
+context_after (roles.Integer first) c h = begun first c
+context_after (roles.Channel first) c h = begun first c
+context_after (roles.Variable first) c h = begun first c
+context_after roles.TupleEnd c h = record c { calculations = 0 }
+context_after _ c h = c

@@ -17,7 +17,7 @@ use Rattle.te_reader.specs.Integers.{integer_value}
 use Rattle.te_reader.specs.Heads.{word_number, sign_number}
 use Rattle.te_reader.specs.Spots.{Spot, Head, token, over, spots}
 use Rattle.te_reader.specs.Forms.{Form, form, then_also, bound_event, sync_behind, place_of_it}
-use Rattle.te_reader.specs.Rules.{Context, nothing_before, rules, first_broken, after}
+use Rattle.te_reader.specs.Rules.{Context, nothing_before, rules, first_broken, context_after}
 use Rattle.te_reader.specs.Faults.{misfit}
 use Rattle.std.specs.Prelude.{◌==◌}
 
@@ -252,7 +252,7 @@ broken_or later at (Some k) = Some (found k at)
 -- the fault at a token that has a form, or what is found behind it
 abbrev pub next_found : (List Part → Context → Option Found) → List Part → Context → Spot → Option Form → Option Found
 next_found later more c s None = Some (found (misfit s.head) s.left)
-next_found later more c s (Some f) = broken_or (later (f.wanted ++ more) (after f.role c s.head)) s.left (first_broken (rules f.role c s.head))
+next_found later more c s (Some f) = broken_or (later (f.wanted ++ more) (context_after f.role c s.head)) s.left (first_broken (rules f.role c s.head))
 
 -- the fault of these spots where these parts are wanted, or none
 unfoldable pub run : List Part → Context → List Spot → Option Found

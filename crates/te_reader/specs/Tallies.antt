@@ -22,8 +22,8 @@ abbrev pub one_channel : Tally → Tally
 one_channel u = record { nodes = suc u.nodes; fresh = suc u.fresh }
 
 -- with an event more
-abbrev pub with_event : Tally → Term → Tally
-with_event u t = record { nodes = u.nodes + node_count t; fresh = u.fresh + fresh_count t }
+abbrev pub tally_with_event : Tally → Term → Tally
+tally_with_event u t = record { nodes = u.nodes + node_count t; fresh = u.fresh + fresh_count t }
 
 -- an event still has room behind them
 abbrev pub HasRoom : Tally → Term → Type 0

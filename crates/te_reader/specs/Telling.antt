@@ -6,5 +6,5 @@ use Rattle.te_reader.specs.Runs.{Found, fault_of}
 use Rattle.te_reader.specs.Places.{fault_from, place_in}
 
 -- the fault that is found, at its place, or want of memory
-abbrev pub IsTold : List ℕ → ScriptFault → Type 0
-IsTold bytes e = (e ≡ Memory) ⊎ ((f : Found) × (fault_of bytes ≡ Some f) × (e ≡ fault_from f.cause (place_in bytes f.left)))
+abbrev pub FaultIsTold : List ℕ → ScriptFault → Type 0
+FaultIsTold bytes e = (e ≡ Memory) ⊎ ((f : Found) × (fault_of bytes ≡ Some f) × (e ≡ fault_from f.cause (place_in bytes f.left)))

@@ -1,6 +1,6 @@
 ghost use Rattle.std.specs.Prelude.{◌≡◌, ◌↔◌, ◌<◌, ◌≤◌, [], length, IsTrue};
 ghost use Rattle.te_reader.specs.ChannelIndex.{slot_behind};
-ghost use Rattle.te_reader.specs.NameReads.{place_of, declared_in};
+ghost use Rattle.te_reader.specs.NameReads.{first_place_of, declared_in};
 ghost use Rattle.te_reader.specs.Answering.{DeclaresChannel};
 ghost use Rattle.te_script.specs.Limits.{most_channels};
 
@@ -70,7 +70,7 @@ impl<'a> Channels<'a> {
 
     /// The number of a channel.
     pub fn number_of(&self, name: &[u8]) -> Option<u32>
-        ensures { result ≡ place_of self.now name.now }
+        ensures { result ≡ first_place_of self.now name.now }
     {
         let slot = self.slots[slot_of(name)];
         if slot == 0 {

@@ -2,10 +2,10 @@ ghost use Rattle.std.specs.Prelude.{◌≡◌, suc, [], ◌∷◌, ◌++◌, len
 ghost use Rattle.te_reader.specs.declared.cause.Which.TheVariants as limits;
 ghost use Rattle.te_reader.specs.declared.cause.Cause.TheVariants as causes;
 ghost use Rattle.te_reader.specs.declared.part.Role.TheVariants as roles;
-ghost use Rattle.te_reader.specs.Rules.{nothing_before, whole_event, is_variable, spelled, rules, first_broken, check, fifth, too_long, too_deep, is_count, after, innermost, depth_within, opened, closed_brace, in_innermost, reaching, behind_bar, behind_name, in_scope, this_level, with_node, with_channel, with_statement, with_register, begun};
+ghost use Rattle.te_reader.specs.Rules.{nothing_before, whole_event, is_variable, head_spelled, rules, first_broken, check, fifth, too_long, too_deep, is_count, context_after, innermost, depth_within, opened, closed_brace, in_innermost, reaching, behind_bar, behind_name, in_scope, this_level, with_node, with_channel, with_statement, with_named_register, begun};
 ghost use Rattle.te_terms.specs.Values.{fits_i64};
 ghost use Rattle.te_reader.specs.Integers.{integer_value};
-ghost use Rattle.te_reader.specs.Finding.{head_of};
+ghost use Rattle.te_reader.specs.Finding.{lexeme_head};
 
 use crate::brace::Brace;
 use crate::cause::{Cause, Which};
@@ -45,7 +45,7 @@ impl<'a> Model for Context<'a> {
 
 // The bytes of a name or an integer.
 fn spelling<'a>(lexeme: Lexeme<'a>) -> &'a [u8]
-    ensures { result.now ≡ spelled (head_of lexeme.entry) }
+    ensures { result.now ≡ head_spelled (lexeme_head lexeme.entry) }
 {
     match lexeme {
         Lexeme::Name(spelling) | Lexeme::Inner(spelling) | Lexeme::Integer(spelling) => spelling,
@@ -64,7 +64,7 @@ fn too_long(name: &[u8]) -> Option<Cause>
 }
 
 // Whether an integer is one of 64 bits.
-#[tactic(auto, unfolding(crate::specs::NameReads::integer_of))]
+#[tactic(auto, unfolding(crate::specs::NameReads::integer_read))]
 fn is_in_range(digits: &[u8]) -> bool
     ensures { result ≡ fits_i64 (integer_value digits.now) }
 {
@@ -76,7 +76,7 @@ fn is_in_range(digits: &[u8]) -> bool
 
 // How often a repeat is done: from 1 to 10,000 times.
 fn times_fault(lexeme: Lexeme<'_>) -> Option<Cause>
-    ensures { result ≡ first_broken (check (not (fits_i64 (integer_value (spelled (head_of lexeme.entry))))) causes.Integer ∷ check (not (is_count (integer_value (spelled (head_of lexeme.entry))))) (causes.Limit limits.Repeat) ∷ []) }
+    ensures { result ≡ first_broken (check (not (fits_i64 (integer_value (head_spelled (lexeme_head lexeme.entry))))) causes.Integer ∷ check (not (is_count (integer_value (head_spelled (lexeme_head lexeme.entry))))) (causes.Limit limits.Repeat) ∷ []) }
 {
     if !is_in_range(spelling(lexeme)) {
         return Some(Cause::Integer);
@@ -118,7 +118,7 @@ impl<'a> Context<'a> {
     }
 
     fn is_variable(&self, lexeme: Lexeme<'_>) -> bool
-        ensures { result ≡ is_variable self.now (head_of lexeme.entry) }
+        ensures { result ≡ is_variable self.now (lexeme_head lexeme.entry) }
     {
         match lexeme {
             Lexeme::Name(name) => self.registers.contains(name) || self.inners.contains(name),
@@ -128,7 +128,7 @@ impl<'a> Context<'a> {
     }
 
     fn channel_fault(&self, lexeme: Lexeme<'_>) -> Option<Cause>
-        ensures { result ≡ first_broken (rules roles.ChannelName self.now (head_of lexeme.entry)) }
+        ensures { result ≡ first_broken (rules roles.ChannelName self.now (lexeme_head lexeme.entry)) }
     {
         let name = spelling(lexeme);
         if self.channels.contains(name) {
@@ -144,7 +144,7 @@ impl<'a> Context<'a> {
     }
 
     fn thread_fault(&self, lexeme: Lexeme<'_>) -> Option<Cause>
-        ensures { result ≡ first_broken (rules roles.ThreadName self.now (head_of lexeme.entry)) }
+        ensures { result ≡ first_broken (rules roles.ThreadName self.now (lexeme_head lexeme.entry)) }
     {
         let name = spelling(lexeme);
         if self.threads.contains(name) {
@@ -154,7 +154,7 @@ impl<'a> Context<'a> {
     }
 
     fn register_fault(&self, lexeme: Lexeme<'_>) -> Option<Cause>
-        ensures { result ≡ first_broken (rules roles.Register self.now (head_of lexeme.entry)) }
+        ensures { result ≡ first_broken (rules roles.Register self.now (lexeme_head lexeme.entry)) }
     {
         let name = spelling(lexeme);
         if self.channels.contains(name) {
@@ -173,7 +173,7 @@ impl<'a> Context<'a> {
     }
 
     fn bound_fault(&self, lexeme: Lexeme<'_>) -> Option<Cause>
-        ensures { result ≡ first_broken (rules roles.PartName self.now (head_of lexeme.entry)) }
+        ensures { result ≡ first_broken (rules roles.PartName self.now (lexeme_head lexeme.entry)) }
     {
         let name = spelling(lexeme);
         if self.channels.contains(name)
@@ -220,7 +220,7 @@ impl<'a> Context<'a> {
     }
 
     fn integer_fault(&self, lexeme: Lexeme<'_>, first: bool) -> Option<Cause>
-        ensures { result ≡ first_broken (rules (roles.Integer first) self.now (head_of lexeme.entry)) }
+        ensures { result ≡ first_broken (rules (roles.Integer first) self.now (lexeme_head lexeme.entry)) }
     {
         if !is_in_range(spelling(lexeme)) {
             return Some(Cause::Integer);
@@ -229,7 +229,7 @@ impl<'a> Context<'a> {
     }
 
     fn operand_fault(&self, lexeme: Lexeme<'_>, first: bool) -> Option<Cause>
-        ensures { result ≡ first_broken (rules (roles.Channel first) self.now (head_of lexeme.entry)) }
+        ensures { result ≡ first_broken (rules (roles.Channel first) self.now (lexeme_head lexeme.entry)) }
     {
         if !self.channels.contains(spelling(lexeme)) {
             return Some(Cause::Unbound);
@@ -238,7 +238,7 @@ impl<'a> Context<'a> {
     }
 
     fn variable_fault(&self, lexeme: Lexeme<'_>, first: bool) -> Option<Cause>
-        ensures { result ≡ first_broken (rules (roles.Variable first) self.now (head_of lexeme.entry)) }
+        ensures { result ≡ first_broken (rules (roles.Variable first) self.now (lexeme_head lexeme.entry)) }
     {
         if !self.is_variable(lexeme) {
             return Some(Cause::Unbound);
@@ -248,7 +248,7 @@ impl<'a> Context<'a> {
 
     /// The first rule that a token breaks in its role.
     pub fn fault(&self, role: Role, lexeme: Lexeme<'_>) -> Option<Cause>
-        ensures { result ≡ first_broken (rules role self.now (head_of lexeme.entry)) }
+        ensures { result ≡ first_broken (rules role self.now (lexeme_head lexeme.entry)) }
     {
         match role {
             Role::ChannelName => self.channel_fault(lexeme),
@@ -353,7 +353,7 @@ impl<'a> Context<'a> {
     }
 
     fn end_sync(&mut self) -> Result<(), NoMemory>
-        ensures { OnOk result (self.new ≡ record self.old { braces = []; registers = with_register self.old.registers self.old.written }) }
+        ensures { OnOk result (self.new ≡ record self.old { braces = []; registers = with_named_register self.old.registers self.old.written }) }
     {
         self.braces.clear();
         if self.registers.contains(self.written) {
@@ -461,7 +461,7 @@ impl<'a> Context<'a> {
 
     /// Goes on behind a token in its role.
     pub fn pass(&mut self, role: Role, lexeme: Lexeme<'a>) -> Result<(), NoMemory>
-        ensures { OnOk result (self.new ≡ after role self.old (head_of lexeme.entry)) }
+        ensures { OnOk result (self.new ≡ context_after role self.old (lexeme_head lexeme.entry)) }
     {
         let name = spelling(lexeme);
         match role {

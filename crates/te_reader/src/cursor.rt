@@ -1,5 +1,5 @@
 ghost use Rattle.std.specs.Prelude.{◌≡◌, ◌↔◌, ◌<◌, true, length, IsTrue, IfSome};
-ghost use Rattle.te_reader.specs.Heads.{word_first, sign_first, name_first, inner_first, bound_first, integer_first, Takes, TakesBytes, IsEnd};
+ghost use Rattle.te_reader.specs.Heads.{word_first, sign_first, name_first, inner_first, bound_first, integer_first, Takes, TakesBytes, IsEndOfText};
 ghost use Rattle.te_reader.specs.Lexed.{lexed};
 ghost use Rattle.te_reader.specs.Tokens.{AreTokens};
 ghost use Rattle.te_script.specs.Names.{IsIdentifier};
@@ -16,14 +16,14 @@ pub struct Cursor<'a> {
 }
 
 impl<'a> Model for Cursor<'a> {
-    ghost use Rattle.te_reader.specs.Lexed.{Stream, lexed, headed, HasByte};
+    ghost use Rattle.te_reader.specs.Lexed.{Stream, lexed, stream_headed, HasByte};
     ghost use Rattle.te_reader.specs.Tokens.{AreTokens};
 
     ghost Value = { Stream };
 
-    ghost view = { λ c. headed c.head (lexed c.rest.now) };
+    ghost view = { λ c. stream_headed c.head (lexed c.rest.now) };
 
-    ghost invariant = { λ c. HasByte c.head × AreTokens (headed c.head (lexed c.rest.now)).tokens };
+    ghost invariant = { λ c. HasByte c.head × AreTokens (stream_headed c.head (lexed c.rest.now)).tokens };
 }
 
 impl<'a> Cursor<'a> {
@@ -47,7 +47,7 @@ impl<'a> Cursor<'a> {
 
     /// Whether the text's end stands here.
     pub fn is_at_end(&self) -> bool
-        ensures { IsTrue result ↔ IsEnd self.now }
+        ensures { IsTrue result ↔ IsEndOfText self.now }
     {
         match self.head {
             Lexeme::End => true,

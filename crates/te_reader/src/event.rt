@@ -2,7 +2,7 @@ ghost use Rattle.std.specs.Prelude.{◌≡◌, ◌+◌, ◌<◌, ◌≤◌, leng
 ghost use Rattle.te_reader.specs.Grammar.{alone, in_do, in_choose};
 ghost use Rattle.te_reader.specs.Tallies.{tally};
 ghost use Rattle.te_reader.specs.EventReads.{read_event, read_braced, read_part, read_do, read_choose, read_try, read_if};
-ghost use Rattle.te_reader.specs.Answering.{AnswersEvent, Extends};
+ghost use Rattle.te_reader.specs.Answering.{AnswersEvent, CodeExtends};
 ghost use Rattle.te_terms.specs.Limits.{greatest_height};
 
 use crate::cursor::Cursor;
@@ -25,7 +25,7 @@ pub fn read_event(
     ensures event { AnswersEvent result (length names.old.inners) code.old code.new cursor.old cursor.new
         (read_event layers alone names.old (tally code.old) cursor.old.tokens) }
     ensures names { OnOk result (names.new ≡ names.old) }
-    ensures extends { Extends code.old code.new }
+    ensures extends { CodeExtends code.old code.new }
 {
     if layers == 0 {
         return Err(Refusal::Refused);
@@ -58,7 +58,7 @@ fn read_braced(
     ensures event { AnswersEvent result (length names.old.inners) code.old code.new cursor.old cursor.new
         (read_braced (read_event layers) names.old (tally code.old) cursor.old.tokens) }
     ensures names { OnOk result (names.new ≡ names.old) }
-    ensures extends { Extends code.old code.new }
+    ensures extends { CodeExtends code.old code.new }
 {
     if !cursor.take_sign(Sign::OpenBrace) {
         return Err(Refusal::Refused);
@@ -83,7 +83,7 @@ fn read_do(
     ensures event { AnswersEvent result (length names.old.inners) code.old code.new cursor.old cursor.new
         (read_do (read_event layers) names.old (tally code.old) cursor.old.tokens) }
     ensures names { OnOk result (names.new ≡ names.old) }
-    ensures extends { Extends code.old code.new }
+    ensures extends { CodeExtends code.old code.new }
 {
     if !cursor.take_sign(Sign::OpenBrace) {
         return Err(Refusal::Refused);
@@ -110,7 +110,7 @@ fn read_part(
     ensures event { AnswersEvent result (length names.old.inners) code.old code.new cursor.old cursor.new
         (read_part (read_event layers) names.old (tally code.old) name.now cursor.old.tokens) }
     ensures names { OnOk result (names.new ≡ names.old) }
-    ensures extends { Extends code.old code.new }
+    ensures extends { CodeExtends code.old code.new }
 {
     if !cursor.take_sign(Sign::Arrow) {
         return Err(Refusal::Refused);
@@ -138,7 +138,7 @@ fn read_rest(
     ensures event { AnswersEvent result (length names.old.inners) code.old code.new cursor.old cursor.new
         (read_event layers in_do names.old (tally code.old) cursor.old.tokens) }
     ensures names { OnOk result (names.new ≡ names.old) }
-    ensures extends { Extends code.old code.new }
+    ensures extends { CodeExtends code.old code.new }
 {
     if layers == 0 {
         return Err(Refusal::Refused);
@@ -166,7 +166,7 @@ fn read_choose(
     ensures event { AnswersEvent result (length names.old.inners) code.old code.new cursor.old cursor.new
         (read_choose (read_event layers) names.old (tally code.old) cursor.old.tokens) }
     ensures names { OnOk result (names.new ≡ names.old) }
-    ensures extends { Extends code.old code.new }
+    ensures extends { CodeExtends code.old code.new }
 {
     if !cursor.take_sign(Sign::OpenBrace) {
         return Err(Refusal::Refused);
@@ -192,7 +192,7 @@ fn read_more(
     ensures event { AnswersEvent result (length names.old.inners) code.old code.new cursor.old cursor.new
         (read_event layers in_choose names.old (tally code.old) cursor.old.tokens) }
     ensures names { OnOk result (names.new ≡ names.old) }
-    ensures extends { Extends code.old code.new }
+    ensures extends { CodeExtends code.old code.new }
 {
     if layers == 0 {
         return Err(Refusal::Refused);
@@ -221,7 +221,7 @@ fn read_try(
     ensures event { AnswersEvent result (length names.old.inners) code.old code.new cursor.old cursor.new
         (read_try (read_event layers) names.old (tally code.old) cursor.old.tokens) }
     ensures names { OnOk result (names.new ≡ names.old) }
-    ensures extends { Extends code.old code.new }
+    ensures extends { CodeExtends code.old code.new }
 {
     let first = read_braced(cursor, names, code, layers)?;
     if !cursor.take_word(Word::Catch) {
@@ -249,7 +249,7 @@ fn read_if(
     ensures event { AnswersEvent result (length names.old.inners) code.old code.new cursor.old cursor.new
         (read_if (read_event layers) names.old (tally code.old) cursor.old.tokens) }
     ensures names { OnOk result (names.new ≡ names.old) }
-    ensures extends { Extends code.old code.new }
+    ensures extends { CodeExtends code.old code.new }
 {
     let condition = read_condition(cursor, names)?;
     let first = read_braced(cursor, names, code, layers)?;

@@ -2,7 +2,7 @@ ghost use Rattle.std.specs.Prelude.{◌≡◌, ◌≤◌, length, map};
 ghost use Rattle.te_terms.specs.Codes.{primitive_of, calculation_of, expression_of};
 ghost use Rattle.te_reader.specs.Integers.{integer_value};
 ghost use Rattle.te_reader.specs.ExpressionReads.{read_place, read_inner_part, read_named, read_primitive, arith_first, read_calculation, read_calculations, read_tuple, read_expression};
-ghost use Rattle.te_reader.specs.Answering.{Answers, TakesSome};
+ghost use Rattle.te_reader.specs.Answering.{AnswersRead, TakesSome};
 ghost use Rattle.te_terms.specs.Limits.{most_atoms};
 
 use crate::cursor::Cursor;
@@ -13,9 +13,9 @@ use crate::token::Sign;
 use te_terms::{Arith, Calc, Calcs, Expr, MOST_ATOMS, Prim, Var};
 
 // A place of a value: 0, 1, 2 or 3.
-#[tactic(auto, unfolding(crate::specs::ExpressionReads::read_place, crate::specs::NameReads::integer_of))]
+#[tactic(auto, unfolding(crate::specs::ExpressionReads::read_place, crate::specs::NameReads::integer_read))]
 fn read_place(cursor: &mut Cursor<'_>) -> Result<u8, Refusal>
-    ensures { Answers result (λ d. d) cursor.old cursor.new (read_place cursor.old.tokens) }
+    ensures { AnswersRead result (λ d. d) cursor.old cursor.new (read_place cursor.old.tokens) }
 {
     let Some(digits) = cursor.take_integer() else {
         return Err(Refusal::Refused);
@@ -32,7 +32,7 @@ fn read_place(cursor: &mut Cursor<'_>) -> Result<u8, Refusal>
 // A place of an inner name whose spelling begins with `_`.
 #[tactic(auto, unfolding(crate::specs::ExpressionReads::read_inner_part))]
 fn read_inner_part(cursor: &mut Cursor<'_>, names: &Names<'_, '_>) -> Result<Prim, Refusal>
-    ensures { Answers result primitive_of cursor.old cursor.new (read_inner_part names.now cursor.old.tokens) }
+    ensures { AnswersRead result primitive_of cursor.old cursor.new (read_inner_part names.now cursor.old.tokens) }
 {
     let Some(name) = cursor.take_inner() else {
         return Err(Refusal::Refused);
@@ -50,7 +50,7 @@ fn read_inner_part(cursor: &mut Cursor<'_>, names: &Names<'_, '_>) -> Result<Pri
 // Behind a name: a place of its variable, or else the name is a channel's.
 #[tactic(auto, unfolding(crate::specs::ExpressionReads::read_named))]
 fn read_named(cursor: &mut Cursor<'_>, names: &Names<'_, '_>, name: &[u8]) -> Result<Prim, Refusal>
-    ensures { Answers result primitive_of cursor.old cursor.new (read_named names.now name.now cursor.old.tokens) }
+    ensures { AnswersRead result primitive_of cursor.old cursor.new (read_named names.now name.now cursor.old.tokens) }
 {
     if !cursor.take_sign(Sign::Dot) {
         return match names.channel(name) {
@@ -68,7 +68,7 @@ fn read_named(cursor: &mut Cursor<'_>, names: &Names<'_, '_>, name: &[u8]) -> Re
 /// Reads an integer, a channel, or a place of a variable.
 #[tactic(auto, unfolding(crate::specs::ExpressionReads::read_primitive))]
 pub fn read_primitive(cursor: &mut Cursor<'_>, names: &Names<'_, '_>) -> Result<Prim, Refusal>
-    ensures { Answers result primitive_of cursor.old cursor.new (read_primitive names.now cursor.old.tokens) }
+    ensures { AnswersRead result primitive_of cursor.old cursor.new (read_primitive names.now cursor.old.tokens) }
 {
     if let Some(digits) = cursor.take_integer() {
         return match integer(digits) {
@@ -101,7 +101,7 @@ fn take_arith(cursor: &mut Cursor<'_>) -> Option<Arith>
 // One primitive, or a sum, difference or product of two.
 #[tactic(auto, unfolding(crate::specs::ExpressionReads::read_calculation))]
 fn read_calculation(cursor: &mut Cursor<'_>, names: &Names<'_, '_>) -> Result<Calc, Refusal>
-    ensures { Answers result calculation_of cursor.old cursor.new (read_calculation names.now cursor.old.tokens) }
+    ensures { AnswersRead result calculation_of cursor.old cursor.new (read_calculation names.now cursor.old.tokens) }
 {
     let left = read_primitive(cursor, names)?;
     let Some(arith) = take_arith(cursor) else {
@@ -113,7 +113,7 @@ fn read_calculation(cursor: &mut Cursor<'_>, names: &Names<'_, '_>) -> Result<Ca
 
 // The calculations of a tuple, up to its end; there is at least one.
 fn read_calculations(cursor: &mut Cursor<'_>, names: &Names<'_, '_>) -> Result<Calcs, Refusal>
-    ensures { Answers result (λ cs. map calculation_of cs) cursor.old cursor.new (read_calculations most_atoms names.now cursor.old.tokens) }
+    ensures { AnswersRead result (λ cs. map calculation_of cs) cursor.old cursor.new (read_calculations most_atoms names.now cursor.old.tokens) }
 {
     let mut list = [Calc::One(Prim::Int(0)); MOST_ATOMS];
     for i in 0..MOST_ATOMS {
@@ -135,7 +135,7 @@ fn read_calculations(cursor: &mut Cursor<'_>, names: &Names<'_, '_>) -> Result<C
 // The inside of a tuple, up to its end.
 #[tactic(auto, unfolding(crate::specs::ExpressionReads::read_tuple))]
 fn read_tuple(cursor: &mut Cursor<'_>, names: &Names<'_, '_>) -> Result<Calcs, Refusal>
-    ensures { Answers result (λ cs. map calculation_of cs) cursor.old cursor.new (read_tuple names.now cursor.old.tokens) }
+    ensures { AnswersRead result (λ cs. map calculation_of cs) cursor.old cursor.new (read_tuple names.now cursor.old.tokens) }
 {
     if !cursor.take_sign(Sign::Close) {
         return read_calculations(cursor, names);
@@ -149,7 +149,7 @@ fn read_tuple(cursor: &mut Cursor<'_>, names: &Names<'_, '_>) -> Result<Calcs, R
 /// Reads a whole variable or a tuple.
 #[tactic(auto, unfolding(crate::specs::ExpressionReads::read_expression))]
 pub fn read_expression(cursor: &mut Cursor<'_>, names: &Names<'_, '_>) -> Result<Expr, Refusal>
-    ensures { Answers result expression_of cursor.old cursor.new (read_expression names.now cursor.old.tokens) }
+    ensures { AnswersRead result expression_of cursor.old cursor.new (read_expression names.now cursor.old.tokens) }
 {
     if let Some(name) = cursor.take_name() {
         return match names.variable(name) {

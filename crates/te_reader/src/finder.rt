@@ -5,7 +5,7 @@ ghost use Rattle.te_reader.specs.Spots.{spots};
 ghost use Rattle.te_reader.specs.Rules.{nothing_before};
 ghost use Rattle.te_reader.specs.Faults.{misfit};
 ghost use Rattle.te_reader.specs.Runs.{pick, run, fault_of};
-ghost use Rattle.te_reader.specs.Finding.{head_of, is_end, is_last, IsPickedAs, found_of};
+ghost use Rattle.te_reader.specs.Finding.{lexeme_head, is_end, is_last, IsPickedAs, found_of};
 
 use crate::cause::{Cause, Which};
 use crate::context::Context;
@@ -26,7 +26,7 @@ pub struct Found {
 
 // What it is called where no role fits.
 fn misfit(lexeme: Lexeme<'_>) -> Cause
-    ensures { result ≡ misfit (head_of lexeme.entry) }
+    ensures { result ≡ misfit (lexeme_head lexeme.entry) }
 {
     match lexeme {
         Lexeme::Other(b) => {
@@ -42,7 +42,7 @@ fn misfit(lexeme: Lexeme<'_>) -> Cause
 
 // Whether nothing stands behind it.
 fn is_end(lexeme: Lexeme<'_>) -> bool
-    ensures { result ≡ is_end (head_of lexeme.entry) }
+    ensures { result ≡ is_end (lexeme_head lexeme.entry) }
 {
     match lexeme {
         Lexeme::End | Lexeme::Other(_) => true,
@@ -52,7 +52,7 @@ fn is_end(lexeme: Lexeme<'_>) -> bool
 
 // Whether it is the last event behind the parts of a `do`.
 fn is_last(part: Part, lexeme: Lexeme<'_>) -> bool
-    ensures { result ≡ is_last part (head_of lexeme.entry) }
+    ensures { result ≡ is_last part (lexeme_head lexeme.entry) }
 {
     match part {
         Part::Parts => !is_bound(lexeme),
@@ -67,7 +67,7 @@ fn next_form(
     lexeme: Lexeme<'_>,
     dotted: bool,
 ) -> Result<Option<Form>, NoMemory>
-    ensures { IfOk result (λ o. IsPickedAs o wanted.old wanted.new (pick part (head_of lexeme.entry) dotted)) }
+    ensures { IfOk result (λ o. IsPickedAs o wanted.old wanted.new (pick part (lexeme_head lexeme.entry) dotted)) }
 {
     if is_last(part, lexeme) {
         wanted.push(Part::Only(Role::Close))?;

@@ -4,7 +4,7 @@ ghost use Rattle.te_reader.specs.declared.part.Part.TheVariants.{Behind};
 ghost use Rattle.te_reader.specs.Integers.{integer_value};
 ghost use Rattle.te_reader.specs.Heads.{word_number, sign_number};
 ghost use Rattle.te_reader.specs.Runs.{script_form, threads_form, channels_form, statements_form, sync_form, syncs_form, event_form, part_form, bars_form, expression_form, inside_form, operand_form, behind_form, further_form, test_form, is_word, is_sign, is_bound, is_small, is_place, fits, alone_form, pick_plain};
-ghost use Rattle.te_reader.specs.Finding.{head_of, form_of};
+ghost use Rattle.te_reader.specs.Finding.{lexeme_head, form_seen};
 
 use crate::integer::integer;
 use crate::part::{Part, Role};
@@ -18,7 +18,7 @@ pub struct Form {
 }
 
 fn threads_form(lexeme: Lexeme<'_>) -> Option<Form>
-    ensures { option_map form_of result ≡ threads_form (head_of lexeme.entry) }
+    ensures { option_map form_seen result ≡ threads_form (lexeme_head lexeme.entry) }
 {
     match lexeme {
         Lexeme::Word(Word::Thread) => Some(Form {
@@ -39,7 +39,7 @@ fn threads_form(lexeme: Lexeme<'_>) -> Option<Form>
 }
 
 fn script_form(lexeme: Lexeme<'_>) -> Option<Form>
-    ensures { option_map form_of result ≡ script_form (head_of lexeme.entry) }
+    ensures { option_map form_seen result ≡ script_form (lexeme_head lexeme.entry) }
 {
     match lexeme {
         Lexeme::Word(Word::Channels) => Some(Form {
@@ -51,7 +51,7 @@ fn script_form(lexeme: Lexeme<'_>) -> Option<Form>
 }
 
 fn channels_form(lexeme: Lexeme<'_>) -> Option<Form>
-    ensures { option_map form_of result ≡ channels_form (head_of lexeme.entry) }
+    ensures { option_map form_seen result ≡ channels_form (lexeme_head lexeme.entry) }
 {
     match lexeme {
         Lexeme::Name(_) => Some(Form {
@@ -67,7 +67,7 @@ fn channels_form(lexeme: Lexeme<'_>) -> Option<Form>
 }
 
 fn statements_form(lexeme: Lexeme<'_>) -> Option<Form>
-    ensures { option_map form_of result ≡ statements_form (head_of lexeme.entry) }
+    ensures { option_map form_seen result ≡ statements_form (lexeme_head lexeme.entry) }
 {
     match lexeme {
         Lexeme::Name(_) => Some(Form {
@@ -107,7 +107,7 @@ fn statements_form(lexeme: Lexeme<'_>) -> Option<Form>
 }
 
 fn sync_form(lexeme: Lexeme<'_>) -> Option<Form>
-    ensures { option_map form_of result ≡ sync_form (head_of lexeme.entry) }
+    ensures { option_map form_seen result ≡ sync_form (lexeme_head lexeme.entry) }
 {
     match lexeme {
         Lexeme::Name(_) => Some(Form {
@@ -124,7 +124,7 @@ fn sync_form(lexeme: Lexeme<'_>) -> Option<Form>
 }
 
 fn syncs_form(lexeme: Lexeme<'_>) -> Option<Form>
-    ensures { option_map form_of result ≡ syncs_form (head_of lexeme.entry) }
+    ensures { option_map form_seen result ≡ syncs_form (lexeme_head lexeme.entry) }
 {
     match lexeme {
         Lexeme::Name(_) => Some(Form {
@@ -146,7 +146,7 @@ fn syncs_form(lexeme: Lexeme<'_>) -> Option<Form>
 }
 
 fn event_form(lexeme: Lexeme<'_>) -> Option<Form>
-    ensures { option_map form_of result ≡ event_form (head_of lexeme.entry) }
+    ensures { option_map form_seen result ≡ event_form (lexeme_head lexeme.entry) }
 {
     match lexeme {
         Lexeme::Word(Word::Always) => Some(Form {
@@ -227,7 +227,7 @@ fn event_form(lexeme: Lexeme<'_>) -> Option<Form>
 }
 
 fn bars_form(lexeme: Lexeme<'_>) -> Option<Form>
-    ensures { option_map form_of result ≡ bars_form (head_of lexeme.entry) }
+    ensures { option_map form_seen result ≡ bars_form (lexeme_head lexeme.entry) }
 {
     match lexeme {
         Lexeme::Sign(Sign::Bar) => Some(Form {
@@ -243,7 +243,7 @@ fn bars_form(lexeme: Lexeme<'_>) -> Option<Form>
 }
 
 fn expression_form(lexeme: Lexeme<'_>) -> Option<Form>
-    ensures { option_map form_of result ≡ expression_form (head_of lexeme.entry) }
+    ensures { option_map form_seen result ≡ expression_form (lexeme_head lexeme.entry) }
 {
     match lexeme {
         Lexeme::Name(_) | Lexeme::Inner(_) => Some(Form {
@@ -259,7 +259,7 @@ fn expression_form(lexeme: Lexeme<'_>) -> Option<Form>
 }
 
 fn calculation_form(lexeme: Lexeme<'_>, dotted: bool) -> Option<Form>
-    ensures { option_map form_of result ≡ operand_form true (Behind ∷ []) (head_of lexeme.entry) dotted }
+    ensures { option_map form_seen result ≡ operand_form true (Behind ∷ []) (lexeme_head lexeme.entry) dotted }
 {
     match lexeme {
         Lexeme::Integer(_) => Some(Form {
@@ -283,7 +283,7 @@ fn calculation_form(lexeme: Lexeme<'_>, dotted: bool) -> Option<Form>
 }
 
 fn operand_form(lexeme: Lexeme<'_>, dotted: bool) -> Option<Form>
-    ensures { option_map form_of result ≡ operand_form false [] (head_of lexeme.entry) dotted }
+    ensures { option_map form_seen result ≡ operand_form false [] (lexeme_head lexeme.entry) dotted }
 {
     match lexeme {
         Lexeme::Integer(_) => Some(Form {
@@ -303,7 +303,7 @@ fn operand_form(lexeme: Lexeme<'_>, dotted: bool) -> Option<Form>
 }
 
 fn further_form(lexeme: Lexeme<'_>) -> Option<Form>
-    ensures { option_map form_of result ≡ further_form (head_of lexeme.entry) }
+    ensures { option_map form_seen result ≡ further_form (lexeme_head lexeme.entry) }
 {
     match lexeme {
         Lexeme::Sign(Sign::Comma) => Some(Form {
@@ -319,7 +319,7 @@ fn further_form(lexeme: Lexeme<'_>) -> Option<Form>
 }
 
 fn behind_form(lexeme: Lexeme<'_>) -> Option<Form>
-    ensures { option_map form_of result ≡ behind_form (head_of lexeme.entry) }
+    ensures { option_map form_seen result ≡ behind_form (lexeme_head lexeme.entry) }
 {
     match lexeme {
         Lexeme::Sign(Sign::Plus) => Some(Form {
@@ -339,7 +339,7 @@ fn behind_form(lexeme: Lexeme<'_>) -> Option<Form>
 }
 
 fn inside_form(lexeme: Lexeme<'_>, dotted: bool) -> Option<Form>
-    ensures { option_map form_of result ≡ inside_form (head_of lexeme.entry) dotted }
+    ensures { option_map form_seen result ≡ inside_form (lexeme_head lexeme.entry) dotted }
 {
     match lexeme {
         Lexeme::Sign(Sign::Close) => Some(Form {
@@ -351,7 +351,7 @@ fn inside_form(lexeme: Lexeme<'_>, dotted: bool) -> Option<Form>
 }
 
 fn test_form(lexeme: Lexeme<'_>) -> Option<Form>
-    ensures { option_map form_of result ≡ test_form (head_of lexeme.entry) }
+    ensures { option_map form_seen result ≡ test_form (lexeme_head lexeme.entry) }
 {
     match lexeme {
         Lexeme::Sign(Sign::Equal) => Some(Form {
@@ -367,7 +367,7 @@ fn test_form(lexeme: Lexeme<'_>) -> Option<Form>
 }
 
 fn part_form(lexeme: Lexeme<'_>) -> Option<Form>
-    ensures { option_map form_of result ≡ part_form (head_of lexeme.entry) }
+    ensures { option_map form_seen result ≡ part_form (lexeme_head lexeme.entry) }
 {
     if !is_bound(lexeme) {
         return None;
@@ -384,7 +384,7 @@ fn part_form(lexeme: Lexeme<'_>) -> Option<Form>
 }
 
 fn is_word(word: Word, lexeme: Lexeme<'_>) -> bool
-    ensures { result ≡ is_word word (head_of lexeme.entry) }
+    ensures { result ≡ is_word word (lexeme_head lexeme.entry) }
 {
     match lexeme {
         Lexeme::Word(found) => is_same_word(word, found),
@@ -393,7 +393,7 @@ fn is_word(word: Word, lexeme: Lexeme<'_>) -> bool
 }
 
 fn is_sign(sign: Sign, lexeme: Lexeme<'_>) -> bool
-    ensures { result ≡ is_sign sign (head_of lexeme.entry) }
+    ensures { result ≡ is_sign sign (lexeme_head lexeme.entry) }
 {
     match lexeme {
         Lexeme::Sign(found) => is_same_sign(sign, found),
@@ -403,7 +403,7 @@ fn is_sign(sign: Sign, lexeme: Lexeme<'_>) -> bool
 
 /// Whether it is a name or an inner name.
 pub fn is_bound(lexeme: Lexeme<'_>) -> bool
-    ensures { result ≡ is_bound (head_of lexeme.entry) }
+    ensures { result ≡ is_bound (lexeme_head lexeme.entry) }
 {
     match lexeme {
         Lexeme::Name(_) | Lexeme::Inner(_) => true,
@@ -412,7 +412,7 @@ pub fn is_bound(lexeme: Lexeme<'_>) -> bool
 }
 
 // 0, 1, 2 or 3.
-#[tactic(auto, unfolding(crate::specs::NameReads::integer_of))]
+#[tactic(auto, unfolding(crate::specs::NameReads::integer_read))]
 fn is_small(digits: &[u8]) -> bool
     ensures { result ≡ is_small (integer_value digits.now) }
 {
@@ -426,7 +426,7 @@ fn is_small(digits: &[u8]) -> bool
 }
 
 fn is_place(lexeme: Lexeme<'_>) -> bool
-    ensures { result ≡ is_place (head_of lexeme.entry) }
+    ensures { result ≡ is_place (lexeme_head lexeme.entry) }
 {
     match lexeme {
         Lexeme::Integer(digits) => is_small(digits),
@@ -436,7 +436,7 @@ fn is_place(lexeme: Lexeme<'_>) -> bool
 
 // Whether a token may have a role that stands alone.
 fn fits(role: Role, lexeme: Lexeme<'_>, dotted: bool) -> bool
-    ensures { result ≡ fits role (head_of lexeme.entry) dotted }
+    ensures { result ≡ fits role (lexeme_head lexeme.entry) dotted }
 {
     match role {
         Role::Word(w) | Role::Leaf(w) | Role::Chain(w) | Role::Branch(w) => is_word(w, lexeme),
@@ -479,7 +479,7 @@ fn fits(role: Role, lexeme: Lexeme<'_>, dotted: bool) -> bool
 
 // A token that stands alone.
 fn alone_form(role: Role, lexeme: Lexeme<'_>, dotted: bool) -> Option<Form>
-    ensures { option_map form_of result ≡ alone_form role (fits role (head_of lexeme.entry) dotted) }
+    ensures { option_map form_seen result ≡ alone_form role (fits role (lexeme_head lexeme.entry) dotted) }
 {
     if !fits(role, lexeme, dotted) {
         return None;
@@ -490,7 +490,7 @@ fn alone_form(role: Role, lexeme: Lexeme<'_>, dotted: bool) -> Option<Form>
 /// The form of a part that a token begins, but for an event behind the parts of a `do`.
 #[tactic(auto, unfolding(crate::specs::Runs::pick_plain))]
 pub fn pick(part: Part, lexeme: Lexeme<'_>, dotted: bool) -> Option<Form>
-    ensures { option_map form_of result ≡ pick_plain part (head_of lexeme.entry) dotted }
+    ensures { option_map form_seen result ≡ pick_plain part (lexeme_head lexeme.entry) dotted }
 {
     match part {
         Part::Script => script_form(lexeme),

@@ -1,12 +1,12 @@
 ghost use Rattle.std.specs.Prelude.{◌≡◌, nat_le, if◌then◌else◌, pos, ◌-ℤ◌};
 ghost use Rattle.te_reader.specs.Integers.{digits_value, integer_value};
-ghost use Rattle.te_reader.specs.NameReads.{fitting, integer_of};
-ghost use Rattle.te_reader.specs.Reads.{count_in};
+ghost use Rattle.te_reader.specs.NameReads.{fitting, integer_read};
+ghost use Rattle.te_reader.specs.Reads.{repeats_in};
 
 /// The integer of an INT token, where it is one of 64 bits.
-#[tactic(auto, unfolding(crate::specs::NameReads::integer_of))]
+#[tactic(auto, unfolding(crate::specs::NameReads::integer_read))]
 pub fn integer(spelling: &[u8]) -> Option<i64>
-    ensures { result ≡ integer_of spelling.now }
+    ensures { result ≡ integer_read spelling.now }
 {
     match spelling {
         [b'-', digits @ ..] => negative(digits),
@@ -16,7 +16,7 @@ pub fn integer(spelling: &[u8]) -> Option<i64>
 
 /// How often a repeat is done, where it is from 1 to 10,000 times.
 pub fn count(spelling: &[u8]) -> Option<u32>
-    ensures { result ≡ count_in (integer_value spelling.now) }
+    ensures { result ≡ repeats_in (integer_value spelling.now) }
 {
     match spelling {
         [b'-', _digits @ ..] => None,
@@ -25,7 +25,7 @@ pub fn count(spelling: &[u8]) -> Option<u32>
 }
 
 fn positive_count(digits: &[u8]) -> Option<u32>
-    ensures { result ≡ count_in (pos (digits_value 0 digits.now)) }
+    ensures { result ≡ repeats_in (pos (digits_value 0 digits.now)) }
 {
     match number(digits) {
         Some(times) => {

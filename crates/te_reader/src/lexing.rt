@@ -3,7 +3,7 @@ ghost use Rattle.std.specs.List.{prefix_len};
 ghost use Rattle.std.specs.Char.{is_ascii_alphabetic, is_ascii_digit};
 ghost use Rattle.te_script.specs.Names.{is_word_byte};
 ghost use Rattle.te_reader.specs.Tokens.{is_blank};
-ghost use Rattle.te_reader.specs.Lexed.{lexed, headed, one_sign, IsAtToken, IsOneSign, HasByte};
+ghost use Rattle.te_reader.specs.Lexed.{lexed, stream_headed, one_sign, IsAtToken, IsOneSign, HasByte};
 ghost use Rattle.te_reader.specs.Spots.{spots};
 ghost use Rattle.te_reader.specs.Finding.{IsHeaded};
 
@@ -180,7 +180,7 @@ pub fn behind_gap(text: &[u8]) -> &[u8]
 
 /// What stands at the front of a text behind its blanks and comments, with the text behind it.
 pub fn lexeme<'a>(text: &'a [u8]) -> (Lexeme<'a>, &'a [u8])
-    ensures tokens { headed result.0 (lexed result.1.now) ≡ lexed text.now }
+    ensures tokens { stream_headed result.0 (lexed result.1.now) ≡ lexed text.now }
     ensures name { HasByte result.0 }
 {
     lexeme_at(behind_gap(text))

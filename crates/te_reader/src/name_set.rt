@@ -17,13 +17,13 @@ pub struct NameSet<'a> {
 
 impl<'a> Model for NameSet<'a> {
     ghost use Rattle.std.specs.Prelude.{List, ℕ};
-    ghost use Rattle.te_reader.specs.NameSets.{IsFound};
+    ghost use Rattle.te_reader.specs.NameSets.{FindsEachName};
 
     ghost Value = { List (List ℕ) };
 
     ghost view = { λ s. s.names.items };
 
-    ghost invariant = { λ s. IsFound s.names.items s.numbers };
+    ghost invariant = { λ s. FindsEachName s.names.items s.numbers };
 }
 
 // The name at a place.

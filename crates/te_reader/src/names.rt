@@ -1,15 +1,15 @@
 ghost use Rattle.std.specs.Prelude.{◌≡◌, ◌<◌, ◌≤◌, length, IfSome, IsErrOf};
 ghost use Rattle.te_reader.specs.declared.refusal.Refusal.TheVariants.{Refused};
-ghost use Rattle.te_reader.specs.NameReads.{place_of, declared_in};
+ghost use Rattle.te_reader.specs.NameReads.{first_place_of, declared_in};
 ghost use Rattle.te_reader.specs.Answering.{Declares};
 
 use crate::refusal::Refusal;
 use te_terms::{Name, Rows};
 
 /// The first place of a name in a list.
-#[tactic(auto, unfolding(crate::specs::NameReads::place_of))]
+#[tactic(auto, unfolding(crate::specs::NameReads::first_place_of))]
 pub fn place_of(names: &[Name], name: &[u8]) -> Option<usize>
-    ensures value { result ≡ place_of names.now name.now }
+    ensures value { result ≡ first_place_of names.now name.now }
     ensures below { IfSome result (λ i. i < length names.now) }
 {
     names.iter().position(|x| x.bytes() == name)

@@ -3,7 +3,7 @@ ghost use Rattle.te_terms.specs.Codes.{primitive_of};
 ghost use Rattle.te_terms.specs.Shape.{HasFreeChildren};
 ghost use Rattle.te_reader.specs.Tallies.{tally};
 ghost use Rattle.te_reader.specs.EventReads.{read_one, test_first, read_condition};
-ghost use Rattle.te_reader.specs.Answering.{Answers, AnswersEvent, Extends, TakesSome, Puts};
+ghost use Rattle.te_reader.specs.Answering.{AnswersRead, AnswersEvent, CodeExtends, TakesSome, Puts};
 
 use crate::cursor::Cursor;
 use crate::expression::{read_expression, read_primitive};
@@ -29,7 +29,7 @@ fn take_test(cursor: &mut Cursor<'_>) -> Option<Test>
 /// Reads what an `if` asks.
 #[tactic(auto, unfolding(crate::specs::EventReads::read_condition))]
 pub fn read_condition(cursor: &mut Cursor<'_>, names: &Names<'_, '_>) -> Result<Cond, Refusal>
-    ensures { Answers result (λ c. (c.test, primitive_of c.left, primitive_of c.right)) cursor.old cursor.new
+    ensures { AnswersRead result (λ c. (c.test, primitive_of c.left, primitive_of c.right)) cursor.old cursor.new
         (read_condition names.now cursor.old.tokens) }
 {
     let left = read_primitive(cursor, names)?;
@@ -49,7 +49,7 @@ pub fn read_one(
 ) -> Result<u32, Refusal>
     ensures event { AnswersEvent result (length names.now.inners) code.old code.new cursor.old cursor.new
         (read_one names.now (tally code.old) cursor.old.tokens) }
-    ensures extends { Extends code.old code.new }
+    ensures extends { CodeExtends code.old code.new }
 {
     if cursor.take_word(Word::Always) {
         let value = read_expression(cursor, names)?;
@@ -81,7 +81,7 @@ pub fn read_one(
 pub fn put(code: &mut EventCode, node: Node) -> Result<u32, Refusal>
     requires { HasFreeChildren code.old node }
     ensures puts { Puts result code.old code.new node }
-    ensures extends { Extends code.old code.new }
+    ensures extends { CodeExtends code.old code.new }
 {
     let _ = code.len();
     let root = match code.push(node) {

@@ -6,10 +6,10 @@ ghost use Rattle.te_terms.specs.Expressions.{tuple};
 ghost use Rattle.te_terms.specs.Terms.{and_then, choose, catch, when};
 ghost use Rattle.te_terms.specs.Views.{expression_seen, node_seen};
 ghost use Rattle.te_terms.specs.Shape.{children};
-ghost use Rattle.te_script.specs.Texts.{statement_of, HasRoot};
-ghost use Rattle.te_reader.specs.Grammar.{Standing as Place, alone};
+ghost use Rattle.te_script.specs.Texts.{statement_of, RootIsNode};
+ghost use Rattle.te_reader.specs.Grammar.{EventPlace as Place, alone};
 ghost use Rattle.te_reader.specs.Answering.{leaf};
-ghost use Rattle.te_reader.specs.Printed.{standing_of, spelling};
+ghost use Rattle.te_reader.specs.Printed.{standing_of, spelling_of_names};
 ghost use Rattle.te_reader.specs.Canonical.{name_at, inner_text, variable_text, primitive_text, arith_text, calculation_text, further_text, inside_text, expression_text, test_text, do_open, do_close, choose_open, choose_close, event_text, indent, closing, line_text, left_behind, lines_text, thread_text, spaced, channels_text, canonical_text};
 ghost use Rattle.te_reader.specs.Text.{Text};
 ghost use Rattle.te_reader.specs.Limits.{most_bytes};
@@ -81,7 +81,7 @@ fn put_inner(out: &mut Vec<u8>, level: u32) -> Result<(), NoMemory>
 }
 
 fn put_variable(out: &mut Vec<u8>, names: &Names<'_>, x: Var) -> Result<(), NoMemory>
-    ensures { OnOk result (out.new.items ≡ out.old.items ++ variable_text (spelling names.now) (variable_of x)) }
+    ensures { OnOk result (out.new.items ≡ out.old.items ++ variable_text (spelling_of_names names.now) (variable_of x)) }
 {
     match x {
         Var::Reg(r) => put_name(out, names.registers, r as usize),
@@ -90,7 +90,7 @@ fn put_variable(out: &mut Vec<u8>, names: &Names<'_>, x: Var) -> Result<(), NoMe
 }
 
 fn put_primitive(out: &mut Vec<u8>, names: &Names<'_>, p: Prim) -> Result<(), NoMemory>
-    ensures { OnOk result (out.new.items ≡ out.old.items ++ primitive_text (spelling names.now) (primitive_of p)) }
+    ensures { OnOk result (out.new.items ≡ out.old.items ++ primitive_text (spelling_of_names names.now) (primitive_of p)) }
 {
     match p {
         Prim::Int(z) => put_integer(out, z),
@@ -114,7 +114,7 @@ fn put_arith(out: &mut Vec<u8>, op: Arith) -> Result<(), NoMemory>
 }
 
 fn put_calculation(out: &mut Vec<u8>, names: &Names<'_>, c: &Calc) -> Result<(), NoMemory>
-    ensures { OnOk result (out.new.items ≡ out.old.items ++ calculation_text (spelling names.now) (calculation_of c.now)) }
+    ensures { OnOk result (out.new.items ≡ out.old.items ++ calculation_text (spelling_of_names names.now) (calculation_of c.now)) }
 {
     match c {
         Calc::One(p) => put_primitive(out, names, *p),
@@ -127,7 +127,7 @@ fn put_calculation(out: &mut Vec<u8>, names: &Names<'_>, c: &Calc) -> Result<(),
 }
 
 fn put_further(out: &mut Vec<u8>, names: &Names<'_>, calcs: &[Calc]) -> Result<(), NoMemory>
-    ensures { OnOk result (out.new.items ≡ out.old.items ++ further_text (spelling names.now) (map calculation_of calcs.now)) }
+    ensures { OnOk result (out.new.items ≡ out.old.items ++ further_text (spelling_of_names names.now) (map calculation_of calcs.now)) }
 {
     for calc in calcs {
         put(out, b", ")?;
@@ -137,7 +137,7 @@ fn put_further(out: &mut Vec<u8>, names: &Names<'_>, calcs: &[Calc]) -> Result<(
 }
 
 fn put_inside(out: &mut Vec<u8>, names: &Names<'_>, calcs: &[Calc]) -> Result<(), NoMemory>
-    ensures { OnOk result (out.new.items ≡ out.old.items ++ inside_text (spelling names.now) (map calculation_of calcs.now)) }
+    ensures { OnOk result (out.new.items ≡ out.old.items ++ inside_text (spelling_of_names names.now) (map calculation_of calcs.now)) }
 {
     match calcs {
         [] => Ok(()),
@@ -149,7 +149,7 @@ fn put_inside(out: &mut Vec<u8>, names: &Names<'_>, calcs: &[Calc]) -> Result<()
 }
 
 fn put_tuple(out: &mut Vec<u8>, names: &Names<'_>, calcs: &[Calc]) -> Result<(), NoMemory>
-    ensures { OnOk result (out.new.items ≡ out.old.items ++ expression_text (spelling names.now) (tuple (map calculation_of calcs.now))) }
+    ensures { OnOk result (out.new.items ≡ out.old.items ++ expression_text (spelling_of_names names.now) (tuple (map calculation_of calcs.now))) }
 {
     put(out, b"(")?;
     put_inside(out, names, calcs)?;
@@ -157,7 +157,7 @@ fn put_tuple(out: &mut Vec<u8>, names: &Names<'_>, calcs: &[Calc]) -> Result<(),
 }
 
 fn put_expression(out: &mut Vec<u8>, names: &Names<'_>, e: &Expr) -> Result<(), NoMemory>
-    ensures { OnOk result (out.new.items ≡ out.old.items ++ expression_text (spelling names.now) (expression_of e.now)) }
+    ensures { OnOk result (out.new.items ≡ out.old.items ++ expression_text (spelling_of_names names.now) (expression_of e.now)) }
 {
     match e {
         Expr::Whole(x) => put_variable(out, names, *x),
@@ -167,7 +167,7 @@ fn put_expression(out: &mut Vec<u8>, names: &Names<'_>, e: &Expr) -> Result<(), 
 
 // An expression that a code lends.
 fn put_lent(out: &mut Vec<u8>, names: &Names<'_>, e: &ExprView<'_>) -> Result<(), NoMemory>
-    ensures { OnOk result (out.new.items ≡ out.old.items ++ expression_text (spelling names.now) (expression_of (expression_seen e.now))) }
+    ensures { OnOk result (out.new.items ≡ out.old.items ++ expression_text (spelling_of_names names.now) (expression_of (expression_seen e.now))) }
 {
     match e {
         ExprView::Whole(x) => put_variable(out, names, *x),
@@ -185,7 +185,7 @@ fn put_test(out: &mut Vec<u8>, test: Test) -> Result<(), NoMemory>
 }
 
 fn put_condition(out: &mut Vec<u8>, names: &Names<'_>, c: &Cond) -> Result<(), NoMemory>
-    ensures { OnOk result (out.new.items ≡ out.old.items ++ (primitive_text (spelling names.now) (primitive_of c.now.left) ++ test_text c.now.test ++ primitive_text (spelling names.now) (primitive_of c.now.right))) }
+    ensures { OnOk result (out.new.items ≡ out.old.items ++ (primitive_text (spelling_of_names names.now) (primitive_of c.now.left) ++ test_text c.now.test ++ primitive_text (spelling_of_names names.now) (primitive_of c.now.right))) }
 {
     put_primitive(out, names, c.left)?;
     put_test(out, c.test)?;
@@ -235,7 +235,7 @@ fn choose_close(standing: Standing) -> &'static [u8]
 // The node of an event that has no parts.
 fn put_leaf(out: &mut Vec<u8>, names: &Names<'_>, node: &NodeView<'_>) -> Result<(), NoMemory>
     requires { children (node_seen node.now) ≡ [] }
-    ensures { (at : Place) → OnOk result (out.new.items ≡ out.old.items ++ event_text (spelling names.now) at (leaf (node_seen node.now))) }
+    ensures { (at : Place) → OnOk result (out.new.items ≡ out.old.items ++ event_text (spelling_of_names names.now) at (leaf (node_seen node.now))) }
 {
     match node {
         NodeView::Always(e) => {
@@ -278,7 +278,7 @@ fn put_event(
 ) -> Result<(), NoMemory>
     requires root { root < length code.now }
     requires low { level + root ≤ most_nodes }
-    ensures { OnOk result (out.new.items ≡ out.old.items ++ event_text (spelling names.now) (standing_of standing) (term_at code.now level root)) }
+    ensures { OnOk result (out.new.items ≡ out.old.items ++ event_text (spelling_of_names names.now) (standing_of standing) (term_at code.now level root)) }
 {
     let Some(node) = code.look(root) else {
         unreachable!()
@@ -306,7 +306,7 @@ fn put_then(
     requires second { b < length code.now }
     requires low { level + a < most_nodes }
     requires next { level + b < most_nodes }
-    ensures { OnOk result (out.new.items ≡ out.old.items ++ event_text (spelling names.now) (standing_of standing) (and_then (term_at code.now level a) level (term_at code.now (suc level) b))) }
+    ensures { OnOk result (out.new.items ≡ out.old.items ++ event_text (spelling_of_names names.now) (standing_of standing) (and_then (term_at code.now level a) level (term_at code.now (suc level) b))) }
 {
     put(out, do_open(standing))?;
     put_inner(out, level)?;
@@ -331,7 +331,7 @@ fn put_choose(
     requires second { b < length code.now }
     requires low { level + a < most_nodes }
     requires next { level + b < most_nodes }
-    ensures { OnOk result (out.new.items ≡ out.old.items ++ event_text (spelling names.now) (standing_of standing) (choose (term_at code.now level a) (term_at code.now level b))) }
+    ensures { OnOk result (out.new.items ≡ out.old.items ++ event_text (spelling_of_names names.now) (standing_of standing) (choose (term_at code.now level a) (term_at code.now level b))) }
 {
     put(out, choose_open(standing))?;
     put_event(out, names, code, a, level, Standing::Alone)?;
@@ -353,7 +353,7 @@ fn put_catch(
     requires second { b < length code.now }
     requires low { level + a < most_nodes }
     requires next { level + b < most_nodes }
-    ensures { (at : Place) → OnOk result (out.new.items ≡ out.old.items ++ event_text (spelling names.now) at (catch (term_at code.now level a) level (term_at code.now (suc level) b))) }
+    ensures { (at : Place) → OnOk result (out.new.items ≡ out.old.items ++ event_text (spelling_of_names names.now) at (catch (term_at code.now level a) level (term_at code.now (suc level) b))) }
 {
     put(out, b"try { ")?;
     put_event(out, names, code, a, level, Standing::Alone)?;
@@ -379,7 +379,7 @@ fn put_if(
     requires low { level + a < most_nodes }
     requires next { level + b < most_nodes }
     ensures { (at : Place) → OnOk result (out.new.items ≡ out.old.items
-        ++ event_text (spelling names.now) at (when c.now.test (primitive_of c.now.left) (primitive_of c.now.right) (term_at code.now level a) (term_at code.now level b))) }
+        ++ event_text (spelling_of_names names.now) at (when c.now.test (primitive_of c.now.left) (primitive_of c.now.right) (term_at code.now level a) (term_at code.now level b))) }
 {
     put(out, b"if ")?;
     put_condition(out, names, c)?;
@@ -398,7 +398,7 @@ fn put_root(
     root: u32,
 ) -> Result<(), NoMemory>
     requires { root < length code.now }
-    ensures { OnOk result (out.new.items ≡ out.old.items ++ event_text (spelling names.now) alone (term_under code.now root)) }
+    ensures { OnOk result (out.new.items ≡ out.old.items ++ event_text (spelling_of_names names.now) alone (term_under code.now root)) }
 {
     let _ = code.len();
     put_event(out, names, code, root, 0, Standing::Alone)
@@ -418,8 +418,8 @@ fn closing(left: u32) -> &'static [u8]
 
 // The line of a statement where so many are still to come in a repeat, and how many there are behind it.
 fn put_line(out: &mut Vec<u8>, names: &Names<'_>, stmt: &Stmt, left: u32) -> Result<u32, NoMemory>
-    requires { HasRoot stmt.now }
-    ensures text { OnOk result (out.new.items ≡ out.old.items ++ line_text (spelling names.now) left (statement_of stmt.now)) }
+    requires { RootIsNode stmt.now }
+    ensures text { OnOk result (out.new.items ≡ out.old.items ++ line_text (spelling_of_names names.now) left (statement_of stmt.now)) }
     ensures left { IfOk result (λ n. n ≡ left_behind left (statement_of stmt.now)) }
 {
     match stmt {
@@ -450,8 +450,8 @@ fn put_line(out: &mut Vec<u8>, names: &Names<'_>, stmt: &Stmt, left: u32) -> Res
 }
 
 fn put_lines(out: &mut Vec<u8>, names: &Names<'_>, stmts: &[Stmt]) -> Result<(), NoMemory>
-    requires { AllByRecursion HasRoot stmts.now }
-    ensures { OnOk result (out.new.items ≡ out.old.items ++ lines_text (spelling names.now) 0 (map statement_of stmts.now)) }
+    requires { AllByRecursion RootIsNode stmts.now }
+    ensures { OnOk result (out.new.items ≡ out.old.items ++ lines_text (spelling_of_names names.now) 0 (map statement_of stmts.now)) }
 {
     let mut left = 0;
     for stmt in stmts {

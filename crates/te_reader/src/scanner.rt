@@ -1,6 +1,6 @@
 ghost use Rattle.std.specs.Prelude.{◌≡◌, ◌∷◌};
 ghost use Rattle.te_reader.specs.Spots.{begins_with_dot, spots};
-ghost use Rattle.te_reader.specs.Finding.{head_of, first_head, LooksAt, GoesBehind};
+ghost use Rattle.te_reader.specs.Finding.{lexeme_head, first_head, LooksAt, GoesBehind};
 
 use crate::lexing::{behind_gap, lexeme_at};
 use crate::token::{Lexeme, Sign};
@@ -59,7 +59,7 @@ impl<'a> Scanner<'a> {
 
     /// What stands here.
     pub fn look(&self) -> Look<'a>
-        ensures { LooksAt (head_of result.lexeme) result.dotted result.left self.now }
+        ensures { LooksAt (lexeme_head result.lexeme) result.dotted result.left self.now }
     {
         let dotted = begins_with_dot(self.rest);
         let left = self.left;

@@ -2,7 +2,7 @@ ghost use Rattle.std.specs.Prelude.{◌≡◌, ◌<◌, ◌≤◌, ℕ, List, le
 ghost use Rattle.std.specs.Option.{option_map};
 ghost use Rattle.te_terms.specs.Codes.{variable_of};
 ghost use Rattle.te_reader.specs.Grammar.{Names as Scope, with_inner};
-ghost use Rattle.te_reader.specs.NameReads.{place_of, names_of, variable_named, bound_in};
+ghost use Rattle.te_reader.specs.NameReads.{first_place_of, names_of, variable_named, bound_in};
 ghost use Rattle.te_reader.specs.Answering.{Binds};
 ghost use Rattle.te_terms.specs.Limits.{most_registers, greatest_height};
 
@@ -53,14 +53,14 @@ impl<'a, 'b> Names<'a, 'b> {
 
     /// The number of a channel.
     pub fn channel(&self, name: &[u8]) -> Option<u32>
-        ensures { result ≡ place_of self.now.channels name.now }
+        ensures { result ≡ first_place_of self.now.channels name.now }
     {
         self.channels.number_of(name)
     }
 
     /// The level of an inner name.
     pub fn inner(&self, name: &[u8]) -> Option<u8>
-        ensures { result ≡ place_of self.now.inners name.now }
+        ensures { result ≡ first_place_of self.now.inners name.now }
     {
         match place_of(self.inners.as_slice(), name) {
             Some(level) => Some(level as u8),

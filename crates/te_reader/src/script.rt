@@ -6,7 +6,7 @@ ghost use Rattle.te_reader.specs.Places.{HasFault};
 ghost use Rattle.te_reader.specs.Text.{Text};
 ghost use Rattle.te_reader.specs.Tokens.{AreTokens};
 ghost use Rattle.te_reader.specs.Reads.{read_names, read_channels, read_program, read_text};
-ghost use Rattle.te_reader.specs.Answering.{Answers, AnswersText};
+ghost use Rattle.te_reader.specs.Answering.{AnswersRead, AnswersText};
 ghost use Rattle.te_script.specs.Limits.{most_channels};
 
 use crate::channels::Channels;
@@ -22,7 +22,7 @@ use te_script::Script;
 
 // Names of channels, up to the `;`.
 fn read_names<'a>(alloc: Global, cursor: &mut Cursor<'a>) -> Result<Channels<'a>, Refusal>
-    ensures { Answers result (λ c. c) cursor.old cursor.new (read_names most_channels [] cursor.old.tokens) }
+    ensures { AnswersRead result (λ c. c) cursor.old cursor.new (read_names most_channels [] cursor.old.tokens) }
 {
     let mut channels = Channels::new(alloc);
     'names: while let Some(name) = cursor.take_name() {
@@ -37,7 +37,7 @@ fn read_names<'a>(alloc: Global, cursor: &mut Cursor<'a>) -> Result<Channels<'a>
 // The channels at the front of a script, where it has some.
 #[tactic(auto, unfolding(crate::specs::Reads::read_channels))]
 fn read_channels<'a>(alloc: Global, cursor: &mut Cursor<'a>) -> Result<Channels<'a>, Refusal>
-    ensures channels { Answers result (λ c. c) cursor.old cursor.new (read_channels cursor.old.tokens) }
+    ensures channels { AnswersRead result (λ c. c) cursor.old cursor.new (read_channels cursor.old.tokens) }
     ensures few { IfOk result (λ c. length c ≤ most_channels) }
 {
     if !cursor.take_word(Word::Channels) {
@@ -53,7 +53,7 @@ fn read_channels<'a>(alloc: Global, cursor: &mut Cursor<'a>) -> Result<Channels<
 #[tactic(auto, unfolding(crate::specs::Reads::read_program))]
 fn read_program(alloc: Global, cursor: &mut Cursor<'_>) -> Result<Script, Refusal>
     requires { AreTokens cursor.old.tokens }
-    ensures { Answers result (λ s. s) cursor.old cursor.new (read_program cursor.old.tokens) }
+    ensures { AnswersRead result (λ s. s) cursor.old cursor.new (read_program cursor.old.tokens) }
 {
     let channels = read_channels(alloc, cursor)?;
     let threads = read_threads(alloc, cursor, &channels)?;

@@ -1,5 +1,5 @@
 ghost use Rattle.std.specs.Prelude.{◌≡◌, [], ◌∷◌, length, OnOk};
-ghost use Rattle.te_reader.specs.Finding.{PopsTop, IsTop, set_top};
+ghost use Rattle.te_reader.specs.Finding.{PopsTop, IsOnTop, set_top};
 
 use std::alloc::Global;
 use std::marker::Model;
@@ -54,7 +54,7 @@ impl<T: Drop> Stack<T> {
 impl<T: Copy> Stack<T> {
     /// The top.
     pub fn top(&self) -> Option<T>
-        ensures { IsTop result self.now }
+        ensures { IsOnTop result self.now }
     {
         self.items.last().copied()
     }

@@ -1,7 +1,7 @@
 ghost use Rattle.std.specs.Prelude.{◌≤◌, length};
 ghost use Rattle.te_terms.specs.Codes.{expression_of};
 ghost use Rattle.te_reader.specs.Reads.{read_emit, read_times};
-ghost use Rattle.te_reader.specs.Answering.{Answers};
+ghost use Rattle.te_reader.specs.Answering.{AnswersRead};
 ghost use Rattle.te_terms.specs.Limits.{most_registers};
 
 use crate::channels::Channels;
@@ -17,7 +17,7 @@ use te_terms::{Expr, Name, Rows};
 /// Reads how often a repeat is done, and its brace.
 #[tactic(auto, unfolding(crate::specs::Reads::read_times))]
 pub fn read_times(cursor: &mut Cursor<'_>) -> Result<u32, Refusal>
-    ensures { Answers result (λ n. n) cursor.old cursor.new (read_times cursor.old.tokens) }
+    ensures { AnswersRead result (λ n. n) cursor.old cursor.new (read_times cursor.old.tokens) }
 {
     let Some(digits) = cursor.take_integer() else {
         return Err(Refusal::Refused);
@@ -40,7 +40,7 @@ pub fn read_emit(
     registers: &Rows<Name>,
 ) -> Result<Expr, Refusal>
     requires { length registers.now ≤ most_registers }
-    ensures { Answers result expression_of cursor.old cursor.new (read_emit channels.now registers.now cursor.old.tokens) }
+    ensures { AnswersRead result expression_of cursor.old cursor.new (read_emit channels.now registers.now cursor.old.tokens) }
 {
     let value = read_expression(cursor, &Names::new(alloc, channels, registers))?;
     if !cursor.take_sign(Sign::Semicolon) {

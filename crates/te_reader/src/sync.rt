@@ -2,10 +2,10 @@
 
 ghost use Rattle.std.specs.Prelude.{◌≡◌, ◌<◌, ◌≤◌, [], ◌++◌, length, map, IfOk, OnOk, IsErrOf};
 ghost use Rattle.std.specs.List.{AllByRecursion};
-ghost use Rattle.te_script.specs.Texts.{statement_of, HasRoot};
+ghost use Rattle.te_script.specs.Texts.{statement_of, RootIsNode};
 ghost use Rattle.te_reader.specs.declared.refusal.Refusal.TheVariants.{Refused};
 ghost use Rattle.te_reader.specs.Reads.{read_sync, read_written, register_of};
-ghost use Rattle.te_reader.specs.Answering.{AnswersSync, DeclaresRegister, Extends};
+ghost use Rattle.te_reader.specs.Answering.{AnswersSync, DeclaresRegister, CodeExtends};
 ghost use Rattle.te_reader.specs.Bodies.{OnRead};
 ghost use Rattle.te_reader.specs.Written.{draft_of, IsDraft, AnswersDraft, AreDrafts, AreSyncsRead};
 ghost use Rattle.te_terms.specs.Limits.{most_registers};
@@ -41,7 +41,7 @@ fn read_sync(
     requires { length registers.now ≤ most_registers }
     ensures event { AnswersSync result code.old code.new cursor.old cursor.new
         (read_sync channels.now registers.now cursor.old.tokens) }
-    ensures extends { Extends code.old code.new }
+    ensures extends { CodeExtends code.old code.new }
 {
     if !cursor.take_sign(Sign::Arrow) || !cursor.take_word(Word::Sync) {
         return Err(Refusal::Refused);
@@ -89,7 +89,7 @@ fn read_draft(
 ) -> Result<Draft, Refusal>
     requires { length registers.old ≤ most_registers }
     ensures draft { AnswersDraft result channels.now registers.old registers.new code.old code.new cursor.old cursor.new }
-    ensures extends { Extends code.old code.new }
+    ensures extends { CodeExtends code.old code.new }
     ensures few { length registers.new ≤ most_registers }
 {
     let Some(name) = cursor.take_name() else {
@@ -146,7 +146,7 @@ fn share(
 ) -> Result<(), Refusal>
     requires { AllByRecursion (IsDraft code) drafts.now }
     ensures appended { OnOk result (map statement_of stmts.new.items ≡ map statement_of stmts.old.items ++ map (draft_of code) drafts.now) }
-    ensures roots { AllByRecursion HasRoot stmts.old.items → OnOk result (AllByRecursion HasRoot stmts.new.items) }
+    ensures roots { AllByRecursion RootIsNode stmts.old.items → OnOk result (AllByRecursion RootIsNode stmts.new.items) }
     ensures never { IsErrOf result Refused → ⊥ }
 {
     let shared = Arc::new(alloc, code)?;
@@ -177,7 +177,7 @@ pub fn read_syncs(
         (read_written channels.now registers.old cursor.old.tokens) }
     ensures whole { OnOk result (cursor.new.whole ≡ cursor.old.whole) }
     ensures few { length registers.new ≤ most_registers }
-    ensures roots { AllByRecursion HasRoot stmts.old.items → OnOk result (AllByRecursion HasRoot stmts.new.items) }
+    ensures roots { AllByRecursion RootIsNode stmts.old.items → OnOk result (AllByRecursion RootIsNode stmts.new.items) }
 {
     let mut code = EventCode::new(alloc);
     let room = most - stmts.len();

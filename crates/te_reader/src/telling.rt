@@ -1,7 +1,7 @@
 ghost use Rattle.std.specs.Prelude.{◌≡◌, None, length};
 ghost use Rattle.te_reader.specs.Runs.{fault_of};
 ghost use Rattle.te_reader.specs.Places.{fault_from};
-ghost use Rattle.te_reader.specs.Telling.{IsTold};
+ghost use Rattle.te_reader.specs.Telling.{FaultIsTold};
 
 use crate::cause::{Cause, Which};
 use crate::fault::ScriptFault;
@@ -30,7 +30,7 @@ fn fault_at(cause: Cause, place: Place) -> ScriptFault
 /// most texts have no fault, and their reader keeps no places.
 pub fn told(alloc: Global, bytes: &[u8]) -> ScriptFault
     requires { fault_of bytes.now ≡ None → ⊥ }
-    ensures { IsTold bytes.now result }
+    ensures { FaultIsTold bytes.now result }
 {
     if bytes.len() > 1_048_576 {
         return ScriptFault::Limit(Which::Bytes, Place { line: 1, column: 1 });

@@ -1,9 +1,9 @@
 ghost use Rattle.std.specs.Prelude.{◌≡◌, ◌<◌, ◌≤◌, true, false, [], ◌∷◌, length, map, IfOk, OnOk};
 ghost use Rattle.std.specs.List.{AllByRecursion};
-ghost use Rattle.te_script.specs.Texts.{HasRoot};
+ghost use Rattle.te_script.specs.Texts.{RootIsNode};
 ghost use Rattle.te_reader.specs.Bodies.{OnRead, AreRead, AreAppended, repeat_behind, more_behind};
 ghost use Rattle.te_reader.specs.Reads.{named_body, read_body, read_thread, read_new_thread, read_threads};
-ghost use Rattle.te_reader.specs.Answering.{Answers};
+ghost use Rattle.te_reader.specs.Answering.{AnswersRead};
 ghost use Rattle.te_reader.specs.Tokens.{AreTokens};
 ghost use Rattle.te_script.specs.Names.{IsName};
 ghost use Rattle.te_terms.specs.Limits.{most_threads, most_registers};
@@ -29,7 +29,7 @@ fn read_thread(
     channels: &Channels<'_>,
 ) -> Result<ThreadText, Refusal>
     requires { length channels.now ≤ most_channels }
-    ensures { Answers result (λ t. t) cursor.old cursor.new (read_thread channels.now cursor.old.tokens) }
+    ensures { AnswersRead result (λ t. t) cursor.old cursor.new (read_thread channels.now cursor.old.tokens) }
 {
     let Some(name) = cursor.take_name() else {
         return Err(Refusal::Refused);
@@ -57,7 +57,7 @@ fn read_inside(
         (read_body room channels.now true registers.old cursor.old.tokens) }
     ensures whole { OnOk result (cursor.new.whole ≡ cursor.old.whole) }
     ensures few { length registers.new ≤ most_registers }
-    ensures roots { IfOk result (λ syncs. AllByRecursion HasRoot syncs.items) }
+    ensures roots { IfOk result (λ syncs. AllByRecursion RootIsNode syncs.items) }
 {
     let mut syncs: Vec<Stmt> = Vec::new(alloc);
     'syncs: while syncs.len() < room {
@@ -84,7 +84,7 @@ fn read_repeat(
         (repeat_behind (length stmts.old.items) channels.now registers.old cursor.old.tokens) }
     ensures whole { OnOk result (cursor.new.whole ≡ cursor.old.whole) }
     ensures few { length registers.new ≤ most_registers }
-    ensures roots { AllByRecursion HasRoot stmts.old.items → OnOk result (AllByRecursion HasRoot stmts.new.items) }
+    ensures roots { AllByRecursion RootIsNode stmts.old.items → OnOk result (AllByRecursion RootIsNode stmts.new.items) }
 {
     let times = read_times(cursor)?;
     let room = MOST_STATEMENTS - 1 - stmts.len();
@@ -111,7 +111,7 @@ fn read_more(
         (more_behind (length stmts.old.items) channels.now registers.old cursor.old.tokens) }
     ensures whole { OnOk result (cursor.new.whole ≡ cursor.old.whole) }
     ensures few { length registers.new ≤ most_registers }
-    ensures roots { AllByRecursion HasRoot stmts.old.items → OnOk result (AllByRecursion HasRoot stmts.new.items) }
+    ensures roots { AllByRecursion RootIsNode stmts.old.items → OnOk result (AllByRecursion RootIsNode stmts.new.items) }
 {
     if cursor.take_word(Word::Repeat) {
         return read_repeat(alloc, cursor, channels, registers, stmts);
@@ -134,7 +134,7 @@ fn read_body(
     requires few { length channels.now ≤ most_channels }
     requires name { IsName name }
     requires tokens { AreTokens cursor.old.tokens }
-    ensures { Answers result (λ t. t) cursor.old cursor.new (named_body name (read_body most_statements channels.now false [] cursor.old.tokens)) }
+    ensures { AnswersRead result (λ t. t) cursor.old cursor.new (named_body name (read_body most_statements channels.now false [] cursor.old.tokens)) }
 {
     let mut regs = Rows::new(alloc);
     let mut stmts: Vec<Stmt> = Vec::new(alloc);
@@ -157,7 +157,7 @@ fn read_new_thread(
     names: &mut Rows<Name>,
 ) -> Result<Arc<ThreadText>, Refusal>
     requires { length channels.now ≤ most_channels }
-    ensures { Answers result (λ a. (a.value, names.new)) cursor.old cursor.new (read_new_thread channels.now names.old cursor.old.tokens) }
+    ensures { AnswersRead result (λ a. (a.value, names.new)) cursor.old cursor.new (read_new_thread channels.now names.old cursor.old.tokens) }
 {
     let thread = read_thread(alloc, cursor, channels)?;
     let name = thread.name;
@@ -176,7 +176,7 @@ pub fn read_threads(
     channels: &Channels<'_>,
 ) -> Result<Rows<Arc<ThreadText>>, Refusal>
     requires { length channels.now ≤ most_channels }
-    ensures { Answers result (λ ts. map (λ a. a.value) ts) cursor.old cursor.new (read_threads most_threads channels.now [] cursor.old.tokens) }
+    ensures { AnswersRead result (λ ts. map (λ a. a.value) ts) cursor.old cursor.new (read_threads most_threads channels.now [] cursor.old.tokens) }
 {
     let mut names: Rows<Name> = Rows::new(alloc);
     let mut threads = Rows::new(alloc);

@@ -4,7 +4,7 @@ use Rattle.std.specs.Prelude.{◌==◌, nat_le}
 use Rattle.std.proofs.lemmas.Bool.Decides.{nat_tests}
 use Rattle.te_terms.specs.declared.value.Atom.{Atom}
 use Rattle.te_terms.specs.Limits.{most_atoms}
-use Rattle.te_report.specs.Sayings.{up_to, behind, words, few_atoms}
+use Rattle.te_report.specs.Sayings.{up_to, cut_behind, words, few_atoms}
 use Rattle.te_report.proofs.Cuts.{some_left, next_of_some}
 
 pub few_kept : (v : List Atom) → length v ≤ 4 → few_atoms v ≡ v
@@ -34,8 +34,8 @@ whole_taken (x ∷ xs) (suc n) e = ap suc (whole_taken xs n (omega arith))
 pub over_four : (f : List ℕ → Atom) (atoms : List Atom) (len c : ℕ) (rest : List ℕ) (b : Bool) (whole : List Atom) → length atoms ≡ 4 → len ≡ 4 → b ≡ (length rest == 0) → b ≡ false
     → take len atoms ++ map f (words c rest) ≡ whole → few_atoms whole ≡ []
 over_four f atoms len c rest b whole four full is some so_far =
-    let more : map f (words c rest) ≡ f (up_to c rest) ∷ map f (words c (behind c rest)) = ap (map f) (next_of_some c rest (some_left rest b is some)) in
-    let counted : length (map f (words c rest)) ≡ suc (length (map f (words c (behind c rest)))) = ap length more in
+    let more : map f (words c rest) ≡ f (up_to c rest) ∷ map f (words c (cut_behind c rest)) = ap (map f) (next_of_some c rest (some_left rest b is some)) in
+    let counted : length (map f (words c rest)) ≡ suc (length (map f (words c (cut_behind c rest)))) = ap length more in
     let taken_four : length (take len atoms) ≡ len = whole_taken atoms len (four ∙ sym full) in
     many_gone whole (omega (arith, ap length so_far, length-append (take len atoms) (map f (words c rest)), counted, taken_four, full))
 

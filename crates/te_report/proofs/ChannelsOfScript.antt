@@ -20,12 +20,12 @@ use Rattle.te_history.specs.declared.entry.Entry.TheVariants as entries
 use Rattle.te_history.specs.declared.status.How.TheVariants as ways
 use Rattle.te_history.specs.declared.status.How.{How}
 use Rattle.te_history.specs.State.{Standing, idle, parked, given, ended, State, state, changed, with_standing, with_given}
-use Rattle.te_history.specs.Follows.{Stands, AreEvents, Commits, Ends, caller_of, LooselyFollows, IsLoose}
+use Rattle.te_history.specs.Follows.{Stands, AreEvents, Commits, MayEndAs, caller_of, LooselyFollows, IsLoose}
 use Rattle.te_history.proofs.AfterEntry.{state-after, length-state}
 use Rattle.te_history.proofs.Places.{by_place}
 use Rattle.te_history.proofs.Commits.{same_or_other, stands_put, stands_other}
 use Rattle.te_report.specs.OfScript.{taken, taken_from, WishedBy, IsOfScript}
-use Rattle.te_report.specs.Fitting.{OutcomeFits, HowFits, EntryFits}
+use Rattle.te_report.specs.Fitting.{OutcomeFits, HowFits, EntryIsSpelled}
 use Rattle.te_report.specs.ScriptChannels.{IsChannelOf, HasChannelsOf}
 use Rattle.te_report.proofs.Growing.{taken_more, grows_wished}
 use Rattle.te_report.proofs.FittingHas.{entries_have}
@@ -69,7 +69,7 @@ module _ (P : ℕ → Type 0) (channels : ℕ) (threads : List Thread) (low : (c
   pub record SoFar (h : List Entry) : Type 0 where
     pub taken_so : (t : ℕ) → AllByRecursion (OutcomeFits P) (taken t h)
     pub state_so : StateHas (state (length threads) h)
-    pub entries_so : AllByRecursion (EntryFits P) h
+    pub entries_so : AllByRecursion (EntryIsSpelled P) h
 
   -- ---- states
 
@@ -144,7 +144,7 @@ module _ (P : ℕ → Type 0) (channels : ℕ) (threads : List Thread) (low : (c
   end_has None t how outs is ho w = absurd w
 
   entry_has : (h : List Entry) (e : Entry) → LooselyFollows (length threads) h e → WishedBy (slice_get threads (caller_of e)) (taken (caller_of e) h) e
-      → SoFar h → MembersMake e → EntryFits P e
+      → SoFar h → MembersMake e → EntryIsSpelled P e
   entry_has h (entries.Post by ticket event) follows w so makes = (post_has (slice_get threads by) by ticket event (taken by h) refl (so.taken_so by) w).term
   entry_has h (entries.Commit by cert outcomes) follows w so makes = commit_has h cert outcomes so.state_so follows.2 makes
   entry_has h (entries.Withdraw by ticket) follows w so makes = tt
@@ -164,12 +164,12 @@ module _ (P : ℕ → Type 0) (channels : ℕ) (threads : List Thread) (low : (c
   state_has h (entries.Stuck by) follows w so makes = so.state_so
   state_has h (entries.End by how) follows w so makes = let was = stood how follows in put_has (state (length threads) h) by was.0 ended was.1 tt so.state_so
     where
-      stood : (how : How) → Ends (state (length threads) h) by how → (s : Standing) × Stands (state (length threads) h) by s
+      stood : (how : How) → MayEndAs (state (length threads) h) by how → (s : Standing) × Stands (state (length threads) h) by s
       stood (ways.Done values) ends = (idle, ends.1)
       stood (ways.Raised value) ends = (idle, ends.1)
       stood ways.Stuck ends = (_, ends.1.2)
 
-  taken_has : (t : ℕ) (e : Entry) → EntryFits P e → AllByRecursion (OutcomeFits P) (taken_from t e [])
+  taken_has : (t : ℕ) (e : Entry) → EntryIsSpelled P e → AllByRecursion (OutcomeFits P) (taken_from t e [])
   taken_has t (entries.Take by ticket outcome) h = at (eqb by t)
     where
       at : (b : Bool) → AllByRecursion (OutcomeFits P) (cond b (outcome ∷ []) [])
@@ -193,7 +193,7 @@ module _ (P : ℕ → Type 0) (channels : ℕ) (threads : List Thread) (low : (c
       record {
         taken_so = λ t. subst (AllByRecursion (OutcomeFits P)) (sym (taken_more t h e)) (appended (OutcomeFits P) (taken t h) (taken_from t e []) (so.taken_so t) (taken_has t e has));
         state_so = subst StateHas (sym (state-after (length threads) h e)) (state_has h e follows w so makes);
-        entries_so = appended (EntryFits P) h (e ∷ []) so.entries_so (has, tt);
+        entries_so = appended (EntryIsSpelled P) h (e ∷ []) so.entries_so (has, tt);
       }
 
   pub first : SoFar []
@@ -221,7 +221,7 @@ entry_makes P channels threads low each h _ makes follows = tt
 
 -- and so do all entries
 pub all_fit : (script : Program) (history : List Entry) → IsProgram script → IsLoose (length script.threads) history → IsOfScript script history
-    → AllByRecursion (EntryFits (IsChannelOf script)) history
+    → AllByRecursion (EntryIsSpelled (IsChannelOf script)) history
 all_fit script history is loose wished =
     (grows_wished (length script.threads) script.threads
     (SoFar (IsChannelOf script) (length script.channels) script.threads (λ c few. inl few) is.each)

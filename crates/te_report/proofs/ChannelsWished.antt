@@ -11,7 +11,7 @@ use Rattle.te_terms.specs.Expressions.{Variable, register, name, known, Primitiv
 use Rattle.te_terms.specs.Terms.{Term, always, never, fresh, throw, send, recv, and_then, choose, catch, when}
 use Rattle.te_terms.proofs.Measured.{fresh_sees, counted-replaced}
 use Rattle.te_script.specs.declared.wish.Site.{Site}
-use Rattle.te_script.specs.Scripts.{Statement, sync, emit, repeat, Scope, one_more, IsVariable, IsPrimitive, IsCalculation, IsExpression, IsEvent, AreStatements, with_register, Thread, IsThread}
+use Rattle.te_script.specs.Scripts.{Statement, sync, emit, repeat, Scope, one_deeper, IsVariable, IsPrimitive, IsCalculation, IsExpression, IsEvent, AreStatements, with_register, Thread, IsThread}
 use Rattle.te_script.specs.Wishes.{Step, syncing, emitting, site_at, steps_of, pass_over, passes_over, flat_from, flat, Wish, syncs, done, raised, holding, Doing, synchronises, ends, has_raised, Reached, emits_or, reached_by, reached, wish_of, wish}
 use Rattle.te_report.specs.Fitting.{ValueFits, VariableFits, PrimitiveFits, CalculationFits, ExpressionFits, TermFits, OutcomeFits}
 use Rattle.te_report.proofs.ChannelsEvaluated.{trap_has, value_has, expression_by, term_by}
@@ -45,9 +45,9 @@ module _ (P : ℕ → Type 0) where
   event_spelled s (throw e) low h = expression_spelled s e low h
   event_spelled s (send p e) low h = (primitive_spelled s p low h.0, expression_spelled s e low h.1)
   event_spelled s (recv p) low h = primitive_spelled s p low h
-  event_spelled s (and_then e n f) low h = (event_spelled s e low h.1, event_spelled (one_more s) f low h.2)
+  event_spelled s (and_then e n f) low h = (event_spelled s e low h.1, event_spelled (one_deeper s) f low h.2)
   event_spelled s (choose e f) low h = (event_spelled s e low h.0, event_spelled s f low h.1)
-  event_spelled s (catch e n f) low h = (event_spelled s e low h.1, event_spelled (one_more s) f low h.2)
+  event_spelled s (catch e n f) low h = (event_spelled s e low h.1, event_spelled (one_deeper s) f low h.2)
   event_spelled s (when test p q e f) low h = (primitive_spelled s p low h.0, primitive_spelled s q low h.1, event_spelled s e low h.2, event_spelled s f low h.3)
 
   -- ---- statements and steps

@@ -13,9 +13,9 @@ use Rattle.te_script.specs.Names.{is_word_byte}
 use Rattle.te_script.specs.Scripts.{Program, IsScript}
 use Rattle.te_report.specs.declared.saying.Said.TheVariants as says
 use Rattle.te_history.specs.declared.entry.Entry.TheVariants as entries
-use Rattle.te_report.specs.Readable.{IsOutcomeOf, IsMemberOf, IsNamed, IsMeetingOf, IsCommitOf}
+use Rattle.te_report.specs.Readable.{IsOutcomeOf, IsMemberOf, IsNamed, IsMeetingOf, CommitIsReadable}
 use Rattle.te_report.specs.Report.{name_of, outcome_text, letter, member_text, other_members, members_text, member_thread, member_name, meeting_text, commit_text}
-use Rattle.te_report.specs.Sayings.{called_of, up_to, behind, words, or_first, said_ticket, said_thread, said_outcome, said_choices, said_member, said_gets, said_place, said_meeting, said_members, said_outcomes, said_meets, said_commit}
+use Rattle.te_report.specs.Sayings.{called_of, up_to, cut_behind, words, or_first, said_ticket, said_thread, said_outcome, said_choices, said_member, said_gets, said_place, said_meeting, said_members, said_outcomes, said_meets, said_commit}
 use Rattle.te_report.proofs.Appends.{parts_7}
 use Rattle.te_report.proofs.Cuts.{lacks, lacks_cons, lacks_append, front, back, IsWord, others, joined, words_joined, lacks_joined, lacks_others, back_joined}
 use Rattle.te_report.proofs.NumbersTold.{ticket_told, number_lacks}
@@ -66,26 +66,26 @@ module _ (script : Program) (is : IsScript script) where
     name_front : up_to 46 (member_text script m o) ≡ name_of script m.thread
     name_front = ap (up_to 46) parts ∙ front 46 (name_of script m.thread) (tail_of m o) (name_lacks 46 (name_of script m.thread) refl (thread_named script is m.thread h.0))
 
-    name_back : behind 46 (member_text script m o) ≡ tail_of m o
-    name_back = ap (behind 46) parts ∙ back 46 (name_of script m.thread) (tail_of m o) (name_lacks 46 (name_of script m.thread) refl (thread_named script is m.thread h.0))
+    name_back : cut_behind 46 (member_text script m o) ≡ tail_of m o
+    name_back = ap (cut_behind 46) parts ∙ back 46 (name_of script m.thread) (tail_of m o) (name_lacks 46 (name_of script m.thread) refl (thread_named script is m.thread h.0))
 
-    ticket_front : up_to 91 (behind 46 (member_text script m o)) ≡ decimal m.ticket
+    ticket_front : up_to 91 (cut_behind 46 (member_text script m o)) ≡ decimal m.ticket
     ticket_front = ap (up_to 91) name_back ∙ front 91 (decimal m.ticket) (flat_map letter m.choices ++ 93 ∷ outcome_text script o) (number_lacks_sign 91 m refl h)
 
-    ticket_back : behind 91 (behind 46 (member_text script m o)) ≡ flat_map letter m.choices ++ 93 ∷ outcome_text script o
-    ticket_back = ap (behind 91) name_back ∙ back 91 (decimal m.ticket) (flat_map letter m.choices ++ 93 ∷ outcome_text script o) (number_lacks_sign 91 m refl h)
+    ticket_back : cut_behind 91 (cut_behind 46 (member_text script m o)) ≡ flat_map letter m.choices ++ 93 ∷ outcome_text script o
+    ticket_back = ap (cut_behind 91) name_back ∙ back 91 (decimal m.ticket) (flat_map letter m.choices ++ 93 ∷ outcome_text script o) (number_lacks_sign 91 m refl h)
 
-    choices_front : up_to 93 (behind 91 (behind 46 (member_text script m o))) ≡ flat_map letter m.choices
+    choices_front : up_to 93 (cut_behind 91 (cut_behind 46 (member_text script m o))) ≡ flat_map letter m.choices
     choices_front = ap (up_to 93) ticket_back ∙ front 93 (flat_map letter m.choices) (outcome_text script o) (letters_lack 93 m.choices refl refl)
 
-    choices_back : behind 93 (behind 91 (behind 46 (member_text script m o))) ≡ outcome_text script o
-    choices_back = ap (behind 93) ticket_back ∙ back 93 (flat_map letter m.choices) (outcome_text script o) (letters_lack 93 m.choices refl refl)
+    choices_back : cut_behind 93 (cut_behind 91 (cut_behind 46 (member_text script m o))) ≡ outcome_text script o
+    choices_back = ap (cut_behind 93) ticket_back ∙ back 93 (flat_map letter m.choices) (outcome_text script o) (letters_lack 93 m.choices refl refl)
 
     member_is_told : said_member (called_of script) (member_text script m o) ≡ m
     member_is_told =
         let thread : said_thread (called_of script).threads (up_to 46 (member_text script m o)) ≡ m.thread = ap (said_thread (called_of script).threads) name_front ∙ thread_is_told script is m.thread h.0 in
-        let ticket : said_ticket (up_to 91 (behind 46 (member_text script m o))) ≡ m.ticket = ap said_ticket ticket_front ∙ ticket_told m.ticket h.1 in
-        let choices : said_choices (up_to 93 (behind 91 (behind 46 (member_text script m o)))) ≡ m.choices = ap said_choices choices_front ∙ letters_told m.choices in
+        let ticket : said_ticket (up_to 91 (cut_behind 46 (member_text script m o))) ≡ m.ticket = ap said_ticket ticket_front ∙ ticket_told m.ticket h.1 in
+        let choices : said_choices (up_to 93 (cut_behind 91 (cut_behind 46 (member_text script m o)))) ≡ m.choices = ap said_choices choices_front ∙ letters_told m.choices in
         λ i. record { thread = thread i; ticket = ticket i; choices = choices i }
 
     gets_is_told : said_gets (called_of script) (member_text script m o) ≡ o
@@ -225,11 +225,11 @@ module _ (script : Program) (is : IsScript script) where
 
   -- where nobody is a member, nobody meets
   meets_are_told : (ms : List Member) (xs : List Meeting) → AllByRecursion (IsMemberOf script) ms → AllByRecursion (IsMeetingOf ms) xs
-      → said_meets (called_of script) ms (behind 32 (flat_map (meeting_text script ms) xs)) ≡ xs
+      → said_meets (called_of script) ms (cut_behind 32 (flat_map (meeting_text script ms) xs)) ≡ xs
   meets_are_told [] [] hs ns = refl
   meets_are_told [] (x ∷ xs) hs ns = absurd (let there = ns.0.0.there in cc)
   meets_are_told (m ∷ ms) xs hs ns =
-      ap (λ text. map (said_meeting (called_of script) (m ∷ ms)) (words 32 (behind 32 text))) (meets_joined (m ∷ ms) xs)
+      ap (λ text. map (said_meeting (called_of script) (m ∷ ms)) (words 32 (cut_behind 32 text))) (meets_joined (m ∷ ms) xs)
       ∙ ap (λ text. map (said_meeting (called_of script) (m ∷ ms)) (words 32 text)) (back_joined 32 [] (map (met_text script (m ∷ ms)) xs) refl)
       ∙ ap (map (said_meeting (called_of script) (m ∷ ms))) (words_joined 32 (map (met_text script (m ∷ ms)) xs) (meets_are_words (m ∷ ms) xs hs ns))
       ∙ each_meeting_told (m ∷ ms) xs hs ns
@@ -243,19 +243,19 @@ module _ (script : Program) (is : IsScript script) where
     right = refl;
   }
 
-  pub commit_is_told : (by : ℕ) (cert : Cert) (outcomes : List Outcome) → IsCommitOf script cert outcomes
-      → said_commit (called_of script) by (up_to 59 (commit_text script cert outcomes)) (behind 32 (behind 59 (commit_text script cert outcomes))) ≡ says.Entry (entries.Commit by cert outcomes)
+  pub commit_is_told : (by : ℕ) (cert : Cert) (outcomes : List Outcome) → CommitIsReadable script cert outcomes
+      → said_commit (called_of script) by (up_to 59 (commit_text script cert outcomes)) (cut_behind 32 (cut_behind 59 (commit_text script cert outcomes))) ≡ says.Entry (entries.Commit by cert outcomes)
   commit_is_told by cert outcomes h =
       let ms = cert.members in
       let meets_text = flat_map (meeting_text script ms) cert.meets in
       let clear = members_text_lacks 59 semicolon refl ms outcomes h.members h.gets in
       let parts : commit_text script cert outcomes ≡ members_text script ms outcomes ++ 59 ∷ meets_text = append_assoc (members_text script ms outcomes) (codes ";") meets_text in
       let first_part : up_to 59 (commit_text script cert outcomes) ≡ members_text script ms outcomes = ap (up_to 59) parts ∙ front 59 (members_text script ms outcomes) meets_text clear in
-      let last_part : behind 59 (commit_text script cert outcomes) ≡ meets_text = ap (behind 59) parts ∙ back 59 (members_text script ms outcomes) meets_text clear in
+      let last_part : cut_behind 59 (commit_text script cert outcomes) ≡ meets_text = ap (cut_behind 59) parts ∙ back 59 (members_text script ms outcomes) meets_text clear in
       let split = ap (words 32) first_part ∙ members_split ms outcomes h.members h.gets in
       let members : said_members (called_of script) (up_to 59 (commit_text script cert outcomes)) ≡ ms = ap (map (said_member (called_of script))) split ∙ each_member_told ms outcomes h.as_many h.members h.gets in
       let gets : said_outcomes (called_of script) (up_to 59 (commit_text script cert outcomes)) ≡ outcomes = ap (map (said_gets (called_of script))) split ∙ each_gets_told ms outcomes h.as_many h.members h.gets in
-      let meets : said_meets (called_of script) (said_members (called_of script) (up_to 59 (commit_text script cert outcomes))) (behind 32 (behind 59 (commit_text script cert outcomes))) ≡ cert.meets =
-      ap (λ x. said_meets (called_of script) x (behind 32 (behind 59 (commit_text script cert outcomes)))) members
-      ∙ ap (λ x. said_meets (called_of script) ms (behind 32 x)) last_part ∙ meets_are_told ms cert.meets h.members h.meets in
+      let meets : said_meets (called_of script) (said_members (called_of script) (up_to 59 (commit_text script cert outcomes))) (cut_behind 32 (cut_behind 59 (commit_text script cert outcomes))) ≡ cert.meets =
+      ap (λ x. said_meets (called_of script) x (cut_behind 32 (cut_behind 59 (commit_text script cert outcomes)))) members
+      ∙ ap (λ x. said_meets (called_of script) ms (cut_behind 32 x)) last_part ∙ meets_are_told ms cert.meets h.members h.meets in
       λ i. says.Entry (entries.Commit by (record { members = members i; meets = meets i }) (gets i))

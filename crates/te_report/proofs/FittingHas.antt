@@ -12,7 +12,7 @@ use Rattle.te_history.specs.declared.status.How.TheVariants as ways
 use Rattle.te_history.specs.declared.entry.Entry.{Entry}
 use Rattle.te_history.specs.declared.entry.Entry.TheVariants as entries
 use Rattle.te_report.specs.Channels.{ValueHas, VariableHas, PrimitiveHas, CalculationHas, ExpressionHas, TermHas, OutcomeHas, HowHas, EntryHas}
-use Rattle.te_report.specs.Fitting.{AtomFits, ValueFits, VariableFits, PrimitiveFits, CalculationFits, ExpressionFits, TermFits, OutcomeFits, HowFits, EntryFits}
+use Rattle.te_report.specs.Fitting.{AtomFits, ValueFits, VariableFits, PrimitiveFits, CalculationFits, ExpressionFits, TermFits, OutcomeFits, HowFits, EntryIsSpelled}
 
 module _ (P : ℕ → Type 0) where
   atoms_have : (v : List Atom) → AllByRecursion (AtomFits P) v → ValueHas P v
@@ -71,7 +71,7 @@ module _ (P : ℕ → Type 0) where
   how_has (ways.Raised value) h = value_has value h
   how_has ways.Stuck h = tt
 
-  pub entry_has : (e : Entry) → EntryFits P e → EntryHas P e
+  pub entry_has : (e : Entry) → EntryIsSpelled P e → EntryHas P e
   entry_has (entries.Post by ticket event) h = term_has event h
   entry_has (entries.Commit by cert outcomes) h = outcomes_have outcomes h
   entry_has (entries.Withdraw by ticket) h = tt
@@ -80,6 +80,6 @@ module _ (P : ℕ → Type 0) where
   entry_has (entries.Stuck by) h = tt
   entry_has (entries.End by how) h = how_has how h
 
-  pub entries_have : (es : List Entry) → AllByRecursion (EntryFits P) es → AllByRecursion (EntryHas P) es
+  pub entries_have : (es : List Entry) → AllByRecursion (EntryIsSpelled P) es → AllByRecursion (EntryHas P) es
   entries_have [] h = tt
   entries_have (e ∷ es) h = (entry_has e h.0, entries_have es h.1)

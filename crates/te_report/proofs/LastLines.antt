@@ -8,7 +8,7 @@ use Rattle.te_report.specs.declared.ending.Ending.{Ending}
 use Rattle.te_report.specs.declared.ending.Ending.TheVariants as endings
 use Rattle.te_report.specs.Report.{last_line}
 use Rattle.te_report.specs.Told.{HasCounts, IsNoLast}
-use Rattle.te_report.specs.Sayings.{up_to, behind, said_number, digits_value, said_spent, said_ending, first_byte}
+use Rattle.te_report.specs.Sayings.{up_to, cut_behind, said_number, decimal_value, said_spent, said_ending, first_byte}
 use Rattle.te_report.proofs.Appends.{parts_9}
 use Rattle.te_report.proofs.Cuts.{lacks, front, back}
 use Rattle.te_report.proofs.NumbersTold.{number_told, number_lacks}
@@ -75,11 +75,11 @@ module _ (count front_at paths groups : ℕ) (h0 : count < 2 ^ 64) (h1 : front_a
   spent_said : said_spent first_part ≡ endings.Spent front_at paths groups
   spent_said =
       let f : said_number (up_to 32 (decimal front_at ++ 32 ∷ second)) ≡ front_at = ap said_number (front 32 (decimal front_at) second (spaced front_at h1)) ∙ number_told front_at h1 in
-      let behind_f : behind 32 (decimal front_at ++ 32 ∷ second) ≡ second = back 32 (decimal front_at) second (spaced front_at h1) in
-      let p : said_number (up_to 32 (behind 32 (behind 32 (decimal front_at ++ 32 ∷ second)))) ≡ paths =
-      ap (λ x. said_number (up_to 32 (behind 32 x))) behind_f ∙ ap said_number (front 32 (decimal paths) third (spaced paths h2)) ∙ number_told paths h2 in
-      let g : said_number (behind 32 (behind 32 (behind 32 (behind 32 (decimal front_at ++ 32 ∷ second))))) ≡ groups =
-      ap (λ x. said_number (behind 32 (behind 32 (behind 32 x)))) behind_f ∙ ap (λ x. said_number (behind 32 x)) (back 32 (decimal paths) third (spaced paths h2)) ∙ number_told groups h3 in
+      let behind_f : cut_behind 32 (decimal front_at ++ 32 ∷ second) ≡ second = back 32 (decimal front_at) second (spaced front_at h1) in
+      let p : said_number (up_to 32 (cut_behind 32 (cut_behind 32 (decimal front_at ++ 32 ∷ second)))) ≡ paths =
+      ap (λ x. said_number (up_to 32 (cut_behind 32 x))) behind_f ∙ ap said_number (front 32 (decimal paths) third (spaced paths h2)) ∙ number_told paths h2 in
+      let g : said_number (cut_behind 32 (cut_behind 32 (cut_behind 32 (cut_behind 32 (decimal front_at ++ 32 ∷ second))))) ≡ groups =
+      ap (λ x. said_number (cut_behind 32 (cut_behind 32 (cut_behind 32 x)))) behind_f ∙ ap (λ x. said_number (cut_behind 32 x)) (back 32 (decimal paths) third (spaced paths h2)) ∙ number_told groups h3 in
       λ i. endings.Spent (f i) (p i) (g i)
 
   pub spent_told : said_ending (up_to 10 (last_line count (endings.Spent front_at paths groups) ++ more)) ≡ endings.Spent front_at paths groups
@@ -87,7 +87,7 @@ module _ (count front_at paths groups : ℕ) (h0 : count < 2 ^ 64) (h1 : front_a
   spent_told =
       ap (λ x. said_ending (up_to 10 (x ++ more)))
       (parts_9 (codes "spent ") (decimal count) (codes " front ") (decimal front_at) (codes " paths ") (decimal paths) (codes " groups ") (decimal groups) (codes "\n"))
-      ∙ ap (λ x. said_spent (behind 32 x)) line_0 ∙ ap said_spent (back 32 (decimal count) first_part (spaced count h0)) ∙ spent_said
+      ∙ ap (λ x. said_spent (cut_behind 32 x)) line_0 ∙ ap said_spent (back 32 (decimal count) first_part (spaced count h0)) ∙ spent_said
 
 pub ending_told : (count : ℕ) (ending : Ending) (rest more : List ℕ) → count < 2 ^ 64 → HasCounts ending → rest ≡ last_line count ending ++ more → said_ending (up_to 10 rest) ≡ ending
 unfolding said_ending
@@ -97,15 +97,15 @@ ending_told count endings.Full rest more few counts is = ap (λ x. said_ending (
 
 number_fits : (ds : List ℕ) → said_number ds < 2 ^ 64
 unfolding said_number
-number_fits ds = by (nat_lt (digits_value 0 ds) (2 ^ 64)) refl where
-  by : (b : Bool) → nat_lt (digits_value 0 ds) (2 ^ 64) ≡ b → (if b then digits_value 0 ds else 0) < 2 ^ 64
+number_fits ds = by (nat_lt (decimal_value 0 ds) (2 ^ 64)) refl where
+  by : (b : Bool) → nat_lt (decimal_value 0 ds) (2 ^ 64) ≡ b → (if b then decimal_value 0 ds else 0) < 2 ^ 64
   by true e = grind (arith, nat_tests)
   by false e = omega arith
 
 pub ending_fits : (line : List ℕ) → HasCounts (said_ending line)
 unfolding said_ending
 ending_fits line = by (first_byte line == 115) (first_byte line == 102) where
-  by : (s f : Bool) → HasCounts (if s then said_spent (behind 32 (behind 32 line)) else (if f then endings.Full else endings.Closed))
+  by : (s f : Bool) → HasCounts (if s then said_spent (cut_behind 32 (cut_behind 32 line)) else (if f then endings.Full else endings.Closed))
   by true f = (number_fits _, number_fits _, number_fits _)
   by false true = tt
   by false false = tt

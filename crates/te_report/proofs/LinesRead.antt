@@ -11,10 +11,10 @@ use Rattle.te_report.specs.declared.fault.Cause.{Cause}
 use Rattle.te_report.specs.declared.fault.Cause.TheVariants as causes
 use Rattle.te_report.specs.declared.saying.Said.{Said}
 use Rattle.te_report.specs.declared.saying.Said.TheVariants as says
-use Rattle.te_report.specs.Readable.{IsEntryOf, IsSite, HasSite, Spells}
-use Rattle.te_report.specs.Report.{Version, first, second, posted_site, most_entries, numbered, entry_text}
+use Rattle.te_report.specs.Readable.{IsEntryOf, IsSite, HasSite, SpellsEntry}
+use Rattle.te_report.specs.Report.{Version, first, second, posted_site, most_reported_entries, numbered, entry_text}
 use Rattle.te_report.specs.Sayings.{called_of, up_to, said, site_in, said_text, version_of}
-use Rattle.te_report.specs.Judging.{IsUnposted, HasUnposted, IsLike, SaysSite, IsMeant, IsFailing, HasNoEntry, HasIllegal, GoesOn}
+use Rattle.te_report.specs.Judging.{IsUnposted, HasUnposted, IsLike, SaysSite, IsMeant, IsFailing, HasNoEntry, HasIllegal, ReadingGoesOn}
 use Rattle.te_report.proofs.LinesTold.{tells, told_as, text_same, line_is_told}
 use Rattle.te_report.proofs.SayingsFit.{FitsIn, said_fits}
 
@@ -28,22 +28,22 @@ other_site : (version : Version) (at : Option Site) (by ticket : ℕ) (event : T
 other_site first at by ticket event h = tt
 other_site second at by ticket event h = h
 
-pub like_spells : (version : Version) (script : Program) (s : Said) (e : Entry) (number : ℕ) (line : List ℕ) → FitsIn version script s → IsLike s e → number ≤ most_entries
-    → line ≡ numbered number (said_text script s) → Spells version script number (site_in s) e line
+pub like_spells : (version : Version) (script : Program) (s : Said) (e : Entry) (number : ℕ) (line : List ℕ) → FitsIn version script s → IsLike s e → number ≤ most_reported_entries
+    → line ≡ numbered number (said_text script s) → SpellsEntry version script number (site_in s) e line
 like_spells version script (says.Post by ticket site) e number line fit like within is =
-    subst (λ x. Spells version script number site x line) (sym like.1) (record {
+    subst (λ x. SpellsEntry version script number site x line) (sym like.1) (record {
       within = within;
       entry = fit.entry;
       site = other_site version site by ticket like.0 fit.site;
       text = is ∙ ap (numbered number) fit.text;
     })
 like_spells version script (says.Entry e) f number line fit like within is =
-    subst (λ x. Spells version script number None x line) (sym like) (record { within = within; entry = fit.entry; site = fit.site; text = is ∙ ap (numbered number) fit.text })
+    subst (λ x. SpellsEntry version script number None x line) (sym like) (record { within = within; entry = fit.entry; site = fit.site; text = is ∙ ap (numbered number) fit.text })
 
 -- ---- what spells the line is like what is said
 
 pub told_by : (sites : Bool) (script : Program) (is : IsScript script) (number : ℕ) (at : Option Site) (e : Entry) (rest line more : List ℕ) → rest ≡ line ++ more
-    → Spells (version_of sites) script number at e line → said (called_of script) sites (up_to 10 rest) ≡ told_as (version_of sites) at e
+    → SpellsEntry (version_of sites) script number at e line → said (called_of script) sites (up_to 10 rest) ≡ told_as (version_of sites) at e
 told_by sites script is number at e rest line more split spells =
     let within = spells.within in
     subst (λ b. said (called_of script) b (up_to 10 rest) ≡ told_as (version_of sites) at e) (tells_version sites)
@@ -126,17 +126,17 @@ module _ (sites : Bool) (script : Program) (is : IsScript script) (hist : Histor
       none more (split ∙ ap (λ l. l ++ more) (spells.text ∙ ap (numbered number) (text_same (version_of sites) script at e ∙ ap (said_text script) (sym told))))
 
   -- there are too many lines
-  pub too_many : most_entries < number → HasNoEntry (version_of sites) script hist rest
+  pub too_many : most_reported_entries < number → HasNoEntry (version_of sites) script hist rest
   too_many past at e line more split spells = let within = spells.within in omega arith
 
-  module _ (s : Said) (behind : List ℕ) (is_said : s ≡ said (called_of script) sites (up_to 10 rest)) (split : rest ≡ numbered number (said_text script s) ++ behind) (within : number ≤ most_entries) where
+  module _ (s : Said) (behind : List ℕ) (is_said : s ≡ said (called_of script) sites (up_to 10 rest)) (split : rest ≡ numbered number (said_text script s) ++ behind) (within : number ≤ most_reported_entries) where
     fit : FitsIn (version_of sites) script s
     fit = subst (FitsIn (version_of sites) script) (sym is_said) (said_fits script is sites (up_to 10 rest))
 
     pub unposted : HasUnposted s
     unposted = fit.unposted
 
-    pub goes_on : (new : History) (e : Entry) → IsMeant sites script hist s e → new.callers ≡ hist.callers → new.entries ≡ hist.entries ++ e ∷ [] → GoesOn (version_of sites) script hist new rest behind
+    pub goes_on : (new : History) (e : Entry) → IsMeant sites script hist s e → new.callers ≡ hist.callers → new.entries ≡ hist.entries ++ e ∷ [] → ReadingGoesOn (version_of sites) script hist new rest behind
     goes_on new e meant callers entries =
         let line = meant_line sites script hist.entries s e fit meant.like meant.site in
         record {
@@ -152,7 +152,7 @@ module _ (sites : Bool) (script : Program) (is : IsScript script) (hist : Histor
         }
 
     -- what is spelled as the line, with the site of its wish, is like what is said
-    wished_like : (wished : Entry) → Spells (version_of sites) script number (posted_site script hist.entries wished) wished (numbered number (said_text script s))
+    wished_like : (wished : Entry) → SpellsEntry (version_of sites) script number (posted_site script hist.entries wished) wished (numbered number (said_text script s))
         → IsLike s wished × SaysSite sites script hist.entries s wished
     wished_like wished spells =
         let told = told_by sites script is number (posted_site script hist.entries wished) wished rest (numbered number (said_text script s)) behind split spells in

@@ -16,10 +16,10 @@ use Rattle.te_report.specs.declared.saying.Said.TheVariants as says
 use Rattle.te_report.specs.OfScript.{IsOfScript}
 use Rattle.te_report.specs.Following.{cores_from, AreFollowed}
 use Rattle.te_report.specs.Readable.{IsEntryOf}
-use Rattle.te_report.specs.Report.{Version, first, second, head_line, posted_site, most_entries, numbered, entry_text, entry_line, entry_lines}
-use Rattle.te_report.specs.Told.{most_bytes, StandsAt, IsNoHead}
+use Rattle.te_report.specs.Report.{Version, first, second, head_line, posted_site, most_reported_entries, numbered, entry_text, entry_line, entry_lines}
+use Rattle.te_report.specs.Told.{most_report_bytes, LineStandsAt, IsNoHead}
 use Rattle.te_report.specs.Sayings.{called_of, up_to, said, entry_in, said_text, version_of}
-use Rattle.te_report.specs.Judging.{sayer, TakesIn, FailsSaid, GoesOn, FailsNext}
+use Rattle.te_report.specs.Judging.{sayer, TakesEntryIn, FailsSaid, ReadingGoesOn, NextFails}
 use Rattle.te_report.proofs.Cuts.{none_left}
 use Rattle.te_report.proofs.SayingsFit.{length_names, said_fits}
 use Rattle.te_report.proofs.LinesRead.{goes_on, illegal}
@@ -40,7 +40,7 @@ is_some (x ∷ xs) b is f none = absurd cc
 
 -- ---- the head
 
-pub no_head : (bytes : List ℕ) → length bytes ≤ most_bytes → ((rest : List ℕ) → bytes ≢ head_line first ++ rest) → ((rest : List ℕ) → bytes ≢ head_line second ++ rest) → IsNoHead bytes
+pub no_head : (bytes : List ℕ) → length bytes ≤ most_report_bytes → ((rest : List ℕ) → bytes ≢ head_line first ++ rest) → ((rest : List ℕ) → bytes ≢ head_line second ++ rest) → IsNoHead bytes
 no_head bytes few none_first none_second = record { few = few; headless = each }
   where
     each : (version : Version) (rest : List ℕ) → bytes ≢ head_line version ++ rest
@@ -66,7 +66,7 @@ few_names script is called same =
     subst (λ (c : Called). (length c.threads ≤ 64) × (length c.channels ≤ 256)) (sym same) (omega (arith, many, threads), omega (arith, channels))
 
 -- what is left is short
-pub few_left : (script : Program) (bytes : List ℕ) (version : Version) (hist : History) (rest : List ℕ) (n : ℕ) → StandsAt script bytes version hist rest n → length rest < 2 ^ 32
+pub few_left : (script : Program) (bytes : List ℕ) (version : Version) (hist : History) (rest : List ℕ) (n : ℕ) → LineStandsAt script bytes version hist rest n → length rest < 2 ^ 32
 few_left script bytes version hist rest n at =
     let whole = ap length at.text in
     let parts = length-append (head_line version ++ entry_lines version script [] hist.entries) rest in
@@ -74,7 +74,7 @@ few_left script bytes version hist rest n at =
     omega (arith, whole, parts, few)
 
 -- and grows shorter by each line
-pub fewer_left : (version : Version) (script : Program) (old new : History) (rest behind : List ℕ) → GoesOn version script old new rest behind → length behind < length rest
+pub fewer_left : (version : Version) (script : Program) (old new : History) (rest behind : List ℕ) → ReadingGoesOn version script old new rest behind → length behind < length rest
 fewer_left version script old new rest behind on =
     let number = suc (length old.entries) in
     let text = entry_text version script (posted_site script old.entries on.entry) on.entry in
@@ -104,11 +104,11 @@ sayer_low sites script is line s same =
 -- ---- what it leaves
 
 module _ (sites : Bool) (script : Program) (is : IsScript script) (hist : History) (rest : List ℕ) (s : Said) (behind : List ℕ) (is_said : s ≡ said (called_of script) sites (up_to 10 rest))
-    (split : rest ≡ numbered (suc (length hist.entries)) (said_text script s) ++ behind) (within : suc (length hist.entries) ≤ most_entries) where
-  pub taken_next : (new : History) → TakesIn sites script hist new s → GoesOn (version_of sites) script hist new rest behind
+    (split : rest ≡ numbered (suc (length hist.entries)) (said_text script s) ++ behind) (within : suc (length hist.entries) ≤ most_reported_entries) where
+  pub taken_next : (new : History) → TakesEntryIn sites script hist new s → ReadingGoesOn (version_of sites) script hist new rest behind
   taken_next new t = goes_on sites script is hist rest s behind is_said split within new t.entry t.meant t.same_callers t.one_more
 
-  pub failed_next : (at : ℕ) → at ≡ suc (suc (length hist.entries)) → (fault : ReportFault) → FailsSaid sites script hist s at fault → FailsNext (version_of sites) script hist rest fault
+  pub failed_next : (at : ℕ) → at ≡ suc (suc (length hist.entries)) → (fault : ReportFault) → FailsSaid sites script hist s at fault → NextFails (version_of sites) script hist rest fault
   failed_next at line (faults.Illegal n cause) fails = (fails.0 ∙ line, illegal sites script is hist rest s behind is_said split within cause fails.1)
   failed_next at line faults.Memory fails = tt
   failed_next at line faults.Head fails = absurd fails

@@ -16,7 +16,7 @@ use Rattle.te_report.specs.declared.saying.Said.{Said}
 use Rattle.te_report.specs.declared.saying.Said.TheVariants as says
 use Rattle.te_report.specs.Readable.{IsNumber, IsHowOf, IsEntryOf, HasSite}
 use Rattle.te_report.specs.Report.{Version, first, second, name_of, value_text, outcome_text, end_text, site_text, commit_text, meeting_text, members_text, entry_text, numbered}
-use Rattle.te_report.specs.Sayings.{called_of, up_to, behind, said_ticket, said_thread, said_values, said_outcome, said_how, said_site, said_entry, said_words, said, said_text}
+use Rattle.te_report.specs.Sayings.{called_of, up_to, cut_behind, said_ticket, said_thread, said_values, said_outcome, said_how, said_site, said_entry, said_words, said, said_text}
 use Rattle.te_report.proofs.Appends.{parts_4, parts_5, parts_6}
 use Rattle.te_report.proofs.Cuts.{lacks, lacks_append, front, back, whole_front, no_back, lacks_others, back_joined}
 use Rattle.te_report.proofs.NumbersTold.{ticket_told, number_lacks}
@@ -102,16 +102,16 @@ module _ (script : Program) (is : IsScript script) where
 
   -- ---- who it is by, and what stands behind
 
-  by_named : (sites : Bool) (letter t : ℕ) (text tail : List ℕ) → t < length script.threads → up_to 58 (up_to 32 text) ≡ name_of script t → behind 32 text ≡ tail
-      → said_entry (called_of script) sites letter (said_thread (called_of script).threads (up_to 58 (up_to 32 text))) (behind 32 text) ≡ said_entry (called_of script) sites letter t tail
+  by_named : (sites : Bool) (letter t : ℕ) (text tail : List ℕ) → t < length script.threads → up_to 58 (up_to 32 text) ≡ name_of script t → cut_behind 32 text ≡ tail
+      → said_entry (called_of script) sites letter (said_thread (called_of script).threads (up_to 58 (up_to 32 text))) (cut_behind 32 text) ≡ said_entry (called_of script) sites letter t tail
   by_named sites letter t text tail lt who rest =
-      ap (λ w. said_entry (called_of script) sites letter (said_thread (called_of script).threads w) (behind 32 text)) who
-      ∙ ap (λ x. said_entry (called_of script) sites letter x (behind 32 text)) (thread_is_told script is t lt)
+      ap (λ w. said_entry (called_of script) sites letter (said_thread (called_of script).threads w) (cut_behind 32 text)) who
+      ∙ ap (λ x. said_entry (called_of script) sites letter x (cut_behind 32 text)) (thread_is_told script is t lt)
       ∙ ap (said_entry (called_of script) sites letter t) rest
 
   -- behind a space
   by_spaced : (sites : Bool) (letter t : ℕ) (tail : List ℕ) → t < length script.threads
-      → said_entry (called_of script) sites letter (said_thread (called_of script).threads (up_to 58 (up_to 32 (name_of script t ++ 32 ∷ tail)))) (behind 32 (name_of script t ++ 32 ∷ tail))
+      → said_entry (called_of script) sites letter (said_thread (called_of script).threads (up_to 58 (up_to 32 (name_of script t ++ 32 ∷ tail)))) (cut_behind 32 (name_of script t ++ 32 ∷ tail))
       ≡ said_entry (called_of script) sites letter t tail
   by_spaced sites letter t tail lt =
       by_named sites letter t (name_of script t ++ 32 ∷ tail) tail lt
@@ -120,7 +120,7 @@ module _ (script : Program) (is : IsScript script) where
 
   -- with nothing behind
   by_alone : (sites : Bool) (letter t : ℕ) → t < length script.threads
-      → said_entry (called_of script) sites letter (said_thread (called_of script).threads (up_to 58 (up_to 32 (name_of script t)))) (behind 32 (name_of script t))
+      → said_entry (called_of script) sites letter (said_thread (called_of script).threads (up_to 58 (up_to 32 (name_of script t)))) (cut_behind 32 (name_of script t))
       ≡ said_entry (called_of script) sites letter t []
   by_alone sites letter t lt =
       by_named sites letter t (name_of script t) [] lt
@@ -129,7 +129,7 @@ module _ (script : Program) (is : IsScript script) where
 
   -- behind a colon and a space
   by_colon : (sites : Bool) (letter t : ℕ) (tail : List ℕ) → t < length script.threads
-      → said_entry (called_of script) sites letter (said_thread (called_of script).threads (up_to 58 (up_to 32 (name_of script t ++ 58 ∷ 32 ∷ tail)))) (behind 32 (name_of script t ++ 58 ∷ 32 ∷ tail))
+      → said_entry (called_of script) sites letter (said_thread (called_of script).threads (up_to 58 (up_to 32 (name_of script t ++ 58 ∷ 32 ∷ tail)))) (cut_behind 32 (name_of script t ++ 58 ∷ 32 ∷ tail))
       ≡ said_entry (called_of script) sites letter t tail
   by_colon sites letter t tail lt =
       let name = name_of script t in
@@ -137,7 +137,7 @@ module _ (script : Program) (is : IsScript script) where
       let parted : name ++ 58 ∷ 32 ∷ tail ≡ (name ++ 58 ∷ []) ++ 32 ∷ tail = sym (append_assoc name (58 ∷ []) (32 ∷ tail)) in
       by_named sites letter t (name ++ 58 ∷ 32 ∷ tail) tail lt
       (ap (λ x. up_to 58 (up_to 32 x)) parted ∙ ap (up_to 58) (front 32 (name ++ 58 ∷ []) tail with_colon) ∙ front 58 name [] (clear_of_colon t lt))
-      (ap (behind 32) parted ∙ back 32 (name ++ 58 ∷ []) tail with_colon)
+      (ap (cut_behind 32) parted ∙ back 32 (name ++ 58 ∷ []) tail with_colon)
 
   -- ---- each entry
 
@@ -159,8 +159,8 @@ module _ (script : Program) (is : IsScript script) where
       let clear = number_lacks 32 ticket refl (few_numbers ticket few) in
       let spelled : List ℕ = decimal s.statement ++ 46 ∷ decimal s.pass in
       let under : said_ticket (up_to 32 (decimal ticket ++ 32 ∷ 97 ∷ 116 ∷ 32 ∷ spelled)) ≡ ticket = ap said_ticket (front 32 (decimal ticket) (97 ∷ 116 ∷ 32 ∷ spelled) clear) ∙ ticket_told ticket few in
-      let place : said_site true (behind 32 (behind 32 (decimal ticket ++ 32 ∷ 97 ∷ 116 ∷ 32 ∷ spelled))) ≡ Some s =
-      ap (λ x. said_site true (behind 32 x)) (back 32 (decimal ticket) (97 ∷ 116 ∷ 32 ∷ spelled) clear) ∙ site_told s site.0 site.1 in
+      let place : said_site true (cut_behind 32 (cut_behind 32 (decimal ticket ++ 32 ∷ 97 ∷ 116 ∷ 32 ∷ spelled))) ≡ Some s =
+      ap (λ x. said_site true (cut_behind 32 x)) (back 32 (decimal ticket) (97 ∷ 116 ∷ 32 ∷ spelled) clear) ∙ site_told s site.0 site.1 in
       λ i. says.Post by (under i) (place i)
 
   take_told : (sites : Bool) (by ticket : ℕ) (outcome : Outcome) → IsEntryOf script (entries.Take by ticket outcome)
@@ -173,7 +173,7 @@ module _ (script : Program) (is : IsScript script) where
 
   how_told : (how : How) → IsHowOf script how → said_how (called_of script) (end_text script how) ≡ how
   how_told (ways.Done values) h =
-      ap (λ x. ways.Done (said_values (called_of script) (behind 32 x))) (values_spaced script is values)
+      ap (λ x. ways.Done (said_values (called_of script) (cut_behind 32 x))) (values_spaced script is values)
       ∙ ap (λ x. ways.Done (said_values (called_of script) x)) (back_joined 32 [] (map (value_text script) values) refl)
       ∙ ap ways.Done (values_are_told script is values h)
   how_told (ways.Raised value) h = ap ways.Raised (value_is_told script is value h)
@@ -250,6 +250,6 @@ module _ (script : Program) (is : IsScript script) where
       let whole : rest ≡ (decimal number ++ 32 ∷ text) ++ 10 ∷ more =
       is_rest ∙ ap (λ t. numbered number t ++ more) (entry_parted version script at e) ∙ line_parted (decimal number) text more in
       let line : up_to 10 rest ≡ decimal number ++ 32 ∷ text = ap (up_to 10) whole ∙ front 10 (decimal number ++ 32 ∷ text) more clear in
-      ap (λ x. said_words (called_of script) (tells version) (behind 32 x)) line
+      ap (λ x. said_words (called_of script) (tells version) (cut_behind 32 x)) line
       ∙ ap (said_words (called_of script) (tells version)) (back 32 (decimal number) text (number_lacks 32 number refl few))
       ∙ words_told version at e h site

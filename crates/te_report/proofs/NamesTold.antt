@@ -11,7 +11,7 @@ use Rattle.te_history.proofs.Places.{by_place}
 use Rattle.te_script.specs.Names.{is_word_byte, IsIdentifier}
 use Rattle.te_script.specs.Scripts.{Thread, Program, AreDistinct, thread_names}
 use Rattle.te_report.specs.Report.{thread_name, name_of, or_nothing, channel_name}
-use Rattle.te_report.specs.Sayings.{or_first, place_of, said_thread}
+use Rattle.te_report.specs.Sayings.{or_first, place_of_name, said_thread}
 use Rattle.te_report.proofs.Cuts.{lacks, lacks_cons}
 
 -- ---- the first place that passes a test
@@ -71,8 +71,8 @@ none_earlier n (x ∷ xs) (suc i) d is zero y lt there =
     other_name y n (λ e. apart (same ∙ e))
 none_earlier n (x ∷ xs) (suc i) d is (suc k) y lt there = none_earlier n xs i d.1 is k y (omega arith) there
 
-pub place_found : (names : List (List ℕ)) (i : ℕ) (n : List ℕ) → AreDistinct names → slice_get names i ≡ Some n → place_of names n ≡ Some i
-unfolding place_of
+pub place_found : (names : List (List ℕ)) (i : ℕ) (n : List ℕ) → AreDistinct names → slice_get names i ≡ Some n → place_of_name names n ≡ Some i
+unfolding place_of_name
 place_found names i n distinct is =
     position_is (λ x. bytes_eq x n) names ∙ first_found (λ x. bytes_eq x n) names i n is ((bytes_eq-Decides n n).1 refl) (none_earlier n names i distinct is)
 
@@ -91,7 +91,7 @@ channel_there [] c lt = absurd (omega arith)
 channel_there (x ∷ xs) zero lt = refl
 channel_there (x ∷ xs) (suc c) lt = channel_there xs c (omega arith)
 
-pub channel_told : (script : Program) (c : ℕ) → AreDistinct script.channels → c < length script.channels → place_of script.channels (channel_name script c) ≡ Some c
+pub channel_told : (script : Program) (c : ℕ) → AreDistinct script.channels → c < length script.channels → place_of_name script.channels (channel_name script c) ≡ Some c
 channel_told script c distinct lt = place_found script.channels c (channel_name script c) distinct (channel_there script.channels c lt)
 
 -- ---- their bytes

@@ -9,17 +9,17 @@ use Rattle.std.proofs.lemmas.Fmt.{decimal_is_IsNumeral, digits_value-decimal}
 use Rattle.std.proofs.lemmas.Str.Parse.{digit_from_value, IsNumeralModel, numerals_by_fold, tells_digits}
 use Rattle.te_terms.specs.Values.{fits_i64}
 use Rattle.te_script.specs.Names.{is_word_byte}
-use Rattle.te_report.specs.Sayings.{digits_value, below, said_number, said_ticket, fitting, or_zero, said_integer}
+use Rattle.te_report.specs.Sayings.{decimal_value, below, said_number, said_ticket, fitting_number, or_zero, said_integer}
 use Rattle.te_report.proofs.Cuts.{lacks, lacks_cons}
 
-own : IsNumeralModel (AllDigits 10) (digits_value 0)
-own = numerals_by_fold _ tells_digits digits_value (record { empty = λ n. refl; more = λ n c cs k. refl })
+own : IsNumeralModel (AllDigits 10) (decimal_value 0)
+own = numerals_by_fold _ tells_digits decimal_value (record { empty = λ n. refl; more = λ n c cs k. refl })
 
-pub grows : (so_far : ℕ) (ds : List ℕ) → so_far ≤ digits_value so_far ds
+pub grows : (so_far : ℕ) (ds : List ℕ) → so_far ≤ decimal_value so_far ds
 grows so_far [] = omega arith
 grows so_far (d ∷ ds) = omega (arith, grows (so_far * 10 + (d - 48)) ds)
 
-decimal_value : (n : ℕ) → n < 2 ^ 64 → digits_value 0 (decimal n) ≡ n
+decimal_value : (n : ℕ) → n < 2 ^ 64 → decimal_value 0 (decimal n) ≡ n
 decimal_value n few = digits_value-decimal own n few
 
 below_is : (bound n : ℕ) → n < bound → below bound n ≡ n
@@ -62,21 +62,21 @@ number_some n few = (decimal_is_IsNumeral n few).0.0
 below_zero : (n : ℕ) → pos 0 -ℤ pos (suc n) ≡ negsuc n
 below_zero n = omega (arith, ints)
 
-fits : (z : ℤ) → fits_i64 z ≡ true → or_zero (fitting z) ≡ z
+fits : (z : ℤ) → fits_i64 z ≡ true → or_zero (fitting_number z) ≡ z
 fits z h = rw h refl
 
 -- digits that are there, by their first one
-pub digits_told : (n : ℕ) (ds : List ℕ) → 0 < length ds → AllDigits 10 ds → digits_value 0 ds ≡ n → fits_i64 (pos n) ≡ true → said_integer ds ≡ pos n
+pub digits_told : (n : ℕ) (ds : List ℕ) → 0 < length ds → AllDigits 10 ds → decimal_value 0 ds ≡ n → fits_i64 (pos n) ≡ true → said_integer ds ≡ pos n
 unfolding said_integer
 digits_told n [] some all value h = absurd (omega arith)
 digits_told n (d ∷ ds) some all value h =
     let digit = digit_from_value d all.0 in
     let no_minus : (d == 45) ≡ false = grind (arith, nat_tests, digit) in
-    rw no_minus (ap (λ m. or_zero (fitting (pos m))) value ∙ fits (pos n) h)
+    rw no_minus (ap (λ m. or_zero (fitting_number (pos m))) value ∙ fits (pos n) h)
 
-minus_told : (n : ℕ) (ds : List ℕ) → digits_value 0 ds ≡ suc n → fits_i64 (negsuc n) ≡ true → said_integer (45 ∷ ds) ≡ negsuc n
+minus_told : (n : ℕ) (ds : List ℕ) → decimal_value 0 ds ≡ suc n → fits_i64 (negsuc n) ≡ true → said_integer (45 ∷ ds) ≡ negsuc n
 unfolding said_integer
-minus_told n ds value h = ap (λ m. or_zero (fitting (pos 0 -ℤ pos m))) value ∙ ap (λ z. or_zero (fitting z)) (below_zero n) ∙ fits (negsuc n) h
+minus_told n ds value h = ap (λ m. or_zero (fitting_number (pos 0 -ℤ pos m))) value ∙ ap (λ z. or_zero (fitting_number z)) (below_zero n) ∙ fits (negsuc n) h
 
 pub integer_told : (z : ℤ) → fits_i64 z ≡ true → said_integer (signed_decimal z) ≡ z
 integer_told (pos n) h =

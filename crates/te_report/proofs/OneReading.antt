@@ -15,10 +15,10 @@ use Rattle.te_report.specs.declared.ending.Ending.{Ending}
 use Rattle.te_report.specs.declared.fault.ReportFault.{ReportFault}
 use Rattle.te_report.specs.declared.fault.ReportFault.TheVariants as faults
 use Rattle.te_report.specs.OfScript.{WishedFrom}
-use Rattle.te_report.specs.Report.{Version, head_line, entry_line, entry_lines, last_line, most_entries}
-use Rattle.te_report.specs.Told.{most_bytes, IsReadAs, StandsAt, IsCause, FailsHere, GoesPast, IsRefusedFor}
+use Rattle.te_report.specs.Report.{Version, head_line, entry_line, entry_lines, last_line, most_reported_entries}
+use Rattle.te_report.specs.Told.{most_report_bytes, IsReadAs, LineStandsAt, IsCause, FailsHere, GoesPast, IsRefusedFor}
 use Rattle.te_report.specs.Readable.{AreReadable}
-use Rattle.te_report.specs.Answers.{Kind, ends, no_line, illegal, no_end, too_long, Says, IsLine}
+use Rattle.te_report.specs.Answers.{Kind, ends, no_line, illegal, no_end, too_long, LineSays, IsLine}
 use Rattle.te_report.proofs.ReadableOfScript.{readable}
 use Rattle.te_report.proofs.SameEntries.{same_head}
 use Rattle.te_report.proofs.SamePoints.{one_kind, no_kind, Longer, Stands, compare}
@@ -28,8 +28,8 @@ pub record IsTold (script : Program) (bytes : List ℕ) (h : History) (k : Kind)
   pub version : Version
   pub rest : List ℕ
   pub n : ℕ
-  pub stands : StandsAt script bytes version h rest n
-  pub says : Says version script h rest k
+  pub stands : LineStandsAt script bytes version h rest n
+  pub says : LineSays version script h rest k
 
 -- the fault that tells it
 abbrev pub fault_of : ℕ → Kind → ReportFault
@@ -74,8 +74,8 @@ here_spare c es a b r (inl wrong) = inl wrong
 here_spare c es a b r (inr (inl open_still)) = inr (inl (record { more = open_still.more; last = open_still.last; open_still = open_still.open_still }))
 here_spare c es a b r (inr (inr none)) = inr (inr none)
 
-says_spare : (version : Version) (script : Program) (c : ℕ) (es : List Entry) (a b : ℕ) (r : List ℕ) (k : Kind) → Says version script (record { callers = c; entries = es; spare = a }) r k
-    → Says version script (record { callers = c; entries = es; spare = b }) r k
+says_spare : (version : Version) (script : Program) (c : ℕ) (es : List Entry) (a b : ℕ) (r : List ℕ) (k : Kind) → LineSays version script (record { callers = c; entries = es; spare = a }) r k
+    → LineSays version script (record { callers = c; entries = es; spare = b }) r k
 says_spare version script c es a b r (ends ending) p = record { counts = p.counts; text = p.text; closed = p.closed }
 says_spare version script c es a b r no_line p = p
 says_spare version script c es a b r (illegal cause) p =
@@ -85,11 +85,11 @@ says_spare version script c es a b r too_long p = record { ending = p.ending; mo
 
 module _ (script : Program) (is : IsScript script) (bytes : List ℕ) where
   -- the lines so far are spelled as they have to be
-  can_spell : (version : Version) (h : History) (r : List ℕ) (n : ℕ) → StandsAt script bytes version h r n → AreReadable version script [] h.entries
+  can_spell : (version : Version) (h : History) (r : List ℕ) (n : ℕ) → LineStandsAt script bytes version h r n → AreReadable version script [] h.entries
   can_spell version h r n at = readable version script h.entries is.program at.within (subst (λ (c : ℕ). IsLoose c h.entries) at.callers at.loose) at.of_script
 
   -- the next entry of the longer history stands where the shorter one ends
-  next_line : (version : Version) (h g : History) (r s : List ℕ) (n : ℕ) (e : Entry) (more : List Entry) → StandsAt script bytes version g s n → h.callers ≡ g.callers → g.entries ≡ h.entries ++ e ∷ more
+  next_line : (version : Version) (h g : History) (r s : List ℕ) (n : ℕ) (e : Entry) (more : List Entry) → LineStandsAt script bytes version g s n → h.callers ≡ g.callers → g.entries ≡ h.entries ++ e ∷ more
       → r ≡ entry_lines version script h.entries (e ∷ more) ++ s → IsLine version script h.entries h.callers r e
   next_line version h g r s n e more at callers whole text =
       let spelled = part_readable [] h.entries (subst (AreReadable version script []) whole (can_spell version g s n at)) in
@@ -123,7 +123,7 @@ module _ (script : Program) (is : IsScript script) (bytes : List ℕ) where
       part_wished before (x ∷ xs) all = subst (λ b. WishedFrom script.threads b (e ∷ more)) (append_assoc before (x ∷ []) xs) (part_wished (before ++ x ∷ []) xs all.1)
 
   -- of two points at which something is told neither stands before the other
-  no_longer : (version : Version) (h g : History) (r s : List ℕ) (m n : ℕ) (k : Kind) → StandsAt script bytes version h r m → StandsAt script bytes version g s n → Says version script h r k
+  no_longer : (version : Version) (h g : History) (r s : List ℕ) (m n : ℕ) (k : Kind) → LineStandsAt script bytes version h r m → LineStandsAt script bytes version g s n → LineSays version script h r k
       → Longer script is version [] h.entries g.entries r s → (h.entries ≡ g.entries) × (r ≡ s)
   no_longer version h g r s m n k at at' says l = by l.more l.whole l.text where
     by : (more : List Entry) → g.entries ≡ h.entries ++ more → r ≡ entry_lines version script h.entries more ++ s → (h.entries ≡ g.entries) × (r ≡ s)
@@ -131,22 +131,22 @@ module _ (script : Program) (is : IsScript script) (bytes : List ℕ) where
     by (e ∷ more) whole text =
         absurd (no_kind script is version h r at.within e k (next_line version h g r s n e more at' (at.callers ∙ sym at'.callers) whole text) says)
 
-  parted : (version : Version) (h : History) (r : List ℕ) (n : ℕ) → StandsAt script bytes version h r n → bytes ≡ head_line version ++ (entry_lines version script [] h.entries ++ r)
+  parted : (version : Version) (h : History) (r : List ℕ) (n : ℕ) → LineStandsAt script bytes version h r n → bytes ≡ head_line version ++ (entry_lines version script [] h.entries ++ r)
   parted version h r n at = at.text ∙ append_assoc (head_line version) (entry_lines version script [] h.entries) r
 
-  stood : (version : Version) (h : History) (r : List ℕ) (n : ℕ) → StandsAt script bytes version h r n → Stands script is version (length script.threads) [] h.entries
+  stood : (version : Version) (h : History) (r : List ℕ) (n : ℕ) → LineStandsAt script bytes version h r n → Stands script is version (length script.threads) [] h.entries
   stood version h r n at = record { within = (let few = at.within in omega arith); readable = can_spell version h r n at; loose = subst (λ c. IsLoose c h.entries) at.callers at.loose; wished = at.of_script }
 
-  same_kind : (version : Version) (h g : History) (r s : List ℕ) (k l : Kind) → length g.entries ≤ most_entries → h.callers ≡ g.callers → h.entries ≡ g.entries → r ≡ s → Says version script h r k → Says version script g s l → k ≡ l
+  same_kind : (version : Version) (h g : History) (r s : List ℕ) (k l : Kind) → length g.entries ≤ most_reported_entries → h.callers ≡ g.callers → h.entries ≡ g.entries → r ≡ s → LineSays version script h r k → LineSays version script g s l → k ≡ l
   same_kind version h g r s k l within callers entries same p q =
       one_kind script is version g s within k l
-      (subst (λ x. Says version script g x k) same
+      (subst (λ x. LineSays version script g x k) same
       (says_spare version script g.callers g.entries h.spare g.spare r k
-      (subst (λ x. Says version script x r k) (λ i. record { callers = callers i; entries = entries i; spare = h.spare }) p)))
+      (subst (λ x. LineSays version script x r k) (λ i. record { callers = callers i; entries = entries i; spare = h.spare }) p)))
       q
 
   -- what is told at two points is told at one
-  points : (version : Version) (h g : History) (r s : List ℕ) (m n : ℕ) (k l : Kind) → StandsAt script bytes version h r m → StandsAt script bytes version g s n → Says version script h r k → Says version script g s l
+  points : (version : Version) (h g : History) (r s : List ℕ) (m n : ℕ) (k l : Kind) → LineStandsAt script bytes version h r m → LineStandsAt script bytes version g s n → LineSays version script h r k → LineSays version script g s l
       → (h.entries ≡ g.entries) × (k ≡ l)
   points version h g r s m n k l at at' p q =
       by (compare script is version (length script.threads) [] h.entries g.entries r s (stood version h r m at) (stood version g s n at')
@@ -167,7 +167,7 @@ module _ (script : Program) (is : IsScript script) (bytes : List ℕ) where
   one_told h g k l p q =
       let heads = same_head p.version q.version (entry_lines p.version script [] h.entries ++ p.rest) (entry_lines q.version script [] g.entries ++ q.rest) (sym (parted p.version h p.rest p.n p.stands) ∙ parted q.version g q.rest q.n q.stands) in
       let same = sym heads.0 in
-      points p.version h g p.rest q.rest p.n q.n k l p.stands (subst (λ v. StandsAt script bytes v g q.rest q.n) same q.stands) p.says (subst (λ v. Says v script g q.rest l) same q.says)
+      points p.version h g p.rest q.rest p.n q.n k l p.stands (subst (λ v. LineStandsAt script bytes v g q.rest q.n) same q.stands) p.says (subst (λ v. LineSays v script g q.rest l) same q.says)
 
   -- ---- readings and faults
 
@@ -238,7 +238,7 @@ module _ (script : Program) (is : IsScript script) (bytes : List ℕ) where
     }
 
   -- what is told at a point is neither too long nor without a head
-  told_few : (h : History) (k : Kind) → IsTold script bytes h k → length bytes ≤ most_bytes
+  told_few : (h : History) (k : Kind) → IsTold script bytes h k → length bytes ≤ most_report_bytes
   told_few h k t = t.stands.few
 
   told_headed : (h : History) (k : Kind) → IsTold script bytes h k → IsRefusedFor script bytes faults.Head → ⊥
@@ -262,7 +262,7 @@ module _ (script : Program) (is : IsScript script) (bytes : List ℕ) where
 
     by : (fault ≡ faults.Memory) ⊎ ((fault ≡ faults.Long) ⊎ ((fault ≡ faults.Head) ⊎ IsFaultAt fault)) → fault ≡ faults.Memory
     by (inl none) = none
-    by (inr (inl long)) = let past : most_bytes < length bytes = subst (IsRefusedFor script bytes) long f in let few = read.few in absurd (omega arith)
+    by (inr (inl long)) = let past : most_report_bytes < length bytes = subst (IsRefusedFor script bytes) long f in let few = read.few in absurd (omega arith)
     by (inr (inr (inl head))) = absurd (told_headed p.0 (ends ending) p.2 (subst (IsRefusedFor script bytes) head f))
     by (inr (inr (inr at))) =
         let one = one_told p.0 at.history (ends ending) at.kind p.2 at.told in
@@ -271,7 +271,7 @@ module _ (script : Program) (is : IsScript script) (bytes : List ℕ) where
   -- of two faults both are one, but for want of memory
   pub one_fault : (a b : ReportFault) → IsRefusedFor script bytes a → IsRefusedFor script bytes b → (a ≡ b) ⊎ ((a ≡ faults.Memory) ⊎ (b ≡ faults.Memory))
   one_fault a b f g = by (fault_told a f) (fault_told b g) where
-    long : (x : ReportFault) → x ≡ faults.Long → IsRefusedFor script bytes x → most_bytes < length bytes
+    long : (x : ReportFault) → x ≡ faults.Long → IsRefusedFor script bytes x → most_report_bytes < length bytes
     long x is r = subst (IsRefusedFor script bytes) is r
 
     headless : (x : ReportFault) → x ≡ faults.Head → IsRefusedFor script bytes x → IsRefusedFor script bytes faults.Head

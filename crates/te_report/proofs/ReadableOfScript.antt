@@ -15,22 +15,22 @@ use Rattle.te_history.specs.declared.entry.Entry.TheVariants as entries
 use Rattle.te_history.specs.declared.status.How.{How}
 use Rattle.te_history.specs.declared.status.How.TheVariants as ways
 use Rattle.te_history.specs.State.{Standing, idle, parked, given, State, state, posts_by}
-use Rattle.te_history.specs.Follows.{Stands, AreEvents, Commits, Ends, caller_of, LooselyFollows, LooseFrom, IsLoose}
+use Rattle.te_history.specs.Follows.{Stands, AreEvents, Commits, MayEndAs, caller_of, LooselyFollows, LooseFrom, IsLoose}
 use Rattle.te_history.proofs.AfterEntry.{loose-after, length-state, posts_by_at_most}
 use Rattle.te_history.proofs.Places.{by_place}
 use Rattle.te_history.proofs.PlayLengths.{length-play}
 use Rattle.te_history.proofs.RoomNeverRises.{as_many_events}
 use Rattle.te_report.specs.OfScript.{taken, WishedBy, WishedFrom, IsOfScript}
-use Rattle.te_report.specs.Fitting.{OutcomeFits, EntryFits}
+use Rattle.te_report.specs.Fitting.{OutcomeFits, EntryIsSpelled}
 use Rattle.te_report.specs.ScriptChannels.{IsChannelOf}
-use Rattle.te_report.specs.Readable.{IsMemberOf, IsCommitOf, IsEntryOf, IsSite, HasSite, AreReadable}
-use Rattle.te_report.specs.Report.{Version, first, second, site_by, posted_site, most_entries}
+use Rattle.te_report.specs.Readable.{IsMemberOf, CommitIsReadable, IsEntryOf, IsSite, HasSite, AreReadable}
+use Rattle.te_report.specs.Report.{Version, first, second, site_by, posted_site, most_reported_entries}
 use Rattle.te_report.proofs.ChannelsOfScript.{is_group, all_fit}
 use Rattle.te_report.proofs.SitesFit.{site_fits}
 use Rattle.te_report.proofs.MembersNamed.{are_meetings}
 use Rattle.te_report.proofs.TicketsLow.{AreLow, tickets_low}
 
-module _ (script : Program) (is : IsProgram script) (h : List Entry) (few : length h ≤ most_entries) (loose : IsLoose (length script.threads) h) where
+module _ (script : Program) (is : IsProgram script) (h : List Entry) (few : length h ≤ most_reported_entries) (loose : IsLoose (length script.threads) h) where
   abbrev s : State
   s = state (length script.threads) h
 
@@ -48,7 +48,7 @@ module _ (script : Program) (is : IsProgram script) (h : List Entry) (few : leng
       let below = low m.thread (parked m.ticket g.term) events.1 in
       ((is_thread m.thread (parked m.ticket g.term) events.1, omega (arith, below, few)), are_members ms gs events.2)
 
-  is_commit : (cert : Cert) (outcomes : List Outcome) → Commits s cert outcomes → AllByRecursion (OutcomeFits (IsChannelOf script)) outcomes → IsCommitOf script cert outcomes
+  is_commit : (cert : Cert) (outcomes : List Outcome) → Commits s cert outcomes → AllByRecursion (OutcomeFits (IsChannelOf script)) outcomes → CommitIsReadable script cert outcomes
   is_commit cert outcomes commits fits =
       let many = as_many_events s cert.members commits.group commits.events in
       let between = play_between commits.group (map (λ (m : Member). m.choices) cert.members) cert.meets _ (is_group s cert.members commits.group commits.rise commits.events) commits.plays in
@@ -59,12 +59,12 @@ module _ (script : Program) (is : IsProgram script) (h : List Entry) (few : leng
         meets = are_meetings cert.members cert.meets commits.rise (subst (λ (n : ℕ). AreBetween n cert.meets) many between);
       }
 
-  ended_by : (by : ℕ) (how : How) → Ends s by how → by < length script.threads
+  ended_by : (by : ℕ) (how : How) → MayEndAs s by how → by < length script.threads
   ended_by by (ways.Done values) ends_so = is_thread by idle ends_so.1
   ended_by by (ways.Raised value) ends_so = is_thread by idle ends_so.1
   ended_by by ways.Stuck ends_so = is_thread by (parked ends_so.1.0 ends_so.1.1) ends_so.1.2
 
-  entry_readable : (e : Entry) → LooselyFollows (length script.threads) h e → EntryFits (IsChannelOf script) e → IsEntryOf script e
+  entry_readable : (e : Entry) → LooselyFollows (length script.threads) h e → EntryIsSpelled (IsChannelOf script) e → IsEntryOf script e
   entry_readable (entries.Post by ticket event) follows fits =
       let posts = posts_by_at_most by h in
       let same : ticket ≡ posts_by by h = follows.2 in
@@ -100,17 +100,17 @@ module _ (script : Program) (is : IsProgram script) (h : List Entry) (few : leng
   site_readable first (entries.End by how) w = tt
   site_readable second (entries.End by how) w = tt
 
-readable_from : (version : Version) (script : Program) (is : IsProgram script) (before rest : List Entry) → length before + length rest ≤ most_entries → IsLoose (length script.threads) before
-    → AllByRecursion (EntryFits (IsChannelOf script)) rest → LooseFrom (length script.threads) before rest → WishedFrom script.threads before rest → AreReadable version script before rest
+readable_from : (version : Version) (script : Program) (is : IsProgram script) (before rest : List Entry) → length before + length rest ≤ most_reported_entries → IsLoose (length script.threads) before
+    → AllByRecursion (EntryIsSpelled (IsChannelOf script)) rest → LooseFrom (length script.threads) before rest → WishedFrom script.threads before rest → AreReadable version script before rest
 readable_from version script is before [] few so fits loose wished = tt
 readable_from version script is before (e ∷ es) few so fits loose wished =
-    let short : length before ≤ most_entries = omega (arith, few) in
+    let short : length before ≤ most_reported_entries = omega (arith, few) in
     let longer = length-append before (e ∷ []) in (
       entry_readable script is before short so e loose.0 fits.0,
       site_readable script is before short so version e wished.0,
       readable_from version script is (before ++ e ∷ []) es (omega (arith, few, longer)) (loose-after (length script.threads) before e so loose.0) fits.1 loose.1 wished.1,
     )
 
-pub readable : (version : Version) (script : Program) (history : List Entry) → IsProgram script → length history ≤ most_entries → IsLoose (length script.threads) history → IsOfScript script history
+pub readable : (version : Version) (script : Program) (history : List Entry) → IsProgram script → length history ≤ most_reported_entries → IsLoose (length script.threads) history → IsOfScript script history
     → AreReadable version script [] history
 readable version script history is few loose wished = readable_from version script is [] history (omega (arith, few)) tt (all_fit script history is loose wished) loose wished

@@ -15,17 +15,17 @@ use Rattle.te_report.specs.declared.fault.ReportFault.TheVariants as faults
 use Rattle.te_report.specs.declared.reading.Declaration.{Declaration}
 use Rattle.te_report.specs.OfScript.{WishedFrom}
 use Rattle.te_report.specs.Report.{Version, head_line, entry_line, entry_lines}
-use Rattle.te_report.specs.Told.{most_bytes, IsClosed, IsReadAs, StandsAt, BeginsLast, IsRefusedFor}
+use Rattle.te_report.specs.Told.{most_report_bytes, ReportIsClosed, IsReadAs, LineStandsAt, BeginsLast, IsRefusedFor}
 use Rattle.te_report.specs.Declarations.{IsDeclared, DeclaredIn}
-use Rattle.te_report.specs.Judging.{GoesOn, FailsNext, FailsLast, EndsAs}
+use Rattle.te_report.specs.Judging.{ReadingGoesOn, NextFails, FailsLast, EndIsWished}
 use Rattle.te_report.proofs.Growing.{wished_more}
 use Rattle.te_report.proofs.LinesSoFar.{lines_next}
 
 -- at the first line behind the head
-pub stands_first : (script : Program) (bytes : List ℕ) (version : Version) (hist : History) (rest : List ℕ) → length bytes ≤ most_bytes → hist.callers ≡ length script.threads → hist.entries ≡ []
-    → bytes ≡ head_line version ++ rest → StandsAt script bytes version hist rest 2
+pub stands_first : (script : Program) (bytes : List ℕ) (version : Version) (hist : History) (rest : List ℕ) → length bytes ≤ most_report_bytes → hist.callers ≡ length script.threads → hist.entries ≡ []
+    → bytes ≡ head_line version ++ rest → LineStandsAt script bytes version hist rest 2
 stands_first script bytes version hist rest few callers none text =
-    subst (λ (h : History). StandsAt script bytes version h rest 2) (back hist none) (record {
+    subst (λ (h : History). LineStandsAt script bytes version h rest 2) (back hist none) (record {
       few = few;
       callers = callers;
       within = omega arith;
@@ -39,8 +39,8 @@ stands_first script bytes version hist rest few callers none text =
     back h is = λ i. record { callers = h.callers; entries = sym is i; spare = h.spare }
 
 -- behind one line more
-pub stands_next : (script : Program) (bytes : List ℕ) (version : Version) (old new : History) (rest behind : List ℕ) (n : ℕ) → StandsAt script bytes version old rest n → GoesOn version script old new rest behind
-    → StandsAt script bytes version new behind (suc n)
+pub stands_next : (script : Program) (bytes : List ℕ) (version : Version) (old new : History) (rest behind : List ℕ) (n : ℕ) → LineStandsAt script bytes version old rest n → ReadingGoesOn version script old new rest behind
+    → LineStandsAt script bytes version new behind (suc n)
 stands_next script bytes version old new rest behind n at on =
     let e = on.entry in
     let h = old.entries in
@@ -65,7 +65,7 @@ stands_next script bytes version old new rest behind n at on =
 
 -- ---- what is told of the whole
 
-pub read_as : (script : Program) (bytes : List ℕ) (version : Version) (hist : History) (rest : List ℕ) (n : ℕ) (ending : Ending) → StandsAt script bytes version hist rest n → EndsAs hist rest ending
+pub read_as : (script : Program) (bytes : List ℕ) (version : Version) (hist : History) (rest : List ℕ) (n : ℕ) (ending : Ending) → LineStandsAt script bytes version hist rest n → EndIsWished hist rest ending
     → IsReadAs script hist.entries ending bytes
 read_as script bytes version hist rest n ending at ends = record {
   few = at.few;
@@ -74,14 +74,14 @@ read_as script bytes version hist rest n ending at ends = record {
   loose = subst (λ (c : ℕ). IsLoose c hist.entries) at.callers at.loose;
   of_script = at.of_script;
   counts = ends.counts;
-  closed = subst (λ (c : ℕ). IsClosed ending c hist.entries) at.callers ends.closed;
+  closed = subst (λ (c : ℕ). ReportIsClosed ending c hist.entries) at.callers ends.closed;
 }
 
-pub refused_next : (script : Program) (bytes : List ℕ) (version : Version) (hist : History) (rest : List ℕ) (n : ℕ) (fault : ReportFault) → StandsAt script bytes version hist rest n → rest ≢ [] → ¬ BeginsLast rest
-    → FailsNext version script hist rest fault → IsRefusedFor script bytes fault
+pub refused_next : (script : Program) (bytes : List ℕ) (version : Version) (hist : History) (rest : List ℕ) (n : ℕ) (fault : ReportFault) → LineStandsAt script bytes version hist rest n → rest ≢ [] → ¬ BeginsLast rest
+    → NextFails version script hist rest fault → IsRefusedFor script bytes fault
 refused_next script bytes version hist rest n (faults.Line k) at some not_last fails =
     let same : n ≡ k = at.line ∙ sym fails.0 in
-    record { version = version; history = hist; rest = rest; stands = subst (λ m. StandsAt script bytes version hist rest m) same at; goes_on = some; not_last = not_last; no_entry = fails.1 }
+    record { version = version; history = hist; rest = rest; stands = subst (λ m. LineStandsAt script bytes version hist rest m) same at; goes_on = some; not_last = not_last; no_entry = fails.1 }
 refused_next script bytes version hist rest n (faults.Illegal k cause) at some not_last fails =
     let same : n ≡ k = at.line ∙ sym fails.0 in
     let f = fails.1 in
@@ -89,7 +89,7 @@ refused_next script bytes version hist rest n (faults.Illegal k cause) at some n
       version = version;
       history = hist;
       rest = rest;
-      stands = subst (λ m. StandsAt script bytes version hist rest m) same at;
+      stands = subst (λ m. LineStandsAt script bytes version hist rest m) same at;
       at = f.at;
       entry = f.entry;
       line = f.line;
@@ -103,7 +103,7 @@ refused_next script bytes version hist rest n faults.Head at some not_last fails
 refused_next script bytes version hist rest n (faults.Tail k) at some not_last fails = absurd fails
 refused_next script bytes version hist rest n faults.Long at some not_last fails = absurd fails
 
-pub refused_last : (script : Program) (bytes : List ℕ) (version : Version) (hist : History) (rest : List ℕ) (n : ℕ) (fault : ReportFault) → StandsAt script bytes version hist rest n → FailsLast hist rest fault
+pub refused_last : (script : Program) (bytes : List ℕ) (version : Version) (hist : History) (rest : List ℕ) (n : ℕ) (fault : ReportFault) → LineStandsAt script bytes version hist rest n → FailsLast hist rest fault
     → IsRefusedFor script bytes fault
 refused_last script bytes version hist rest n (faults.Tail k) at (inl fails) =
     record { version = version; history = hist; rest = rest; place = n; stands = at; fails = inl (fails.0, fails.1 ∙ sym at.line) }

@@ -19,12 +19,12 @@ use Rattle.te_report.specs.declared.ending.Ending.TheVariants as endings
 use Rattle.te_report.specs.declared.fault.Cause.{Cause}
 use Rattle.te_report.specs.declared.fault.Cause.TheVariants as causes
 use Rattle.te_report.specs.OfScript.{WishedFrom}
-use Rattle.te_report.specs.Readable.{Spells, AreReadable}
-use Rattle.te_report.specs.Report.{Version, posted_site, most_entries, numbered, entry_text, entry_line, entry_lines, last_line}
-use Rattle.te_report.specs.Told.{HasCounts, IsClosed, BeginsLast, GoesPast, FailsHere, IsCause}
+use Rattle.te_report.specs.Readable.{SpellsEntry, AreReadable}
+use Rattle.te_report.specs.Report.{Version, posted_site, most_reported_entries, numbered, entry_text, entry_line, entry_lines, last_line}
+use Rattle.te_report.specs.Told.{HasCounts, ReportIsClosed, BeginsLast, GoesPast, FailsHere, IsCause}
 use Rattle.te_report.specs.Sayings.{said_text, first_byte}
-use Rattle.te_report.specs.Judging.{IsUnposted, HasNoEntry, HasIllegal, EndsAs}
-use Rattle.te_report.specs.Answers.{Kind, ends, no_line, illegal, no_end, too_long, Says, IsLine}
+use Rattle.te_report.specs.Judging.{IsUnposted, HasNoEntry, HasIllegal, EndIsWished}
+use Rattle.te_report.specs.Answers.{Kind, ends, no_line, illegal, no_end, too_long, LineSays, IsLine}
 use Rattle.te_report.proofs.LastLines.{ending_told}
 use Rattle.te_report.proofs.LinesTold.{told_as, text_same}
 use Rattle.te_report.proofs.SameEntries.{line_first, last_first, word_first, last_word, plain, unposted_plain, IsPost, post_or_not, plain_same, line_plain, told_same}
@@ -74,13 +74,13 @@ follows_plain h d e same f = by (post_or_not d) (post_or_not e) where
   by : IsPost d ⊎ IsUnposted d → IsPost e ⊎ IsUnposted e → LooselyFollows h.callers h.entries e
   by p q = from_plain e q (subst (LooselyFollows h.callers h.entries) same (to_plain d p f))
 
-few_lines : (n : ℕ) → suc n ≤ most_entries → suc n < 2 ^ 64
+few_lines : (n : ℕ) → suc n ≤ most_reported_entries → suc n < 2 ^ 64
 few_lines n le = omega arith
 
 module _ (script : Program) (is : IsScript script) (version : Version) where
   -- ---- at one point
 
-  module _ (h : History) (rest : List ℕ) (within : length h.entries ≤ most_entries) where
+  module _ (h : History) (rest : List ℕ) (within : length h.entries ≤ most_reported_entries) where
     abbrev number : ℕ
     number = suc (length h.entries)
 
@@ -91,7 +91,7 @@ module _ (script : Program) (is : IsScript script) (version : Version) where
     one_ending : (a b : Ending) (r s : List ℕ) → HasCounts a → HasCounts b → rest ≡ last_line (length h.entries) a ++ r → rest ≡ last_line (length h.entries) b ++ s → a ≡ b
     one_ending a b r s ca cb ea eb = sym (ending_told (length h.entries) a rest r count_few ca ea) ∙ ending_told (length h.entries) b rest s count_few cb eb
 
-    ends_last : (ending : Ending) → EndsAs h rest ending → rest ≡ last_line (length h.entries) ending ++ []
+    ends_last : (ending : Ending) → EndIsWished h rest ending → rest ≡ last_line (length h.entries) ending ++ []
     ends_last ending e = e.text ∙ sym (append-nil (last_line (length h.entries) ending))
 
     letter : (ending : Ending) (r : List ℕ) → rest ≡ last_line (length h.entries) ending ++ r → 57 < first_byte rest
@@ -100,7 +100,7 @@ module _ (script : Program) (is : IsScript script) (version : Version) where
     begins_last : (ending : Ending) (r : List ℕ) → rest ≡ last_line (length h.entries) ending ++ r → BeginsLast rest
     begins_last ending r e = subst BeginsLast (sym e) (last_word (length h.entries) ending r)
 
-    digit : (at : Option Site) (e : Entry) (line r : List ℕ) → Spells version script number at e line → rest ≡ line ++ r → (48 ≤ first_byte rest) × (first_byte rest ≤ 57)
+    digit : (at : Option Site) (e : Entry) (line r : List ℕ) → SpellsEntry version script number at e line → rest ≡ line ++ r → (48 ≤ first_byte rest) × (first_byte rest ≤ 57)
     digit at e line r spells split =
         let some = spells.within in
         subst (λ x. (48 ≤ first_byte x) × (first_byte x ≤ 57)) (sym (split ∙ ap (λ l. l ++ r) spells.text)) (line_first number (entry_text version script at e) r (few_lines (length h.entries) some))
@@ -108,12 +108,12 @@ module _ (script : Program) (is : IsScript script) (version : Version) where
     illegal_digit : (cause : Cause) → HasIllegal version script h rest cause → (48 ≤ first_byte rest) × (first_byte rest ≤ 57)
     illegal_digit cause i = digit i.at i.entry i.line i.more i.spells i.split
 
-    same_spelled : (a b : Option Site) (d e : Entry) (l m r s : List ℕ) → Spells version script number a d l → Spells version script number b e m → rest ≡ l ++ r → rest ≡ m ++ s → told_as version a d ≡ told_as version b e
+    same_spelled : (a b : Option Site) (d e : Entry) (l m r s : List ℕ) → SpellsEntry version script number a d l → SpellsEntry version script number b e m → rest ≡ l ++ r → rest ≡ m ++ s → told_as version a d ≡ told_as version b e
     same_spelled a b d e l m r s sd se split split' =
         let some = sd.within in
         line_plain script is version number a b d e rest r s (few_lines (length h.entries) some) sd.entry sd.site se.entry se.site (split ∙ ap (λ x. x ++ r) sd.text) (split' ∙ ap (λ x. x ++ s) se.text)
 
-    same_lines : (a b : Option Site) (d e : Entry) (l m : List ℕ) → Spells version script number a d l → Spells version script number b e m → told_as version a d ≡ told_as version b e → l ≡ m
+    same_lines : (a b : Option Site) (d e : Entry) (l m : List ℕ) → SpellsEntry version script number a d l → SpellsEntry version script number b e m → told_as version a d ≡ told_as version b e → l ≡ m
     same_lines a b d e l m sd se same =
         sd.text ∙ ap (numbered number) (text_same version script a d) ∙ ap (λ t. numbered number (said_text script t)) same
         ∙ sym (se.text ∙ ap (numbered number) (text_same version script b e))
@@ -122,17 +122,17 @@ module _ (script : Program) (is : IsScript script) (version : Version) where
     here_not_past (inl wrong) past = wrong.1 past.ending past.more past.counts past.last
     here_not_past (inr (inl open_still)) past =
         let same = one_ending endings.Closed past.ending open_still.more past.more tt past.counts open_still.last past.last in
-        open_still.open_still (subst (λ x. IsClosed x h.callers h.entries) (sym same) past.closed)
+        open_still.open_still (subst (λ x. ReportIsClosed x h.callers h.entries) (sym same) past.closed)
     here_not_past (inr (inr none)) past = let l = letter past.ending past.more past.last in let z : first_byte rest ≡ 0 = ap first_byte none in omega arith
 
-    ends_not_here : (ending : Ending) → EndsAs h rest ending → FailsHere h rest → ⊥
+    ends_not_here : (ending : Ending) → EndIsWished h rest ending → FailsHere h rest → ⊥
     ends_not_here ending e (inl wrong) = wrong.1 ending [] e.counts (ends_last ending e)
     ends_not_here ending e (inr (inl open_still)) =
         let same = one_ending endings.Closed ending open_still.more [] tt e.counts open_still.last (ends_last ending e) in
-        open_still.open_still (subst (λ x. IsClosed x h.callers h.entries) (sym same) e.closed)
+        open_still.open_still (subst (λ x. ReportIsClosed x h.callers h.entries) (sym same) e.closed)
     ends_not_here ending e (inr (inr none)) = let l = letter ending [] (ends_last ending e) in let z : first_byte rest ≡ 0 = ap first_byte none in omega arith
 
-    ends_not_past : (ending : Ending) → EndsAs h rest ending → GoesPast h rest → ⊥
+    ends_not_past : (ending : Ending) → EndIsWished h rest ending → GoesPast h rest → ⊥
     ends_not_past ending e past =
         let same = one_ending ending past.ending [] past.more e.counts past.counts (ends_last ending e) past.last in
         past.some (sym (append_cancel_left (last_line (length h.entries) past.ending) [] past.more
@@ -163,7 +163,7 @@ module _ (script : Program) (is : IsScript script) (version : Version) where
       causes_same causes.Script causes.Script ra rb = refl
 
     -- one answer
-    pub one_kind : (a b : Kind) → Says version script h rest a → Says version script h rest b → a ≡ b
+    pub one_kind : (a b : Kind) → LineSays version script h rest a → LineSays version script h rest b → a ≡ b
     one_kind (ends x) (ends y) p q = ap ends (one_ending x y [] [] p.counts q.counts (ends_last x p) (ends_last y q))
     one_kind (ends x) no_line p q = absurd (q.1 (begins_last x [] (ends_last x p)))
     one_kind (ends x) (illegal c) p q = absurd (let d = illegal_digit c q in let l = letter x [] (ends_last x p) in omega arith)
@@ -191,16 +191,16 @@ module _ (script : Program) (is : IsScript script) (version : Version) where
     one_kind too_long too_long p q = refl
 
     -- no answer where the next line is one of an entry that may stand there
-    line_spells : (e : Entry) → IsLine version script h.entries h.callers rest e → Spells version script number (posted_site script h.entries e) e (entry_line version script h.entries e)
+    line_spells : (e : Entry) → IsLine version script h.entries h.callers rest e → SpellsEntry version script number (posted_site script h.entries e) e (entry_line version script h.entries e)
     line_spells e l = record { within = l.within; entry = l.readable; site = l.site; text = refl }
 
-    pub no_kind : (e : Entry) (k : Kind) → IsLine version script h.entries h.callers rest e → Says version script h rest k → ⊥
+    pub no_kind : (e : Entry) (k : Kind) → IsLine version script h.entries h.callers rest e → LineSays version script h rest k → ⊥
     no_kind e (ends x) l p = let d = digit _ e _ l.behind (line_spells e l) l.text in let w = letter x [] (ends_last x p) in omega arith
     no_kind e no_line l p = p.2 _ e _ l.behind l.text (line_spells e l)
     no_kind e (illegal causes.Script) l p =
         let told = same_spelled p.at _ p.entry e p.line _ p.more l.behind p.spells (line_spells e l) p.split l.text in
         let line = same_lines p.at _ p.entry e p.line _ p.spells (line_spells e l) told in
-        p.because.1 e (subst (λ x. Spells version script number (posted_site script h.entries e) e x) (sym line) (line_spells e l)) l.wished
+        p.because.1 e (subst (λ x. SpellsEntry version script number (posted_site script h.entries e) e x) (sym line) (line_spells e l)) l.wished
     no_kind e (illegal (causes.Step f)) l p =
         let told = same_spelled p.at _ p.entry e p.line _ p.more l.behind p.spells (line_spells e l) p.split l.text in
         let same = told_same version p.at _ p.entry e told in
@@ -220,7 +220,7 @@ module _ (script : Program) (is : IsScript script) (version : Version) where
 
   -- entries that are readable, loose and wished from here on
   pub record Stands (callers : ℕ) (before es : List Entry) : Type 0 where
-    pub within : length before + length es ≤ most_entries
+    pub within : length before + length es ≤ most_reported_entries
     pub readable : AreReadable version script before es
     pub loose : LooseFrom callers before es
     pub wished : WishedFrom script.threads before es

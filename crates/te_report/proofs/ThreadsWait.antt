@@ -13,7 +13,7 @@ use Rattle.te_history.specs.declared.entry.Entry.TheVariants as entries
 use Rattle.te_history.specs.declared.status.How.TheVariants as ways
 use Rattle.te_history.specs.declared.status.How.{How}
 use Rattle.te_history.specs.State.{Standing, idle, parked, given, ended as has_ended, State, state, changed, with_standing, with_given}
-use Rattle.te_history.specs.Follows.{Stands, Ends, caller_of, LooselyFollows, LooseFrom}
+use Rattle.te_history.specs.Follows.{Stands, MayEndAs, caller_of, LooselyFollows, LooseFrom}
 use Rattle.te_history.proofs.AfterEntry.{state-after}
 use Rattle.te_history.proofs.Commits.{same_or_other, stands_put, stands_other, Touch, untouched, touched, touch}
 use Rattle.te_report.specs.OfScript.{taken, taken_from, WishedBy, WishedFrom}
@@ -99,7 +99,7 @@ fits_after callers threads h (entries.End by how) follows wished all =
     let was = stood how follows in
     otherwise callers threads h (entries.End by how) all by was.0 has_ended was.1 refl (λ u other. refl) (λ x there. tt)
   where
-    stood : (how : How) → Ends (state callers h) by how → (s : Standing) × Stands (state callers h) by s
+    stood : (how : How) → MayEndAs (state callers h) by how → (s : Standing) × Stands (state callers h) by s
     stood (ways.Done values) ends = (idle, ends.1)
     stood (ways.Raised value) ends = (idle, ends.1)
     stood ways.Stuck ends = (_, ends.1.2)

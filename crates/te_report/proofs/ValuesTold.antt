@@ -16,7 +16,7 @@ use Rattle.te_script.specs.Scripts.{Program, HasNames, IsScript}
 use Rattle.te_report.specs.ScriptChannels.{IsChannelOf}
 use Rattle.te_report.specs.Readable.{IsAtomOf, IsValueOf, IsOutcomeOf}
 use Rattle.te_report.specs.Report.{thread_name, name_of, channel_name, channel_text, atom_text, other_atoms, atoms_text, value_text, outcome_text, spaced_value}
-use Rattle.te_report.specs.Sayings.{called_of, up_to, behind, words, said_number, said_ticket, said_thread, said_integer, said_channel, atom_of, said_atom, few_atoms, said_value, said_outcome, said_values}
+use Rattle.te_report.specs.Sayings.{called_of, up_to, cut_behind, words, said_number, said_ticket, said_thread, said_integer, said_channel, atom_of, said_atom, few_atoms, said_value, said_outcome, said_values}
 use Rattle.te_report.proofs.Followed.{some_thread}
 use Rattle.te_report.proofs.Appends.{parts_5}
 use Rattle.te_report.proofs.Cuts.{lacks, lacks_cons, lacks_append, front, back, no_back, IsWord, others, joined, words_joined, lacks_joined}
@@ -87,26 +87,26 @@ module _ (script : Program) (is : IsScript script) where
       (lacks_cons c 46 (decimal f.count) o.dot (number_lacks c f.count o.word count))))
 
   fresh_said : (name tail : List ℕ) → 0 < length tail
-      → said_channel (called_of script) name tail ≡ Some (fresh_channel (said_thread (called_of script).threads (up_to 46 name)) (said_ticket (up_to 46 tail)) (said_number (behind 46 tail) % 16))
+      → said_channel (called_of script) name tail ≡ Some (fresh_channel (said_thread (called_of script).threads (up_to 46 name)) (said_ticket (up_to 46 tail)) (said_number (cut_behind 46 tail) % 16))
   fresh_said name [] some = absurd (omega arith)
   fresh_said name (b ∷ bs) some = refl
 
   fresh_told : (t k n : ℕ) → t < length script.threads → n < 16 → (text : List ℕ) → text ≡ name_of script t ++ 46 ∷ (decimal (k % 2 ^ 18) ++ 46 ∷ decimal n)
-      → said_channel (called_of script) text (behind 46 text) ≡ Some (fresh_channel t k n)
+      → said_channel (called_of script) text (cut_behind 46 text) ≡ Some (fresh_channel t k n)
   fresh_told t k n lt few text e =
       let name = name_lacks 46 (name_of script t) refl (thread_named t lt) in
       let small : k % 2 ^ 18 < 2 ^ 32 = omega arith in
       let wide : k % 2 ^ 18 < 2 ^ 64 = omega arith in
       let number = number_lacks 46 (k % 2 ^ 18) refl wide in
-      let tail : behind 46 text ≡ decimal (k % 2 ^ 18) ++ 46 ∷ decimal n = ap (behind 46) e ∙ back 46 (name_of script t) (decimal (k % 2 ^ 18) ++ 46 ∷ decimal n) name in
-      let some : 0 < length (behind 46 text) = rw tail (omega (arith, length_tail (decimal (k % 2 ^ 18)) (decimal n))) in
+      let tail : cut_behind 46 text ≡ decimal (k % 2 ^ 18) ++ 46 ∷ decimal n = ap (cut_behind 46) e ∙ back 46 (name_of script t) (decimal (k % 2 ^ 18) ++ 46 ∷ decimal n) name in
+      let some : 0 < length (cut_behind 46 text) = rw tail (omega (arith, length_tail (decimal (k % 2 ^ 18)) (decimal n))) in
       let thread : said_thread (called_of script).threads (up_to 46 text) ≡ t = ap (said_thread (called_of script).threads) (ap (up_to 46) e ∙ front 46 (name_of script t) (decimal (k % 2 ^ 18) ++ 46 ∷ decimal n) name) ∙ thread_is_told t lt in
-      let ticket : said_ticket (up_to 46 (behind 46 text)) ≡ k % 2 ^ 18 = ap said_ticket (ap (up_to 46) tail ∙ front 46 (decimal (k % 2 ^ 18)) (decimal n) number) ∙ ticket_told (k % 2 ^ 18) small in
-      let count : said_number (behind 46 (behind 46 text)) ≡ n = ap said_number (ap (behind 46) tail ∙ back 46 (decimal (k % 2 ^ 18)) (decimal n) number) ∙ number_told n (omega arith) in
+      let ticket : said_ticket (up_to 46 (cut_behind 46 text)) ≡ k % 2 ^ 18 = ap said_ticket (ap (up_to 46) tail ∙ front 46 (decimal (k % 2 ^ 18)) (decimal n) number) ∙ ticket_told (k % 2 ^ 18) small in
+      let count : said_number (cut_behind 46 (cut_behind 46 text)) ≡ n = ap said_number (ap (cut_behind 46) tail ∙ back 46 (decimal (k % 2 ^ 18)) (decimal n) number) ∙ number_told n (omega arith) in
       let same : fresh_channel t (k % 2 ^ 18) (n % 16) ≡ fresh_channel t k n = omega arith in
-      fresh_said text (behind 46 text) some
-      ∙ ap (λ x. Some (fresh_channel x (said_ticket (up_to 46 (behind 46 text))) (said_number (behind 46 (behind 46 text)) % 16))) thread
-      ∙ ap (λ x. Some (fresh_channel t x (said_number (behind 46 (behind 46 text)) % 16))) ticket
+      fresh_said text (cut_behind 46 text) some
+      ∙ ap (λ x. Some (fresh_channel x (said_ticket (up_to 46 (cut_behind 46 text))) (said_number (cut_behind 46 (cut_behind 46 text)) % 16))) thread
+      ∙ ap (λ x. Some (fresh_channel t x (said_number (cut_behind 46 (cut_behind 46 text)) % 16))) ticket
       ∙ ap (λ x. Some (fresh_channel t (k % 2 ^ 18) (x % 16))) count
       ∙ ap Some same
     where
@@ -114,10 +114,10 @@ module _ (script : Program) (is : IsScript script) where
       length_tail [] ys = omega arith
       length_tail (x ∷ xs) ys = omega arith
 
-  channel_is_told : (d : ℕ) → IsChannelOf script d → said_channel (called_of script) (channel_text script d) (behind 46 (channel_text script d)) ≡ Some d
+  channel_is_told : (d : ℕ) → IsChannelOf script d → said_channel (called_of script) (channel_text script d) (cut_behind 46 (channel_text script d)) ≡ Some d
   channel_is_told d (inl low) =
       let text = channel_is_name d low in
-      let none : behind 46 (channel_text script d) ≡ [] = ap (behind 46) text ∙ no_back 46 (channel_name script d) (name_lacks 46 (channel_name script d) refl (channel_named d low)) in
+      let none : cut_behind 46 (channel_text script d) ≡ [] = ap (cut_behind 46) text ∙ no_back 46 (channel_name script d) (name_lacks 46 (channel_name script d) refl (channel_named d low)) in
       ap (said_channel (called_of script) (channel_text script d)) none ∙ ap (said_plain) text ∙ channel_told script d is.program.channel_names low
     where
       said_plain : List ℕ → Option ℕ

@@ -23,7 +23,7 @@ use Rattle.te_report.specs.declared.saying.Said.TheVariants as says
 use Rattle.te_report.specs.OfScript.{taken, EndsSo}
 use Rattle.te_report.specs.Report.{posted_site}
 use Rattle.te_report.specs.Following.{cores_from, AreFollowed, IsUnwished}
-use Rattle.te_report.specs.Judging.{IsUnposted, SaysSite, IsWishedAt, IsMeant, IsFailing, PostFails}
+use Rattle.te_report.specs.Judging.{IsUnposted, SaysSite, IsWishedAt, IsMeant, IsFailing, PostIsRefused}
 use Rattle.te_report.proofs.Followed.{some_thread, unwished}
 use Rattle.te_report.proofs.Judged.{IsCoreOf, core_of, is_wished, wished_is, site_is, post_wished, post_unwished}
 
@@ -110,7 +110,7 @@ module _ (script : Program) (hist : History) (cores : List At) (so_far : AreFoll
     )
 
     -- no post is wished
-    pub post_fails : (sites : Bool) (ticket : ℕ) (at : Option Site) (cause : Cause) → ((event : Term) → want ≢ wants.Sync event) → PostFails hist by ticket cause → IsFailing sites script hist (says.Post by ticket at) cause
+    pub post_fails : (sites : Bool) (ticket : ℕ) (at : Option Site) (cause : Cause) → ((event : Term) → want ≢ wants.Sync event) → PostIsRefused hist by ticket cause → IsFailing sites script hist (says.Post by ticket at) cause
     post_fails sites ticket at (causes.Step fault) other fails = ((entries.Post by ticket fails.0.0, (fails.0.0, refl), fails.0.1), fails.1)
     post_fails sites ticket at causes.Script other fails = (
       (entries.Post by ticket fails.0, (fails.0, refl), fails.1),

@@ -62,11 +62,11 @@ HowFits P (ways.Done values) = AllByRecursion (ValueFits P) values
 HowFits P (ways.Raised value) = ValueFits P value
 HowFits P ways.Stuck = Unit {0}
 
-abbrev pub EntryFits : (ℕ → Type 0) → Entry → Type 0
-EntryFits P (entries.Post by ticket event) = TermFits P event
-EntryFits P (entries.Commit by cert outcomes) = AllByRecursion (OutcomeFits P) outcomes
-EntryFits P (entries.Withdraw by ticket) = Unit {0}
-EntryFits P (entries.Take by ticket outcome) = OutcomeFits P outcome
-EntryFits P (entries.Rest by) = Unit {0}
-EntryFits P (entries.Stuck by) = Unit {0}
-EntryFits P (entries.End by how) = HowFits P how
+abbrev pub EntryIsSpelled : (ℕ → Type 0) → Entry → Type 0
+EntryIsSpelled P (entries.Post by ticket event) = TermFits P event
+EntryIsSpelled P (entries.Commit by cert outcomes) = AllByRecursion (OutcomeFits P) outcomes
+EntryIsSpelled P (entries.Withdraw by ticket) = Unit {0}
+EntryIsSpelled P (entries.Take by ticket outcome) = OutcomeFits P outcome
+EntryIsSpelled P (entries.Rest by) = Unit {0}
+EntryIsSpelled P (entries.Stuck by) = Unit {0}
+EntryIsSpelled P (entries.End by how) = HowFits P how

@@ -19,9 +19,9 @@ use Rattle.te_report.specs.declared.saying.Said.{Said}
 use Rattle.te_report.specs.declared.saying.Said.TheVariants as says
 use Rattle.te_report.specs.OfScript.{taken, WishedBy}
 use Rattle.te_report.specs.declared.ending.Ending.{Ending}
-use Rattle.te_report.specs.Report.{Version, posted_site, entry_line, last_line, most_entries}
-use Rattle.te_report.specs.Readable.{IsEntryOf, HasSite, Spells}
-use Rattle.te_report.specs.Told.{IsCause, HasCounts, IsClosed, FailsHere, GoesPast}
+use Rattle.te_report.specs.Report.{Version, posted_site, entry_line, last_line, most_reported_entries}
+use Rattle.te_report.specs.Readable.{IsEntryOf, HasSite, SpellsEntry}
+use Rattle.te_report.specs.Told.{IsCause, HasCounts, ReportIsClosed, FailsHere, GoesPast}
 
 -- an entry that isn't a post
 abbrev pub IsUnposted : Entry → Type 0
@@ -69,12 +69,12 @@ IsJudged sites script hist s (verdicts.Stands e) = IsMeant sites script hist s e
 IsJudged sites script hist s (verdicts.Fails cause) = IsFailing sites script hist s cause
 
 -- a post that no thread wishes
-abbrev pub PostFails : History → ℕ → ℕ → Cause → Type 0
-PostFails hist by ticket (causes.Step fault) = ((event : Term) × IsRefused hist (entries.Post by ticket event) fault) × (fault ≢ steps.Memory)
-PostFails hist by ticket causes.Script = (event : Term) × LooselyFollows hist.callers hist.entries (entries.Post by ticket event)
+abbrev pub PostIsRefused : History → ℕ → ℕ → Cause → Type 0
+PostIsRefused hist by ticket (causes.Step fault) = ((event : Term) × IsRefused hist (entries.Post by ticket event) fault) × (fault ≢ steps.Memory)
+PostIsRefused hist by ticket causes.Script = (event : Term) × LooselyFollows hist.callers hist.entries (entries.Post by ticket event)
 
 -- the entry that is said is taken in
-pub record TakesIn (sites : Bool) (script : Program) (old new : History) (s : Said) : Type 0 where
+pub record TakesEntryIn (sites : Bool) (script : Program) (old new : History) (s : Said) : Type 0 where
   pub entry : Entry
   pub meant : IsMeant sites script old s entry
   pub same_callers : new.callers ≡ old.callers
@@ -89,11 +89,11 @@ FailsSaid sites script hist s at _ = ⊥
 -- ---- a line more
 
 -- the line of one entry more, which may stand there, with the rest behind it
-pub record GoesOn (version : Version) (script : Program) (old new : History) (rest behind : List ℕ) : Type 0 where
+pub record ReadingGoesOn (version : Version) (script : Program) (old new : History) (rest behind : List ℕ) : Type 0 where
   pub entry : Entry
   pub same_callers : new.callers ≡ old.callers
   pub one_more : new.entries ≡ old.entries ++ entry ∷ []
-  pub within : length old.entries < most_entries
+  pub within : length old.entries < most_reported_entries
   pub follows : LooselyFollows old.callers old.entries entry
   pub wished : IsWishedAt script old.entries entry
   pub readable : IsEntryOf script entry
@@ -102,7 +102,7 @@ pub record GoesOn (version : Version) (script : Program) (old new : History) (re
 
 -- no entry has the next line
 abbrev pub HasNoEntry : Version → Program → History → List ℕ → Type 0
-HasNoEntry version script hist rest = (at : Option Site) (e : Entry) (line more : List ℕ) → rest ≡ line ++ more → ¬ Spells version script (suc (length hist.entries)) at e line
+HasNoEntry version script hist rest = (at : Option Site) (e : Entry) (line more : List ℕ) → rest ≡ line ++ more → ¬ SpellsEntry version script (suc (length hist.entries)) at e line
 
 -- the next line is that of an entry that may not stand there
 pub record HasIllegal (version : Version) (script : Program) (hist : History) (rest : List ℕ) (cause : Cause) : Type 0 where
@@ -111,15 +111,15 @@ pub record HasIllegal (version : Version) (script : Program) (hist : History) (r
   pub line : List ℕ
   pub more : List ℕ
   pub split : rest ≡ line ++ more
-  pub spells : Spells version script (suc (length hist.entries)) at entry line
+  pub spells : SpellsEntry version script (suc (length hist.entries)) at entry line
   pub because : IsCause version script hist entry line cause
 
 -- how the next line fails
-abbrev pub FailsNext : Version → Program → History → List ℕ → ReportFault → Type 0
-FailsNext version script hist rest (faults.Line n) = (n ≡ suc (suc (length hist.entries))) × HasNoEntry version script hist rest
-FailsNext version script hist rest (faults.Illegal n cause) = (n ≡ suc (suc (length hist.entries))) × HasIllegal version script hist rest cause
-FailsNext version script hist rest faults.Memory = Unit {0}
-FailsNext version script hist rest _ = ⊥
+abbrev pub NextFails : Version → Program → History → List ℕ → ReportFault → Type 0
+NextFails version script hist rest (faults.Line n) = (n ≡ suc (suc (length hist.entries))) × HasNoEntry version script hist rest
+NextFails version script hist rest (faults.Illegal n cause) = (n ≡ suc (suc (length hist.entries))) × HasIllegal version script hist rest cause
+NextFails version script hist rest faults.Memory = Unit {0}
+NextFails version script hist rest _ = ⊥
 
 -- how the end of the text fails
 abbrev pub FailsLast : History → List ℕ → ReportFault → Type 0
@@ -129,7 +129,7 @@ FailsLast hist rest faults.Memory = Unit {0}
 FailsLast hist rest _ = ⊥
 
 -- the end of the text says so
-pub record EndsAs (hist : History) (rest : List ℕ) (ending : Ending) : Type 0 where
+pub record EndIsWished (hist : History) (rest : List ℕ) (ending : Ending) : Type 0 where
   pub counts : HasCounts ending
   pub text : rest ≡ last_line (length hist.entries) ending
-  pub closed : IsClosed ending hist.callers hist.entries
+  pub closed : ReportIsClosed ending hist.callers hist.entries

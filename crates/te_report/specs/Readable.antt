@@ -13,7 +13,7 @@ use Rattle.te_history.specs.declared.entry.Entry.{Entry}
 use Rattle.te_history.specs.declared.entry.Entry.TheVariants as entries
 use Rattle.te_report.specs.Fitting.{AtomFits, ValueFits, OutcomeFits, HowFits}
 use Rattle.te_report.specs.ScriptChannels.{IsChannelOf}
-use Rattle.te_report.specs.Report.{Version, second, posted_site, most_entries, numbered, entry_text}
+use Rattle.te_report.specs.Report.{Version, second, posted_site, most_reported_entries, numbered, entry_text}
 
 -- an integer of 64 bits, or a channel of the script or a fresh one of its threads
 abbrev pub IsAtomOf : Program → Atom → Type 0
@@ -33,11 +33,11 @@ IsHowOf script how = HowFits (IsChannelOf script) how
 abbrev pub IsNumber : ℕ → Type 0
 IsNumber n = n < 2 ^ 32
 
-abbrev pub IsThreadOf : Program → ℕ → Type 0
-IsThreadOf script t = t < length script.threads
+abbrev pub IsScriptThread : Program → ℕ → Type 0
+IsScriptThread script t = t < length script.threads
 
 abbrev pub IsMemberOf : Program → Member → Type 0
-IsMemberOf script m = IsThreadOf script m.thread × IsNumber m.ticket
+IsMemberOf script m = IsScriptThread script m.thread × IsNumber m.ticket
 
 -- the name at a meeting's end stands for the first member that bears it
 pub record IsNamed (members : List Member) (place : ℕ) : Type 0 where
@@ -49,7 +49,7 @@ abbrev pub IsMeetingOf : List Member → Meeting → Type 0
 IsMeetingOf members m = IsNamed members m.sender × IsNamed members m.receiver
 
 -- members with an outcome each, and meetings between them
-pub record IsCommitOf (script : Program) (cert : Cert) (outcomes : List Outcome) : Type 0 where
+pub record CommitIsReadable (script : Program) (cert : Cert) (outcomes : List Outcome) : Type 0 where
   pub members : AllByRecursion (IsMemberOf script) cert.members
   pub as_many : length outcomes ≡ length cert.members
   pub gets : AllByRecursion (IsOutcomeOf script) outcomes
@@ -57,13 +57,13 @@ pub record IsCommitOf (script : Program) (cert : Cert) (outcomes : List Outcome)
 
 -- threads and channels are of the script, and numbers and values are in their ranges
 abbrev pub IsEntryOf : Program → Entry → Type 0
-IsEntryOf script (entries.Post by ticket event) = IsThreadOf script by × IsNumber ticket
-IsEntryOf script (entries.Commit by cert outcomes) = IsThreadOf script by × IsCommitOf script cert outcomes
-IsEntryOf script (entries.Withdraw by ticket) = IsThreadOf script by × IsNumber ticket
-IsEntryOf script (entries.Take by ticket outcome) = IsThreadOf script by × IsNumber ticket × IsOutcomeOf script outcome
-IsEntryOf script (entries.Rest by) = IsThreadOf script by
-IsEntryOf script (entries.Stuck by) = IsThreadOf script by
-IsEntryOf script (entries.End by how) = IsThreadOf script by × IsHowOf script how
+IsEntryOf script (entries.Post by ticket event) = IsScriptThread script by × IsNumber ticket
+IsEntryOf script (entries.Commit by cert outcomes) = IsScriptThread script by × CommitIsReadable script cert outcomes
+IsEntryOf script (entries.Withdraw by ticket) = IsScriptThread script by × IsNumber ticket
+IsEntryOf script (entries.Take by ticket outcome) = IsScriptThread script by × IsNumber ticket × IsOutcomeOf script outcome
+IsEntryOf script (entries.Rest by) = IsScriptThread script by
+IsEntryOf script (entries.Stuck by) = IsScriptThread script by
+IsEntryOf script (entries.End by how) = IsScriptThread script by × IsHowOf script how
 
 abbrev pub IsSite : Option Site → Type 0
 IsSite (Some at) = IsNumber at.statement × IsNumber at.pass
@@ -75,8 +75,8 @@ HasSite second at (entries.Post by ticket event) = IsSite at
 HasSite _ at _ = Unit {0}
 
 -- the entry and the site are spelled so in the line with this number
-pub record Spells (version : Version) (script : Program) (number : ℕ) (at : Option Site) (e : Entry) (line : List ℕ) : Type 0 where
-  pub within : number ≤ most_entries
+pub record SpellsEntry (version : Version) (script : Program) (number : ℕ) (at : Option Site) (e : Entry) (line : List ℕ) : Type 0 where
+  pub within : number ≤ most_reported_entries
   pub entry : IsEntryOf script e
   pub site : HasSite version at e
   pub text : line ≡ numbered number (entry_text version script at e)

@@ -26,8 +26,8 @@ pub data Version : Type 0 where
   second : Version
 
 -- the greatest number of entries of which there is a report
-abbrev pub most_entries : ℕ
-most_entries = 200000
+abbrev pub most_reported_entries : ℕ
+most_reported_entries = 200000
 
 -- ---- names and values
 
@@ -172,5 +172,5 @@ report_text version script history ending = head_line version ++ entry_lines ver
 
 -- the report of a history of at most 200,000 entries in a version; a longer history has none
 pub record IsReport (version : Version) (script : Program) (history : List Entry) (ending : Ending) (bytes : List ℕ) : Type 0 where
-  pub within : length history ≤ most_entries
+  pub within : length history ≤ most_reported_entries
   pub text : bytes ≡ report_text version script history ending

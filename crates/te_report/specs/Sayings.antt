@@ -33,15 +33,15 @@ up_to c [] = []
 up_to c (b ∷ bs) = if b == c then [] else b ∷ up_to c bs
 
 -- what stands behind the first byte c, or nothing
-abbrev pub behind : ℕ → List ℕ → List ℕ
-behind c [] = []
-behind c (b ∷ bs) = if b == c then bs else behind c bs
+abbrev pub cut_behind : ℕ → List ℕ → List ℕ
+cut_behind c [] = []
+cut_behind c (b ∷ bs) = if b == c then bs else cut_behind c bs
 
 -- the first so many of the words that a byte separates
 abbrev pub words_by : ℕ → ℕ → List ℕ → List (List ℕ)
 words_by zero c bytes = []
 words_by (suc n) c [] = []
-words_by (suc n) c (b ∷ bs) = up_to c (b ∷ bs) ∷ words_by n c (behind c (b ∷ bs))
+words_by (suc n) c (b ∷ bs) = up_to c (b ∷ bs) ∷ words_by n c (cut_behind c (b ∷ bs))
 
 -- the words that a byte separates
 unfoldable pub words : ℕ → List ℕ → List (List ℕ)
@@ -50,9 +50,9 @@ words c bytes = words_by (length bytes) c bytes
 -- ---- numbers
 
 -- the number of these digits, behind digits that have come to `so_far`
-abbrev pub digits_value : ℕ → List ℕ → ℕ
-digits_value so_far [] = so_far
-digits_value so_far (d ∷ ds) = digits_value (so_far * 10 + (d - 48)) ds
+abbrev pub decimal_value : ℕ → List ℕ → ℕ
+decimal_value so_far [] = so_far
+decimal_value so_far (d ∷ ds) = decimal_value (so_far * 10 + (d - 48)) ds
 
 -- a number below a bound; 0 where it isn't
 abbrev pub below : ℕ → ℕ → ℕ
@@ -60,14 +60,14 @@ below bound n = if nat_lt n bound then n else 0
 
 -- a number of 64 bits
 unfoldable pub said_number : List ℕ → ℕ
-said_number ds = below (2 ^ 64) (digits_value 0 ds)
+said_number ds = below (2 ^ 64) (decimal_value 0 ds)
 
 -- a number of 32 bits
 abbrev pub said_ticket : List ℕ → ℕ
 said_ticket ds = below (2 ^ 32) (said_number ds)
 
-abbrev pub fitting : ℤ → Option ℤ
-fitting z = if fits_i64 z then Some z else None
+abbrev pub fitting_number : ℤ → Option ℤ
+fitting_number z = if fits_i64 z then Some z else None
 
 abbrev pub or_zero : Option ℤ → ℤ
 or_zero (Some z) = z
@@ -76,7 +76,7 @@ or_zero None = pos 0
 -- an integer of 64 bits
 unfoldable pub said_integer : List ℕ → ℤ
 said_integer [] = pos 0
-said_integer (b ∷ bs) = or_zero (fitting (if b == 45 then pos 0 -ℤ pos (digits_value 0 bs) else pos (digits_value 0 (b ∷ bs))))
+said_integer (b ∷ bs) = or_zero (fitting_number (if b == 45 then pos 0 -ℤ pos (decimal_value 0 bs) else pos (decimal_value 0 (b ∷ bs))))
 
 -- ---- names
 
@@ -85,12 +85,12 @@ or_first (Some i) = i
 or_first None = 0
 
 -- the first place of a name
-unfoldable pub place_of : List (List ℕ) → List ℕ → Option ℕ
-place_of names n = position (λ x. bytes_eq x n) names
+unfoldable pub place_of_name : List (List ℕ) → List ℕ → Option ℕ
+place_of_name names n = position (λ x. bytes_eq x n) names
 
 -- the thread of a name; the first where there is none
 abbrev pub said_thread : List (List ℕ) → List ℕ → ℕ
-said_thread names n = or_first (place_of names n)
+said_thread names n = or_first (place_of_name names n)
 
 -- the names of a script
 abbrev pub called_of : Program → Called
@@ -100,9 +100,9 @@ called_of script = record { threads = thread_names script.threads; channels = sc
 
 -- a channel by its name, or a fresh one by its thread, its ticket and its count
 abbrev pub said_channel : Called → List ℕ → List ℕ → Option ℕ
-said_channel called name [] = place_of called.channels name
+said_channel called name [] = place_of_name called.channels name
 said_channel called name (b ∷ bs) =
-    Some (fresh_channel (said_thread called.threads (up_to 46 name)) (said_ticket (up_to 46 (b ∷ bs))) (said_number (behind 46 (b ∷ bs)) % 16))
+    Some (fresh_channel (said_thread called.threads (up_to 46 name)) (said_ticket (up_to 46 (b ∷ bs))) (said_number (cut_behind 46 (b ∷ bs)) % 16))
 
 abbrev pub atom_of : Option ℕ → Atom
 atom_of (Some c) = Chan c
@@ -110,14 +110,14 @@ atom_of None = Int (pos 0)
 
 abbrev pub said_atom : Called → List ℕ → Atom
 said_atom called [] = Int (pos 0)
-said_atom called (b ∷ bs) = if b == 64 then atom_of (said_channel called bs (behind 46 bs)) else Int (said_integer (b ∷ bs))
+said_atom called (b ∷ bs) = if b == 64 then atom_of (said_channel called bs (cut_behind 46 bs)) else Int (said_integer (b ∷ bs))
 
 -- atoms of which there are few enough for a value
 abbrev pub few_atoms : List Atom → List Atom
 few_atoms v = if nat_le (length v) most_atoms then v else []
 
 unfoldable pub said_value : Called → List ℕ → List Atom
-said_value called bytes = few_atoms (map (said_atom called) (words 44 (up_to 41 (behind 40 bytes))))
+said_value called bytes = few_atoms (map (said_atom called) (words 44 (up_to 41 (cut_behind 40 bytes))))
 
 abbrev pub said_outcome : Called → List ℕ → Outcome
 said_outcome called [] = Gives []
@@ -131,13 +131,13 @@ said_choices bytes = map (λ b. b == 76) bytes
 abbrev pub said_member : Called → List ℕ → Member
 said_member called bytes = record {
   thread = said_thread called.threads (up_to 46 bytes);
-  ticket = said_ticket (up_to 91 (behind 46 bytes));
-  choices = said_choices (up_to 93 (behind 91 (behind 46 bytes)));
+  ticket = said_ticket (up_to 91 (cut_behind 46 bytes));
+  choices = said_choices (up_to 93 (cut_behind 91 (cut_behind 46 bytes)));
 }
 
 -- what the member gets
 abbrev pub said_gets : Called → List ℕ → Outcome
-said_gets called bytes = said_outcome called (behind 93 (behind 91 (behind 46 bytes)))
+said_gets called bytes = said_outcome called (cut_behind 93 (cut_behind 91 (cut_behind 46 bytes)))
 
 -- the first place of a thread among the members
 unfoldable pub said_place : List Member → ℕ → ℕ
@@ -146,7 +146,7 @@ said_place members t = or_first (position (λ m. m.thread == t) members)
 abbrev pub said_meeting : Called → List Member → List ℕ → Meeting
 said_meeting called members bytes = record {
   sender = said_place members (said_thread called.threads (up_to 62 bytes));
-  receiver = said_place members (said_thread called.threads (behind 62 bytes));
+  receiver = said_place members (said_thread called.threads (cut_behind 62 bytes));
 }
 
 abbrev pub said_members : Called → List ℕ → List Member
@@ -173,21 +173,21 @@ said_values called bytes = map (said_value called) (words 32 bytes)
 abbrev pub said_how : Called → List ℕ → How
 said_how called [] = ways.Stuck
 said_how called (b ∷ bs) =
-    if b == 100 then ways.Done (said_values called (behind 32 (b ∷ bs)))
-    else (if b == 114 then ways.Raised (said_value called (behind 32 (b ∷ bs))) else ways.Stuck)
+    if b == 100 then ways.Done (said_values called (cut_behind 32 (b ∷ bs)))
+    else (if b == 114 then ways.Raised (said_value called (cut_behind 32 (b ∷ bs))) else ways.Stuck)
 
 -- in a version that tells sites
 abbrev pub said_site : Bool → List ℕ → Option Site
 said_site false bytes = None
-said_site true bytes = Some (record { statement = said_ticket (up_to 46 bytes); pass = said_ticket (behind 46 bytes) })
+said_site true bytes = Some (record { statement = said_ticket (up_to 46 bytes); pass = said_ticket (cut_behind 46 bytes) })
 
 -- by the first letter of the word for the entry, who it is by, and what stands behind
 abbrev pub said_entry : Called → Bool → ℕ → ℕ → List ℕ → Said
 said_entry called sites letter by tail =
-    if letter == 112 then says.Post by (said_ticket (up_to 32 tail)) (said_site sites (behind 32 (behind 32 tail)))
-    else (if letter == 99 then said_commit called by (up_to 59 tail) (behind 32 (behind 59 tail))
+    if letter == 112 then says.Post by (said_ticket (up_to 32 tail)) (said_site sites (cut_behind 32 (cut_behind 32 tail)))
+    else (if letter == 99 then said_commit called by (up_to 59 tail) (cut_behind 32 (cut_behind 59 tail))
     else (if letter == 119 then says.Entry (entries.Withdraw by (said_ticket tail))
-    else (if letter == 116 then says.Entry (entries.Take by (said_ticket (up_to 32 tail)) (said_outcome called (behind 32 tail)))
+    else (if letter == 116 then says.Entry (entries.Take by (said_ticket (up_to 32 tail)) (said_outcome called (cut_behind 32 tail)))
     else (if letter == 114 then says.Entry (entries.Rest by)
     else (if letter == 115 then says.Entry (entries.Stuck by)
     else says.Entry (entries.End by (said_how called tail)))))))
@@ -199,10 +199,10 @@ first_byte (b ∷ bs) = b
 -- behind the number and a space: the word, a space, who it is by, a space, and the rest
 abbrev pub said_words : Called → Bool → List ℕ → Said
 said_words called sites bytes =
-    said_entry called sites (first_byte bytes) (said_thread called.threads (up_to 58 (up_to 32 (behind 32 bytes)))) (behind 32 (behind 32 bytes))
+    said_entry called sites (first_byte bytes) (said_thread called.threads (up_to 58 (up_to 32 (cut_behind 32 bytes)))) (cut_behind 32 (cut_behind 32 bytes))
 
 unfoldable pub said : Called → Bool → List ℕ → Said
-said called sites line = said_words called sites (behind 32 line)
+said called sites line = said_words called sites (cut_behind 32 line)
 
 -- ---- the text of what is said
 
@@ -228,11 +228,11 @@ version_of false = first
 -- the numbers behind `front`, `paths` and `groups`
 abbrev pub said_spent : List ℕ → Ending
 said_spent bytes = endings.Spent
-    (said_number (up_to 32 (behind 32 bytes)))
-    (said_number (up_to 32 (behind 32 (behind 32 (behind 32 bytes)))))
-    (said_number (behind 32 (behind 32 (behind 32 (behind 32 (behind 32 bytes))))))
+    (said_number (up_to 32 (cut_behind 32 bytes)))
+    (said_number (up_to 32 (cut_behind 32 (cut_behind 32 (cut_behind 32 bytes)))))
+    (said_number (cut_behind 32 (cut_behind 32 (cut_behind 32 (cut_behind 32 (cut_behind 32 bytes))))))
 
 -- by its first letter, behind the word and the number
 unfoldable pub said_ending : List ℕ → Ending
 said_ending line =
-    if first_byte line == 115 then said_spent (behind 32 (behind 32 line)) else (if first_byte line == 102 then endings.Full else endings.Closed)
+    if first_byte line == 115 then said_spent (cut_behind 32 (cut_behind 32 line)) else (if first_byte line == 102 then endings.Full else endings.Closed)

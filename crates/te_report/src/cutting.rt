@@ -2,7 +2,7 @@
 
 ghost use Rattle.std.specs.Prelude.{◌≡◌, ◌≢◌, ◌<◌, ◌≤◌, ◌+◌, ◌==◌, ◌++◌, ℕ, List, not, length, take, drop, IfSome, IfNone};
 ghost use Rattle.std.specs.List.{prefix_len};
-ghost use Rattle.te_report.specs.Sayings.{up_to, behind};
+ghost use Rattle.te_report.specs.Sayings.{up_to, cut_behind};
 
 // How many bytes stand before the first `at`.
 fn run(bytes: &[u8], at: u8) -> usize
@@ -30,7 +30,7 @@ fn past(bytes: &[u8], len: usize) -> &[u8]
 /// What stands before the first byte `at`, or the whole where there is none; and what stands behind it, or nothing.
 pub(crate) fn cut(bytes: &[u8], at: u8) -> (&[u8], &[u8])
     ensures front { result.0.now ≡ up_to at bytes.now }
-    ensures back { result.1.now ≡ behind at bytes.now }
+    ensures back { result.1.now ≡ cut_behind at bytes.now }
     ensures within { (length result.0.now ≤ length bytes.now) × (length result.1.now ≤ length bytes.now) }
     ensures shorter { 0 < length bytes.now → length result.1.now < length bytes.now }
 {
@@ -53,7 +53,7 @@ pub(crate) fn up_to(bytes: &[u8], at: u8) -> &[u8]
 
 /// What stands behind the first byte `at`, or nothing.
 pub(crate) fn behind(bytes: &[u8], at: u8) -> &[u8]
-    ensures value { result.now ≡ behind at bytes.now }
+    ensures value { result.now ≡ cut_behind at bytes.now }
     ensures within { length result.now ≤ length bytes.now }
 {
     cut(bytes, at).1

@@ -10,7 +10,7 @@ ghost use Rattle.te_history.specs.Refusals.{IsRefused};
 ghost use Rattle.te_report.specs.OfScript.{EndsSo};
 ghost use Rattle.te_report.specs.Following.{AreFollowed};
 ghost use Rattle.te_report.specs.declared.saying.Said.TheVariants as says;
-ghost use Rattle.te_report.specs.Judging.{IsUnposted, HasUnposted, IsWishedAt, IsJudged, PostFails, sayer};
+ghost use Rattle.te_report.specs.Judging.{IsUnposted, HasUnposted, IsWishedAt, IsJudged, PostIsRefused, sayer};
 
 use crate::fault::Cause;
 use crate::saying::Said;
@@ -161,7 +161,7 @@ fn some_event(alloc: Global) -> Result<Event, NoMemory> {
 
 // Why a post fails that its thread doesn't wish: whether it follows doesn't hang on its event.
 fn unwished_post(alloc: Global, hist: &Hist, by: u32, ticket: u32) -> Result<Cause, NoMemory>
-    ensures { IfOk result (λ cause. PostFails hist.now by ticket cause) }
+    ensures { IfOk result (λ cause. PostIsRefused hist.now by ticket cause) }
 {
     let entry = Entry::Post {
         by,

@@ -1,6 +1,6 @@
 ghost use Rattle.std.specs.Prelude.{◌≡◌, ◌<◌, ◌≤◌, length, map, IfOk, IfSome};
 ghost use Rattle.te_script.specs.Scripts.{thread_names, IsScript};
-ghost use Rattle.te_report.specs.Sayings.{place_of, said_thread};
+ghost use Rattle.te_report.specs.Sayings.{place_of_name, said_thread};
 
 use std::alloc::Global;
 use te_script::Script;
@@ -51,9 +51,9 @@ pub(crate) fn names_of(alloc: Global, script: &Script) -> Result<Called, NoMemor
 }
 
 /// The first place of a name in a list.
-#[tactic(auto, unfolding(crate::specs::Sayings::place_of))]
+#[tactic(auto, unfolding(crate::specs::Sayings::place_of_name))]
 pub(crate) fn place_of(names: &[Name], name: &[u8]) -> Option<usize>
-    ensures value { result ≡ place_of names.now name.now }
+    ensures value { result ≡ place_of_name names.now name.now }
     ensures below { IfSome result (λ i. i < length names.now) }
 {
     names.iter().position(|x| x.bytes() == name)

@@ -1,9 +1,9 @@
 ghost use Rattle.std.specs.Prelude.{◌≡◌, ◌^◌, ◌<◌, ℕ, Some, None, nat_lt, if◌then◌else◌, pos, ◌-ℤ◌};
-ghost use Rattle.te_report.specs.Sayings.{digits_value, said_number, said_ticket, said_integer, fitting};
+ghost use Rattle.te_report.specs.Sayings.{decimal_value, said_number, said_ticket, said_integer, fitting_number};
 
 // The number of some digits, where it is one of 64 bits.
 fn value(digits: &[u8]) -> Option<u64>
-    ensures { result ≡ (if nat_lt (digits_value 0 digits.now) (2 ^ 64) then Some (digits_value 0 digits.now) else None) }
+    ensures { result ≡ (if nat_lt (decimal_value 0 digits.now) (2 ^ 64) then Some (decimal_value 0 digits.now) else None) }
 {
     let mut size: u128 = 0;
     for digit in digits {
@@ -39,7 +39,7 @@ pub(crate) fn ticket(digits: &[u8]) -> u32
 }
 
 fn negative(digits: &[u8]) -> Option<i64>
-    ensures { result ≡ fitting (pos 0 -ℤ pos (digits_value 0 digits.now)) }
+    ensures { result ≡ fitting_number (pos 0 -ℤ pos (decimal_value 0 digits.now)) }
 {
     match value(digits) {
         Some(size) => 0i64.checked_sub_unsigned(size),
@@ -48,7 +48,7 @@ fn negative(digits: &[u8]) -> Option<i64>
 }
 
 fn positive(digits: &[u8]) -> Option<i64>
-    ensures { result ≡ fitting (pos (digits_value 0 digits.now)) }
+    ensures { result ≡ fitting_number (pos (decimal_value 0 digits.now)) }
 {
     match value(digits) {
         Some(size) => 0i64.checked_add_unsigned(size),

@@ -5,10 +5,10 @@ ghost use Rattle.te_history.specs.declared.entry.Entry.{Entry as Event};
 ghost use Rattle.te_history.specs.Follows.{LooselyFollows};
 ghost use Rattle.te_report.specs.Following.{AreFollowed};
 ghost use Rattle.te_report.specs.Whole.{IsWhole};
-ghost use Rattle.te_report.specs.Report.{first, second, head_line, most_entries};
-ghost use Rattle.te_report.specs.Told.{most_bytes, BeginsLast, StandsAt, IsReadAs, IsRefusedFor};
+ghost use Rattle.te_report.specs.Report.{first, second, head_line, most_reported_entries};
+ghost use Rattle.te_report.specs.Told.{most_report_bytes, BeginsLast, LineStandsAt, IsReadAs, IsRefusedFor};
 ghost use Rattle.te_report.specs.Declarations.{DeclaredIn};
-ghost use Rattle.te_report.specs.Judging.{HasUnposted, IsWishedAt, sayer, TakesIn, FailsSaid, GoesOn, FailsNext, FailsLast, EndsAs};
+ghost use Rattle.te_report.specs.Judging.{HasUnposted, IsWishedAt, sayer, TakesEntryIn, FailsSaid, ReadingGoesOn, NextFails, FailsLast, EndIsWished};
 ghost use Rattle.te_report.specs.Sayings.{called_of, version_of};
 
 use crate::cutting::behind_prefix;
@@ -106,7 +106,7 @@ fn append(
     requires so_far { AreFollowed script.now hist.old cores.old.items }
     requires follows { LooselyFollows hist.old.callers hist.old.entries entry }
     requires wished { IsWishedAt script.now hist.old.entries entry }
-    requires few { length hist.old.entries < most_entries }
+    requires few { length hist.old.entries < most_reported_entries }
     ensures callers { OnOk result (hist.new.callers ≡ hist.old.callers) }
     ensures entries { OnOk result (hist.new.entries ≡ hist.old.entries ++ entry ∷ []) }
     ensures so_far { OnOk result (AreFollowed script.now hist.new cores.new.items) }
@@ -134,9 +134,9 @@ fn take_said(
     requires so_far { AreFollowed script.now hist.old cores.old.items }
     requires caller { sayer said < length cores.old.items }
     requires unposted { HasUnposted said }
-    requires within { length hist.old.entries < most_entries }
+    requires within { length hist.old.entries < most_reported_entries }
     requires declared { DeclaredIn hist.old.callers hist.old.entries declared.old }
-    ensures takes { OnOk result (TakesIn sites script.now hist.old hist.new said) }
+    ensures takes { OnOk result (TakesEntryIn sites script.now hist.old hist.new said) }
     ensures so_far { OnOk result (AreFollowed script.now hist.new cores.new.items) }
     ensures declared { OnOk result (DeclaredIn hist.new.callers hist.new.entries declared.new) }
     ensures refused { IfErr result (λ fault. FailsSaid sites script.now hist.old said at fault) }
@@ -166,13 +166,13 @@ fn take_line<'a>(
     requires script { IsScript script.now }
     requires called { called.now ≡ called_of script.now }
     requires so_far { AreFollowed script.now hist.old cores.old.items }
-    requires within { length hist.old.entries ≤ most_entries }
+    requires within { length hist.old.entries ≤ most_reported_entries }
     requires few { length rest.now < 2 ^ 32 }
     requires declared { DeclaredIn hist.old.callers hist.old.entries declared.old }
-    ensures goes_on { IfOk result (λ behind. GoesOn (version_of sites) script.now hist.old hist.new rest.now behind.now) }
+    ensures goes_on { IfOk result (λ behind. ReadingGoesOn (version_of sites) script.now hist.old hist.new rest.now behind.now) }
     ensures so_far { OnOk result (AreFollowed script.now hist.new cores.new.items) }
     ensures declared { OnOk result (DeclaredIn hist.new.callers hist.new.entries declared.new) }
-    ensures refused { IfErr result (λ fault. FailsNext (version_of sites) script.now hist.old rest.now fault) }
+    ensures refused { IfErr result (λ fault. NextFails (version_of sites) script.now hist.old rest.now fault) }
 {
     let count = hist.len();
     let at = count as u32 + 2;
@@ -204,9 +204,9 @@ fn is_whole(hist: &Hist) -> bool
 
 // Reads the last line.
 fn read_end(alloc: Global, hist: &Hist, rest: &[u8]) -> Result<Ending, ReportFault>
-    requires within { length hist.now.entries ≤ most_entries }
+    requires within { length hist.now.entries ≤ most_reported_entries }
     requires ends { (rest.now ≢ []) → BeginsLast rest.now }
-    ensures ok { IfOk result (λ ending. EndsAs hist.now rest.now ending) }
+    ensures ok { IfOk result (λ ending. EndIsWished hist.now rest.now ending) }
     ensures refused { IfErr result (λ fault. FailsLast hist.now rest.now fault) }
 {
     let count = hist.len();

@@ -1,7 +1,7 @@
 // Values and outcomes as a line tells them.
 
 ghost use Rattle.std.specs.Prelude.{◌≡◌, ◌≤◌, ◌++◌, length, map, IfOk, OnOk};
-ghost use Rattle.te_report.specs.Sayings.{said_channel, said_atom, said_value, said_outcome, said_values, behind, words, few_atoms};
+ghost use Rattle.te_report.specs.Sayings.{said_channel, said_atom, said_value, said_outcome, said_values, cut_behind, words, few_atoms};
 
 use crate::cutting::{behind, cut, up_to};
 use crate::names::{Called, place_of, thread};

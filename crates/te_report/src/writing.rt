@@ -2,7 +2,7 @@ ghost use Rattle.std.specs.Prelude.{◌≡◌, ◌≤◌, ◌++◌, [], length, 
 ghost use Rattle.std.specs.List.{AllByRecursion};
 ghost use Rattle.te_report.specs.OfScript.{IsOfScript};
 ghost use Rattle.te_report.specs.ScriptChannels.{HasChannelsOf};
-ghost use Rattle.te_report.specs.Report.{second, entry_lines, IsReport, most_entries};
+ghost use Rattle.te_report.specs.Report.{second, entry_lines, IsReport, most_reported_entries};
 
 use crate::ending::Ending;
 use crate::entries::{put_last_line, put_line};
@@ -49,7 +49,7 @@ pub fn write_report(
 ) -> Result<Rows<u8>, NoMemory>
     requires callers { hist.now.callers ≡ length script.now.threads }
     requires channels { AllByRecursion (HasChannelsOf script.now) hist.now.entries }
-    requires few { length hist.now.entries ≤ most_entries }
+    requires few { length hist.now.entries ≤ most_reported_entries }
     requires of_script { IsOfScript script.now hist.now.entries }
     ensures { IfOk result (λ text. IsReport second script.now hist.now.entries ending text) }
 {

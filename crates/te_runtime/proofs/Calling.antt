@@ -10,7 +10,7 @@ use Rattle.te_history.specs.declared.entry.Entry.{Entry}
 use Rattle.te_history.specs.Follows.{caller_of}
 use Rattle.te_board.specs.Boards.{BoardLog, Appends}
 use Rattle.te_runtime.specs.Calls.{FoundFree, Looked, Called, board_of}
-use Rattle.te_runtime.specs.Turns.{Entered, GrowsBy, GoesOn, Left}
+use Rattle.te_runtime.specs.Turns.{Entered, GrowsBy, TurnGoesOn, Left}
 
 -- ---- the words that were found
 
@@ -54,7 +54,7 @@ stays {before} {after} by same = record {
 }
 
 -- a board that was taken may be given back with entries of the caller more
-pub goes_on : {p q : Knowledge Entry} {b after : BoardLog} (by : ℕ) → Entered p q b → GrowsBy by b after → by ≡ p.caller → GoesOn q after
+pub goes_on : {p q : Knowledge Entry} {b after : BoardLog} (by : ℕ) → Entered p q b → GrowsBy by b after → by ≡ p.caller → TurnGoesOn q after
 goes_on {p} {q} {b} {after} by e g is =
     let more = g.goes_on.0 in
     let by_is : by ≡ q.caller = is ∙ sym e.same.1 in record {

@@ -19,7 +19,7 @@ use Rattle.te_runtime.specs.declared.fault.SyncFault.{SyncFault}
 use Rattle.te_runtime.specs.declared.fault.SyncFault.TheVariants as faults
 use Rattle.te_runtime.specs.Refusals.{HasNothing, RefusesPoll}
 use Rattle.te_runtime.specs.Calls.{Called, board_of}
-use Rattle.te_runtime.specs.Answers.{IsWaiting, IsPolled}
+use Rattle.te_runtime.specs.Answers.{CallerWaits, IsPolled}
 use Rattle.te_runtime.specs.Turns.{Entered, Left}
 use Rattle.te_runtime.specs.Acts.{Polls}
 use Rattle.te_runtime.proofs.Calling.{called, called_same, board_is, board_same}
@@ -38,8 +38,8 @@ pub is_polled : {p q r : Knowledge Entry} {b : BoardLog} (after : BoardLog) (by 
 is_polled after by (polled.Ready outcome) e polls l is = (polls.0, appended by (λ k. entries.Take k polls.0 outcome) (λ k. refl) e polls.1 l is)
 is_polled {p} {q} {r} {b} after by (polled.Waiting front) e polls l is =
     let board : board_of r ≡ b = board_same e polls.0 l in
-    let waits : IsWaiting (state_of (board_of r)) r.caller =
-    subst (λ (x : BoardLog). IsWaiting (state_of x) r.caller) (sym board) (subst (IsWaiting (state_of b)) (is ∙ sym e.same.1 ∙ sym l.same.1) polls.2) in
+    let waits : CallerWaits (state_of (board_of r)) r.caller =
+    subst (λ (x : BoardLog). CallerWaits (state_of x) r.caller) (sym board) (subst (CallerWaits (state_of b)) (is ∙ sym e.same.1 ∙ sym l.same.1) polls.2) in
     (called_same e polls.0 l, polls.1 ∙ ap (λ (x : BoardLog). length x.entries) (sym board), waits)
 
 -- ---- who waits is told so
@@ -51,7 +51,7 @@ set_there (y ∷ ys) zero v x is = cc
 set_there (y ∷ ys) (suc i) v x is = set_there ys i v x is
 
 -- who took its outcome isn't parked
-took : (b after : BoardLog) (by ticket : ℕ) (outcome : Outcome) → Appends b after (entries.Take by ticket outcome) → IsWaiting (state_of after) by → ⊥
+took : (b after : BoardLog) (by ticket : ℕ) (outcome : Outcome) → Appends b after (entries.Take by ticket outcome) → CallerWaits (state_of after) by → ⊥
 took b after by ticket outcome a waits =
     let state_is : state_of after ≡ with_standing by idle (state_of b) =
     (λ i. state (a.callers i) (a.entries i)) ∙ state-after b.callers b.entries (entries.Take by ticket outcome) in
@@ -61,7 +61,7 @@ took b after by ticket outcome a waits =
     cc
 
 -- whose poll is refused doesn't wait
-not_waiting : (b : BoardLog) (by : ℕ) (f : SyncFault) → RefusesPoll b by f → IsWaiting (state_of b) by → ⊥
+not_waiting : (b : BoardLog) (by : ℕ) (f : SyncFault) → RefusesPoll b by f → CallerWaits (state_of b) by → ⊥
 not_waiting b by faults.Stuck cause waits = runs (state_of b) waits.running ((stuck_exactly b.callers b.entries).1 cause)
 not_waiting b by (faults.Other status) cause waits =
     subst HasNothing (status_once (state_of b) by status (statuses.Parked waits.ticket) cause.0.1 waits.parked) cause.1
@@ -70,12 +70,12 @@ not_waiting b by _ cause waits = cause
 pub waits_told : (answer : Result Polled SyncFault) {p q r : Knowledge Entry} {b : BoardLog} (after : BoardLog) (by : ℕ) → Entered p q b
     → after.callers ≡ b.callers → Left q r after.entries → by ≡ p.caller
     → IfOk answer (Polls b after by) → OnErr answer (after ≡ b) → IfErr answer (RefusesPoll b by)
-    → IsWaiting (state_of (board_of r)) r.caller → answer ≡ Ok (polled.Waiting (length r.read))
+    → CallerWaits (state_of (board_of r)) r.caller → answer ≡ Ok (polled.Waiting (length r.read))
 waits_told answer {p} {q} {r} {b} after by e callers l is ok same refused waits = by_answer answer ok same refused
   where
-    here : IsWaiting (state_of after) by
-    here = subst (λ (x : BoardLog). IsWaiting (state_of x) by) (board_is e callers l)
-        (subst (IsWaiting (state_of (board_of r))) (sym (is ∙ sym e.same.1 ∙ sym l.same.1)) waits)
+    here : CallerWaits (state_of after) by
+    here = subst (λ (x : BoardLog). CallerWaits (state_of x) by) (board_is e callers l)
+        (subst (CallerWaits (state_of (board_of r))) (sym (is ∙ sym e.same.1 ∙ sym l.same.1)) waits)
 
     by_answer : (a : Result Polled SyncFault) → IfOk a (Polls b after by) → OnErr a (after ≡ b) → IfErr a (RefusesPoll b by)
         → a ≡ Ok (polled.Waiting (length r.read))
@@ -83,4 +83,4 @@ waits_told answer {p} {q} {r} {b} after by e callers l is ok same refused waits 
     by_answer (Ok (polled.Waiting front)) ok same refused =
         let front_is : front ≡ length r.read = ok.1 ∙ ap (λ (x : BoardLog). length x.entries) (sym (board_same e ok.0 l)) in
         ap (λ (n : ℕ). Ok (polled.Waiting n)) front_is
-    by_answer (Err f) ok same refused = absurd (not_waiting b by f refused (subst (λ (x : BoardLog). IsWaiting (state_of x) by) same here))
+    by_answer (Err f) ok same refused = absurd (not_waiting b by f refused (subst (λ (x : BoardLog). CallerWaits (state_of x) by) same here))

@@ -20,13 +20,13 @@ use Rattle.te_runtime.specs.declared.answers.Polled.TheVariants as polled
 use Rattle.te_runtime.specs.declared.answers.Driven.{Driven}
 use Rattle.te_runtime.specs.declared.answers.Driven.TheVariants as driven
 use Rattle.te_runtime.specs.Calls.{Called, board_of}
-use Rattle.te_runtime.specs.Answers.{IsWaiting, IsTightCommit, MayNotDeclare, IsDriven}
+use Rattle.te_runtime.specs.Answers.{CallerWaits, IsTightCommit, MayNotDeclare, IsDriven}
 
 -- ---- a poll
 
 abbrev pub Polls : BoardLog → BoardLog → ℕ → Polled → Type 0
 Polls before after by (polled.Ready outcome) = (ticket : ℕ) × Appends before after (entries.Take by ticket outcome)
-Polls before after by (polled.Waiting front) = (after ≡ before) × (front ≡ length before.entries) × IsWaiting (state_of before) by
+Polls before after by (polled.Waiting front) = (after ≡ before) × (front ≡ length before.entries) × CallerWaits (state_of before) by
 
 -- ---- a search
 
@@ -34,9 +34,9 @@ Polls before after by (polled.Waiting front) = (after ≡ before) × (front ≡ 
 abbrev pub IsGroupIn : List Parked → Certificate → Type 0
 IsGroupIn parked cert = (outcomes : List Outcome) × IsGroupOf parked cert outcomes
 
-abbrev pub IsFound : List Parked → Found → Type 0
-IsFound parked (found.Group cert) = IsGroupIn parked cert
-IsFound parked found.Blocked = ¬ CanCommit parked
+abbrev pub IsFoundIn : List Parked → Found → Type 0
+IsFoundIn parked (found.Group cert) = IsGroupIn parked cert
+IsFoundIn parked found.Blocked = ¬ CanCommit parked
 
 abbrev pub IsUnfound : List Parked → ℕ → SearchFault → Type 0
 IsUnfound parked budget (search.Spent paths groups) = IsUsedUp parked budget paths groups

@@ -22,7 +22,7 @@ use Rattle.te_runtime.specs.declared.answers.Driven.TheVariants as driven
 use Rattle.te_runtime.specs.Calls.{Called, board_of}
 
 -- the caller is parked, on a running board
-pub record IsWaiting (s : State) (by : ℕ) : Type 0 where
+pub record CallerWaits (s : State) (by : ℕ) : Type 0 where
   pub running : IsRunning s
   pub ticket : ℕ
   pub parked : HasStatus s by (statuses.Parked ticket)
@@ -30,7 +30,7 @@ pub record IsWaiting (s : State) (by : ℕ) : Type 0 where
 -- it took the outcome, or it waits at the end of what was read
 abbrev pub IsPolled : Knowledge Entry → Knowledge Entry → Polled → Type 0
 IsPolled before after (polled.Ready outcome) = (ticket : ℕ) × Called before after (entries.Take after.caller ticket outcome ∷ [])
-IsPolled before after (polled.Waiting front) = Called before after [] × (front ≡ length after.read) × IsWaiting (state_of (board_of after)) after.caller
+IsPolled before after (polled.Waiting front) = Called before after [] × (front ≡ length after.read) × CallerWaits (state_of (board_of after)) after.caller
 
 -- the entry is a commit by this caller, of members that can't be split into two parts with no meeting between them
 pub record IsTightCommit (by : ℕ) (e : Entry) : Type 0 where

@@ -22,20 +22,20 @@ abbrev pub HasRest : BoardLog → Type 0
 HasRest b = (k by : ℕ) × (slice_get b.entries k ≡ Some (entries.Rest by))
 
 -- the caller stands so, on a running board
-abbrev pub StandsAs : BoardLog → ℕ → Status → Type 0
-StandsAs b by status = IsRunning (state_of b) × HasStatus (state_of b) by status
+abbrev pub CallerStandsAs : BoardLog → ℕ → Status → Type 0
+CallerStandsAs b by status = IsRunning (state_of b) × HasStatus (state_of b) by status
 
 abbrev pub RefusesOffer : BoardLog → ℕ → SyncFault → Type 0
 RefusesOffer b by faults.Stuck = HasStuck b
-RefusesOffer b by (faults.Other status) = StandsAs b by status × (status ≢ statuses.Idle)
-RefusesOffer b by faults.Resting = StandsAs b by statuses.Idle × HasRest b
-RefusesOffer b by faults.Full = StandsAs b by statuses.Idle × ((state_of b).resting ≡ false) × IsFull b
-RefusesOffer b by faults.Memory = StandsAs b by statuses.Idle × ((state_of b).resting ≡ false)
+RefusesOffer b by (faults.Other status) = CallerStandsAs b by status × (status ≢ statuses.Idle)
+RefusesOffer b by faults.Resting = CallerStandsAs b by statuses.Idle × HasRest b
+RefusesOffer b by faults.Full = CallerStandsAs b by statuses.Idle × ((state_of b).resting ≡ false) × IsFull b
+RefusesOffer b by faults.Memory = CallerStandsAs b by statuses.Idle × ((state_of b).resting ≡ false)
 RefusesOffer b by _ = ⊥
 
 abbrev pub RefusesRecall : BoardLog → ℕ → SyncFault → Type 0
 RefusesRecall b by faults.Stuck = HasStuck b
-RefusesRecall b by (faults.Other status) = StandsAs b by status × IsNotParked status
+RefusesRecall b by (faults.Other status) = CallerStandsAs b by status × IsNotParked status
 RefusesRecall b by _ = ⊥
 
 -- neither parked nor given an outcome
@@ -46,7 +46,7 @@ HasNothing _ = ⊥
 
 abbrev pub RefusesPoll : BoardLog → ℕ → SyncFault → Type 0
 RefusesPoll b by faults.Stuck = HasStuck b
-RefusesPoll b by (faults.Other status) = StandsAs b by status × HasNothing status
+RefusesPoll b by (faults.Other status) = CallerStandsAs b by status × HasNothing status
 RefusesPoll b by _ = ⊥
 
 -- a turn of a drive needs a board that isn't stuck, and memory

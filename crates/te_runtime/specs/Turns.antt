@@ -31,7 +31,7 @@ pub record GrowsBy (by : ℕ) (before after : BoardLog) : Type 0 where
   pub goes_on : lists.GoesOnBy caller_of by before.entries after.entries
 
 -- a board that goes on from what the pass has read, with entries of its caller
-pub record GoesOn (p : Knowledge Entry) (b : BoardLog) : Type 0 where
+pub record TurnGoesOn (p : Knowledge Entry) (b : BoardLog) : Type 0 where
   pub callers : b.callers ≡ p.lock.callers
   pub goes_on : lists.GoesOnBy caller_of p.caller p.read b.entries
 

@@ -10,7 +10,7 @@ ghost use Rattle.te_runtime.specs.Refusals.{RefusesTurn, RefusesDrive};
 ghost use Rattle.te_runtime.specs.Calls.{Called, Refused, RefusedOnce};
 ghost use Rattle.te_runtime.specs.Answers.{IsDriven};
 ghost use Rattle.te_runtime.specs.Turns.{GrowsBy};
-ghost use Rattle.te_runtime.specs.Acts.{IsGroupIn, IsFound, IsUnfound, Drives, IsSnapshotOf, IsActed};
+ghost use Rattle.te_runtime.specs.Acts.{IsGroupIn, IsFoundIn, IsUnfound, Drives, IsSnapshotOf, IsActed};
 
 use crate::answers::Driven;
 use crate::comparing::are_same;
@@ -111,7 +111,7 @@ fn act(
     snapshot: &Snapshot,
 ) -> Result<Driven, SyncFault>
     requires caller { by < board.old.callers }
-    requires found { IsFound snapshot.now.parked found }
+    requires found { IsFoundIn snapshot.now.parked found }
     ensures ok { IfOk result (Drives board.old board.new by snapshot.now) }
     ensures same { OnErr result (board.new ≡ board.old) }
     ensures goes_on { GrowsBy by board.old board.new }
@@ -161,7 +161,7 @@ impl TeRuntime {
     fn search(&self, alloc: Global, parked: &[Parked], budget: u64) -> Result<Found, SearchFault>
         requires rising { IsGroup (as_group parked.now) }
         requires budget { IsBudget budget }
-        ensures found { IfOk result (IsFound parked.now) }
+        ensures found { IfOk result (IsFoundIn parked.now) }
         ensures refused { IfErr result (IsUnfound parked.now budget) }
     {
         find(alloc, parked, budget)
@@ -192,7 +192,7 @@ impl TeRuntime {
         requires here { pass.old.lock ≡ self.now }
         requires idle { pass.old.has_turn ≡ false }
         requires seen { IsSnapshotOf pass.old snapshot.now }
-        requires found { IsFound snapshot.now.parked found }
+        requires found { IsFoundIn snapshot.now.parked found }
         ensures ok { IfOk result (IsActed pass.old pass.new) }
         ensures refused { IfErr result (Refused (λ board _. RefusesTurn board) pass.old pass.new) }
     {

@@ -7,7 +7,7 @@ ghost use Rattle.te_runtime.specs.declared.answers.Polled.TheVariants as polled;
 ghost use Rattle.te_runtime.specs.Calls.{Refused, FoundFree, board_of};
 ghost use Rattle.te_runtime.specs.Turns.{GrowsBy};
 ghost use Rattle.te_runtime.specs.Refusals.{RefusesPoll};
-ghost use Rattle.te_runtime.specs.Answers.{IsWaiting, IsPolled};
+ghost use Rattle.te_runtime.specs.Answers.{CallerWaits, IsPolled};
 ghost use Rattle.te_runtime.specs.Acts.{Polls};
 
 use crate::answers::Polled;
@@ -56,7 +56,7 @@ impl TeRuntime {
         ensures ok { IfOk result (IsPolled pass.old pass.new) }
         ensures refused { IfErr result (Refused RefusesPoll pass.old pass.new) }
         // it answers that the caller waits wherever the turn was free and the caller does
-        ensures waits { FoundFree pass.new.looks → IsWaiting (state_of (board_of pass.new)) pass.new.caller
+        ensures waits { FoundFree pass.new.looks → CallerWaits (state_of (board_of pass.new)) pass.new.caller
             → result ≡ Ok (polled.Waiting (length pass.new.read)) }
     {
         let by = Turn::caller(pass);

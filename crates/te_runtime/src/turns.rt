@@ -2,7 +2,7 @@
 
 ghost use Rattle.std.specs.Prelude.{◌≡◌, IfOk, IfErr, true, false};
 ghost use Rattle.te_runtime.specs.Calls.{IsBusy};
-ghost use Rattle.te_runtime.specs.Turns.{Entered, GoesOn, Left};
+ghost use Rattle.te_runtime.specs.Turns.{Entered, TurnGoesOn, Left};
 
 use crate::fault::SyncFault;
 use crate::runtime::TeRuntime;
@@ -29,7 +29,7 @@ impl TeRuntime {
     pub(crate) fn exit(&self, pass: &mut Pass<Board>, board: Board)
         requires here { pass.old.lock ≡ self.now }
         requires turn { pass.old.has_turn ≡ true }
-        requires goes_on { GoesOn pass.old board }
+        requires goes_on { TurnGoesOn pass.old board }
         ensures { Left pass.old pass.new board.entries }
     {
         // The board tells that its history is short.

@@ -12,7 +12,7 @@ use Rattle.te_script.specs.declared.script.Stmt.{Stmt}
 use Rattle.te_script.specs.declared.wish.Spot.{Spot}
 use Rattle.te_script.specs.Scripts.{Statement, sync, emit, repeat, AreStatements, with_register, Thread, IsThread}
 use Rattle.te_script.specs.Wishes.{Step, syncing, emitting}
-use Rattle.te_script.specs.Cores.{register_to, written, stand_at, moved, without, under, next_of, next_at, IsWaiting, WritesTo, emits_left, Settles, IsCore, IsSpot, left_at, rest_of}
+use Rattle.te_script.specs.Cores.{register_to, written, stand_at, moved, without_register, under, next_of, next_at, IsWaiting, WritesTo, emits_left, Settles, IsCore, IsSyncSpot, steps_left_at, steps_behind_first}
 use Rattle.te_script.specs.Texts.{statement_of}
 use Rattle.te_script.proofs.Places.{slice_get_set_same, slice_get_set_other}
 use Rattle.te_script.proofs.EmitsDone.{nothing_from}
@@ -50,12 +50,12 @@ registers_partial regs = record { registers = λ r. found (slice_get regs r) r; 
     found (Some v) r = inr (v, refl)
 
 -- register r holds the new value
-set_register : (regs : List (List Atom)) (r : ℕ) (v : List Atom) → r < length regs → IsWith r v (without r (registers_to regs)) (registers_to (slice_set regs r v))
+set_register : (regs : List (List Atom)) (r : ℕ) (v : List Atom) → r < length regs → IsWith r v (without_register r (registers_to regs)) (registers_to (slice_set regs r v))
 set_register regs r v lt (name n) = refl
 set_register regs r v lt (known u) = refl
 set_register regs r v lt (register q) = at (eqb q r) refl
   where
-    at : (b : Bool) → eqb q r ≡ b → register_to r v (without r (registers_to regs) (register q)) ≡ registers_to (slice_set regs r v) (register q)
+    at : (b : Bool) → eqb q r ≡ b → register_to r v (without_register r (registers_to regs) (register q)) ≡ registers_to (slice_set regs r v) (register q)
     at true e =
         ap (register_to r v) (without_at r q (registers_to regs) true e) ∙ subst (λ k. register_to r v (register k) ≡ or_register (slice_get (slice_set regs r v) k) k) (sym (eqb-true q r e)) here
       where
@@ -77,16 +77,16 @@ waits_itself None regs (emitting at e ∷ left) h = absurd h
 -- the step that waits, the value that it is given, and where the thread then stands
 given_on : (regs : List (List Atom)) (left : List Step) (r : ℕ) (raised : Option (List Atom)) (emitted : List (List Atom)) (v : List Atom)
     → r < length regs → IsWaiting (next_at raised regs left) → WritesTo left r
-    → moved emitted (next_at raised regs left) (Gives v) ≡ stand_at (under (registers_to (slice_set regs r v)) (rest_of left)) emitted
+    → moved emitted (next_at raised regs left) (Gives v) ≡ stand_at (under (registers_to (slice_set regs r v)) (steps_behind_first left)) emitted
 given_on regs left r (Some u) emitted v lt h w = absurd h
 given_on regs [] r None emitted v lt h w = absurd w
 given_on regs (emitting at e ∷ rest) r None emitted v lt h w = absurd w
 given_on regs (syncing at s t ∷ rest) r None emitted v lt h w =
-    let set = rebound r v rest (without r (registers_to regs)) (registers_to (slice_set regs r v)) (IsPartial-without r (registers_to regs) (registers_partial regs)) (set_register regs r v lt) in
-    ap (λ ss'. stand_at ss' emitted) (subst (λ k. written k v (under (without k (registers_to regs)) rest) ≡ under (registers_to (slice_set regs r v)) rest) w set)
+    let set = rebound r v rest (without_register r (registers_to regs)) (registers_to (slice_set regs r v)) (IsPartial-without r (registers_to regs) (registers_partial regs)) (set_register regs r v lt) in
+    ap (λ ss'. stand_at ss' emitted) (subst (λ k. written k v (under (without_register k (registers_to regs)) rest) ≡ under (registers_to (slice_set regs r v)) rest) w set)
 
 -- a sync emits nothing
-emits_behind : (left : List Step) (r : ℕ) → WritesTo left r → emits_left (rest_of left) ≡ emits_left left
+emits_behind : (left : List Step) (r : ℕ) → WritesTo left r → emits_left (steps_behind_first left) ≡ emits_left left
 emits_behind [] r w = absurd w
 emits_behind (syncing at s t ∷ rest) r w = refl
 emits_behind (emitting at e ∷ rest) r w = absurd w
@@ -94,33 +94,33 @@ emits_behind (emitting at e ∷ rest) r w = absurd w
 -- ---- a core that is given a value, over what its calls told
 
 module _ (t : Thread) (first second : List Stmt) (spot : Spot) (r : ℕ) (first_is : map statement_of first ≡ t.statements) (second_is : map statement_of second ≡ t.statements)
-    (writes : WritesTo (left_at spot (map statement_of first)) r) where
-  writes_it : WritesTo (left_at spot t.statements) r
-  writes_it = subst (λ ss. WritesTo (left_at spot ss) r) first_is writes
+    (writes : WritesTo (steps_left_at spot (map statement_of first)) r) where
+  writes_it : WritesTo (steps_left_at spot t.statements) r
+  writes_it = subst (λ ss. WritesTo (steps_left_at spot ss) r) first_is writes
 
   -- the register that is written is one of eight
-  pub one_of_eight : IsThread 256 t → IsSpot spot t.statements → IsWaiting (next_of (left_at spot t.statements)) → r < 8
+  pub one_of_eight : IsThread 256 t → IsSyncSpot spot t.statements → IsWaiting (next_of (steps_left_at spot t.statements)) → r < 8
   one_of_eight h at w =
       let here = waits_at spot t.statements at w in
       let same : r ≡ here.0 = subst (λ left. WritesTo left r) (left_sync spot t.statements _ here.0 here.1 at here.2) writes_it in
       omega (arith, same, writes_within 256 (length t.registers) 0 t.statements _ spot.place here.0 here.1 h.in_order here.2, h.registers)
 
   pub stands_given : (regs : List (List Atom)) (raised raised' : Option (List Atom)) (emitted now : List (List Atom)) (v : List Atom) (spot' : Spot)
-      → r < length regs → IsWaiting (next_at raised regs (left_at spot t.statements))
-      → Settles (slice_set regs r v) (rest_of (left_at spot (map statement_of second))) emitted raised' (left_at spot' (map statement_of second)) now
-      → record { emitted = now; next = next_at raised' (slice_set regs r v) (left_at spot' t.statements) } ≡ moved emitted (next_at raised regs (left_at spot t.statements)) (Gives v)
+      → r < length regs → IsWaiting (next_at raised regs (steps_left_at spot t.statements))
+      → Settles (slice_set regs r v) (steps_behind_first (steps_left_at spot (map statement_of second))) emitted raised' (steps_left_at spot' (map statement_of second)) now
+      → record { emitted = now; next = next_at raised' (slice_set regs r v) (steps_left_at spot' t.statements) } ≡ moved emitted (next_at raised regs (steps_left_at spot t.statements)) (Gives v)
   stands_given regs raised raised' emitted now v spot' lt waiting settles =
-      let stands = subst (λ (ss : List Statement). stand_at (under (registers_to (slice_set regs r v)) (rest_of (left_at spot ss))) emitted ≡ record
-      { emitted = now; next = next_at raised' (slice_set regs r v) (left_at spot' ss) }) second_is settles.stands in
-      sym (given_on regs (left_at spot t.statements) r raised emitted v lt waiting writes_it ∙ stands)
+      let stands = subst (λ (ss : List Statement). stand_at (under (registers_to (slice_set regs r v)) (steps_behind_first (steps_left_at spot ss))) emitted ≡ record
+      { emitted = now; next = next_at raised' (slice_set regs r v) (steps_left_at spot' ss) }) second_is settles.stands in
+      sym (given_on regs (steps_left_at spot t.statements) r raised emitted v lt waiting writes_it ∙ stands)
 
   pub core_given : (regs : List (List Atom)) (raised' : Option (List Atom)) (emitted now : List (List Atom)) (v : List Atom) (spot' : Spot) (room : ℕ)
-      → IsCore t spot (length emitted) room → IsSpot spot' (map statement_of second)
-      → Settles (slice_set regs r v) (rest_of (left_at spot (map statement_of second))) emitted raised' (left_at spot' (map statement_of second)) now → IsCore t spot' (length now) room
+      → IsCore t spot (length emitted) room → IsSyncSpot spot' (map statement_of second)
+      → Settles (slice_set regs r v) (steps_behind_first (steps_left_at spot (map statement_of second))) emitted raised' (steps_left_at spot' (map statement_of second)) now → IsCore t spot' (length now) room
   core_given regs raised' emitted now v spot' room old at settles =
-      let fits = subst (λ (ss : List Statement). length now + emits_left (left_at spot' ss) ≤ length emitted + emits_left (rest_of (left_at spot ss))) second_is settles.fits in
+      let fits = subst (λ (ss : List Statement). length now + emits_left (steps_left_at spot' ss) ≤ length emitted + emits_left (steps_behind_first (steps_left_at spot ss))) second_is settles.fits in
       record {
         short = old.short;
-        at = subst (IsSpot spot') second_is at;
-        fits = omega (arith, fits, old.fits, emits_behind (left_at spot t.statements) r writes_it);
+        at = subst (IsSyncSpot spot') second_is at;
+        fits = omega (arith, fits, old.fits, emits_behind (steps_left_at spot t.statements) r writes_it);
       }

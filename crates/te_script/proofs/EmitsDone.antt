@@ -15,7 +15,7 @@ use Rattle.te_script.specs.declared.script.Stmt.TheVariants as kinds
 use Rattle.te_script.specs.declared.wish.Site.{Site}
 use Rattle.te_script.specs.Scripts.{Statement, sync, emit}
 use Rattle.te_script.specs.Wishes.{Step, syncing, emitting, site_at, flat_from}
-use Rattle.te_script.specs.Cores.{failed, stand_at, emits, under, next_at, IsSettled, IsPastEmits, behind}
+use Rattle.te_script.specs.Cores.{failed, stand_at, emits, under, next_at, IsPastEmitting, IsPastEmits, steps_behind}
 use Rattle.te_script.specs.Texts.{statement_of}
 
 -- with no inner name in scope, a variable is a register's value
@@ -51,7 +51,7 @@ pub emits_trap : (regs : List (List Atom)) (at : Site) (e : Expression) (rest : 
 emits_trap regs at e rest emitted t is = ap (λ r. emits r emitted (stand_at (under (registers_to regs) rest))) (sym (evaluated regs e) ∙ is)
 
 -- at a sync or past the end the emits are done
-pub settled_stand : (regs : List (List Atom)) (rest : List Step) (emitted : List (List Atom)) → IsSettled rest
+pub settled_stand : (regs : List (List Atom)) (rest : List Step) (emitted : List (List Atom)) → IsPastEmitting rest
     → stand_at (under (registers_to regs) rest) emitted ≡ record { emitted = emitted; next = next_at None regs rest }
 settled_stand regs [] emitted h = refl
 settled_stand regs (syncing at r t ∷ rest) emitted h = refl
@@ -62,7 +62,7 @@ pub emit_from : (stmts : List Stmt) (i : ℕ) (s : Stmt) (e : Expr) → i < leng
 emit_from stmts i s e lt is kind = statements_from stmts i s lt is ∙ ap (λ k. statement_of k ∷ drop (i + 1) (map statement_of stmts)) kind
 
 -- the steps from an emit on
-pub behind_emit : (place : ℕ) (ss : List Statement) (e : Expression) → drop place ss ≡ emit e ∷ drop (place + 1) ss → behind place ss ≡ emitting (site_at (suc place) 0) e ∷ behind (place + 1) ss
+pub behind_emit : (place : ℕ) (ss : List Statement) (e : Expression) → drop place ss ≡ emit e ∷ drop (place + 1) ss → steps_behind place ss ≡ emitting (site_at (suc place) 0) e ∷ steps_behind (place + 1) ss
 behind_emit place ss e is = ap (flat_from (suc place) 0) is ∙ (let n : suc place ≡ place + 1 = omega arith in λ i. emitting (site_at (suc place) 0) e ∷ flat_from (suc (n i)) 0 (drop (place + 1) ss))
 
 -- what is no emit is past the emits

@@ -12,7 +12,7 @@ use Rattle.te_terms.specs.Expressions.{register, whole}
 use Rattle.te_terms.specs.Terms.{Term}
 use Rattle.te_script.specs.Scripts.{Statement, sync, emit, Scope, IsEvent, AreStatements, AreDistinct, AreApart, IsThread, IsProgram, Thread, Program, thread_names, HasNames, IsScript}
 use Rattle.te_script.specs.Names.{IsName}
-use Rattle.te_script.specs.Generated.{each, rings_of, rounds_of, channel_name, thread_name, starting, passing, part_event, event_of, thread_of, generated}
+use Rattle.te_script.specs.Generated.{each, rings_of, rounds_of, generated_channel_name, generated_thread_name, starting, passing_event, part_event, event_of, generated_thread, generated}
 use Rattle.te_script.proofs.NamesMade.{numbered_name, letter_name}
 use Rattle.te_script.proofs.Appending.{AreStatements-append, AllByRecursion-append}
 
@@ -50,13 +50,13 @@ distinct_names letter (suc n) few =
 starting_kept : (channels written p r round : ℕ) → round ≤ 300 → p < channels → r < channels → IsEvent (record { written = written; level = 0; channels = channels }) (starting p r round)
 starting_kept channels written p r round most h k = let fits : fits_i64 (pos round) ≡ true = grind (arith, nat_tests, most) in (refl, (h, ((fits, tt), omega arith)), k)
 
-passing_kept : (channels written p q : ℕ) → p < channels → q < channels → IsEvent (record { written = written; level = 0; channels = channels }) (passing p q)
+passing_kept : (channels written p q : ℕ) → p < channels → q < channels → IsEvent (record { written = written; level = 0; channels = channels }) (passing_event p q)
 passing_kept channels written p q h k = (refl, h, (refl, (k, ((((omega arith, omega arith), refl), tt), omega arith)), omega arith))
 
 starting_limits : (p r round : ℕ) → IsWithinLimits (starting p r round)
 starting_limits p r round = record { low = omega arith; few = omega arith; few_fresh = omega arith }
 
-passing_limits : (p q : ℕ) → IsWithinLimits (passing p q)
+passing_limits : (p q : ℕ) → IsWithinLimits (passing_event p q)
 passing_limits p q = record { low = omega arith; few = omega arith; few_fresh = omega arith }
 
 part_kept : (place channels written first round : ℕ) → round ≤ 300 → first + 2 < channels
@@ -73,7 +73,7 @@ syncs_kept channels thread (suc rounds) few h =
     AreStatements-append channels 1 0 (each (λ round. sync 0 (event_of thread round)) (suc rounds)) (sync 0 (event_of thread (suc rounds)))
     (syncs_kept channels thread rounds (omega (arith, few)) h) (omega arith, event.0, event.1, refl)
 
-pub thread_kept : (channels thread rounds : ℕ) → 3 * (thread / 3) + 2 < channels → 0 < rounds → rounds ≤ 300 → IsThread channels (thread_of rounds thread)
+pub thread_kept : (channels thread rounds : ℕ) → 3 * (thread / 3) + 2 < channels → 0 < rounds → rounds ≤ 300 → IsThread channels (generated_thread rounds thread)
 thread_kept channels thread zero h some most = absurd (omega arith)
 thread_kept channels thread (suc rounds) h some most = record {
   registers = omega arith;
@@ -89,34 +89,34 @@ thread_kept channels thread (suc rounds) h some most = record {
       (syncs_kept channels thread rounds (omega (arith, most)) h) (omega arith, refl);
 }
 
-pub thread_named : (rounds thread : ℕ) → thread < 1000 → HasNames (thread_of rounds thread)
+pub thread_named : (rounds thread : ℕ) → thread < 1000 → HasNames (generated_thread rounds thread)
 thread_named rounds thread few = record { name = numbered_name 116 thread refl few; registers = (letter_name 120 refl, tt) }
 
 -- ---- programs
 
-x_differs : (n : ℕ) → codes "x" ≢ channel_name n
+x_differs : (n : ℕ) → codes "x" ≢ generated_channel_name n
 x_differs n e = let heads : 120 ≡ 99 = ap (λ (xs : List ℕ). get_or xs 0 0) e in omega (arith, heads)
 
-apart : (n m : ℕ) → AreApart (codes "x" ∷ []) (each channel_name n)
-apart n m = (all_each (λ y. codes "x" ≢ y) channel_name n (λ i lt. x_differs i), tt)
+apart : (n m : ℕ) → AreApart (codes "x" ∷ []) (each generated_channel_name n)
+apart n m = (all_each (λ y. codes "x" ≢ y) generated_channel_name n (λ i lt. x_differs i), tt)
 
 program_kept : (count rounds : ℕ) → 0 < count → count ≤ 63 → ((i : ℕ) → i < count → 3 * (i / 3) + 2 < count) → 0 < rounds → rounds ≤ 300
-    → IsProgram (record { channels = each channel_name count; threads = each (thread_of rounds) count })
+    → IsProgram (record { channels = each generated_channel_name count; threads = each (generated_thread rounds) count })
 program_kept count rounds some few rings some_rounds most = record {
-  channels = omega (arith, length_each channel_name count);
+  channels = omega (arith, length_each generated_channel_name count);
   channel_names = distinct_names 99 count (omega (arith, few));
-  some_thread = omega (arith, length_each (thread_of rounds) count);
-  threads = omega (arith, length_each (thread_of rounds) count);
-  names = subst AreDistinct (sym (map_each (λ (t : Thread). t.name) (thread_of rounds) count)) (distinct_names 116 count (omega (arith, few)));
-  each = all_each (IsThread (length (each channel_name count))) (thread_of rounds) count (λ i lt.
-      thread_kept (length (each channel_name count)) i rounds (omega (arith, rings i lt, length_each channel_name count)) some_rounds most);
-  apart = all_each (λ t. AreApart t.registers (each channel_name count)) (thread_of rounds) count (λ i lt. apart count i);
+  some_thread = omega (arith, length_each (generated_thread rounds) count);
+  threads = omega (arith, length_each (generated_thread rounds) count);
+  names = subst AreDistinct (sym (map_each (λ (t : Thread). t.name) (generated_thread rounds) count)) (distinct_names 116 count (omega (arith, few)));
+  each = all_each (IsThread (length (each generated_channel_name count))) (generated_thread rounds) count (λ i lt.
+      thread_kept (length (each generated_channel_name count)) i rounds (omega (arith, rings i lt, length_each generated_channel_name count)) some_rounds most);
+  apart = all_each (λ t. AreApart t.registers (each generated_channel_name count)) (generated_thread rounds) count (λ i lt. apart count i);
 }
 
 pub script_kept : (count rounds : ℕ) → 0 < count → count ≤ 63 → ((i : ℕ) → i < count → 3 * (i / 3) + 2 < count) → 0 < rounds → rounds ≤ 300
-    → IsScript (record { channels = each channel_name count; threads = each (thread_of rounds) count })
+    → IsScript (record { channels = each generated_channel_name count; threads = each (generated_thread rounds) count })
 script_kept count rounds some few rings some_rounds most = record {
   program = program_kept count rounds some few rings some_rounds most;
-  channels = all_each IsName channel_name count (λ i lt. numbered_name 99 i refl (omega (arith, lt, few)));
-  threads = all_each HasNames (thread_of rounds) count (λ i lt. thread_named rounds i (omega (arith, lt, few)));
+  channels = all_each IsName generated_channel_name count (λ i lt. numbered_name 99 i refl (omega (arith, lt, few)));
+  threads = all_each HasNames (generated_thread rounds) count (λ i lt. thread_named rounds i (omega (arith, lt, few)));
 }

@@ -9,7 +9,7 @@ use Rattle.te_terms.specs.Codes.{over, term_at, term_under}
 use Rattle.te_terms.specs.Shape.{IsForest}
 use Rattle.te_terms.specs.Terms.{Term, and_then}
 use Rattle.te_terms.proofs.TermLemmas.{term_at_new, term_at-append, slice_get_seam}
-use Rattle.te_script.specs.Nodes.{Grows, HasEvents}
+use Rattle.te_script.specs.Nodes.{CodeGrows, HasEvents}
 use Rattle.te_script.specs.Generated.{each}
 use Rattle.te_script.proofs.Appending.{AllByRecursion-append}
 
@@ -30,10 +30,10 @@ new_node before after node p level =
 pub old_node : (before after : List Node) (node : Node) → Put before after node → (level i : ℕ) → i < length before → term_at after level i ≡ term_at before level i
 old_node before after node p level i lt = rw p.appended (term_at-append before (node ∷ []) p.before_is.earlier level i lt)
 
-pub grows_one : (before after : List Node) (node : Node) → Put before after node → Grows before after
+pub grows_one : (before after : List Node) (node : Node) → Put before after node → CodeGrows before after
 grows_one before after node p = record { longer = omega (arith, longer before after node p); stays = old_node before after node p }
 
-pub grows_both : (a b c : List Node) → Grows a b → Grows b c → Grows a c
+pub grows_both : (a b c : List Node) → CodeGrows a b → CodeGrows b c → CodeGrows a c
 grows_both a b c f g = record { longer = omega (arith, f.longer, g.longer); stays = λ level i lt. g.stays level i (omega (arith, lt, f.longer)) ∙ f.stays level i lt }
 
 -- two nodes without parts, and a `then` over them
@@ -46,7 +46,7 @@ then_over c0 c1 c2 c3 a b p q r level =
 
 -- ---- events by their roots
 
-roots_stay : (before after : List Node) (roots : List ℕ) → Grows before after → AllByRecursion (λ i. i < length before) roots
+roots_stay : (before after : List Node) (roots : List ℕ) → CodeGrows before after → AllByRecursion (λ i. i < length before) roots
     → AllByRecursion (λ i. i < length after) roots × (map (term_under after) roots ≡ map (term_under before) roots)
 roots_stay before after [] g h = (tt, refl)
 roots_stay before after (r ∷ rs) g h =
@@ -54,7 +54,7 @@ roots_stay before after (r ∷ rs) g h =
     ((omega (arith, h.0, g.longer), rest.0), (λ i. g.stays 0 r h.0 i ∷ rest.1 i))
 
 -- one event more
-pub one_event_more : (before after : List Node) (roots : List ℕ) (root : ℕ) (events : List Term) (event : Term) → Grows before after
+pub one_event_more : (before after : List Node) (roots : List ℕ) (root : ℕ) (events : List Term) (event : Term) → CodeGrows before after
     → HasEvents before roots events → root < length after → term_under after root ≡ event
     → HasEvents after (roots ++ root ∷ []) (events ++ event ∷ [])
 one_event_more before after roots root events event g h lt is =
@@ -64,7 +64,7 @@ one_event_more before after roots root events event g h lt is =
       events_are = map-append (term_under after) roots (root ∷ []) ∙ (λ i. (stay.1 ∙ h.events_are) i ++ is i ∷ []);
     }
 
-pub same_grows : (code : List Node) → Grows code code
+pub same_grows : (code : List Node) → CodeGrows code code
 same_grows code = record { longer = omega arith; stays = λ level i lt. refl }
 
 -- ---- what a call that puts a `then` answers
@@ -78,7 +78,7 @@ then_put (Ok n) c0 c1 c2 c3 a b x y p q xs ys number appended before after =
     rw number (then_over c0 c1 c2 c3 a b p q put 0)
 then_put (Err e) c0 c1 c2 c3 a b x y p q xs ys number appended before after = tt
 
-pub then_grows : {E : Type 0} (r : Result ℕ E) (c0 c1 c2 c3 : List Node) (a b m : Node) → Put c0 c1 a → Put c1 c2 b → OnOk r (c3 ≡ c2 ++ m ∷ []) → IsForest c2 → IsForest c3 → OnOk r (Grows c0 c3)
+pub then_grows : {E : Type 0} (r : Result ℕ E) (c0 c1 c2 c3 : List Node) (a b m : Node) → Put c0 c1 a → Put c1 c2 b → OnOk r (c3 ≡ c2 ++ m ∷ []) → IsForest c2 → IsForest c3 → OnOk r (CodeGrows c0 c3)
 then_grows (Ok n) c0 c1 c2 c3 a b m p q appended before after =
     grows_both c0 c1 c3 (grows_one c0 c1 a p) (grows_both c1 c2 c3 (grows_one c1 c2 b q) (grows_one c2 c3 m (record { appended = appended; before_is = before; after_is = after })))
 then_grows (Err e) c0 c1 c2 c3 a b m p q appended before after = tt

@@ -5,7 +5,7 @@ use Rattle.std.specs.List.{AllByRecursion}
 use Rattle.te_terms.specs.Expressions.{Variable, register, name, known, Primitive, int, chan, part, Calculation, one, both, Expression, whole, tuple, in_primitive, in_calculation, in_expression}
 use Rattle.te_terms.specs.Terms.{Term, always, never, fresh, throw, send, recv, and_then, choose, catch, when, replaced}
 use Rattle.te_terms.proofs.BindingLaws.{replaced_twice}
-use Rattle.te_script.specs.Scripts.{Scope, one_more, IsVariable, IsPrimitive, IsCalculation, IsExpression, IsEvent}
+use Rattle.te_script.specs.Scripts.{Scope, one_deeper, IsVariable, IsPrimitive, IsCalculation, IsExpression, IsEvent}
 
 -- replacing twice is replacing once by both, as it is for the event that gives the expression
 pub expression_twice : (g f : Variable → Variable) (e : Expression) → in_expression g (in_expression f e) ≡ in_expression (λ x. g (f x)) e
@@ -47,7 +47,7 @@ event_kept f s fresh k h = refl
 event_kept f s (throw e) k h = λ i. throw (expression_kept f s e k h i)
 event_kept f s (send p e) k h = λ i. send (primitive_kept f s p k h.0 i) (expression_kept f s e k h.1 i)
 event_kept f s (recv p) k h = λ i. recv (primitive_kept f s p k h i)
-event_kept f s (and_then e n g) k h = λ i. and_then (event_kept f s e k h.1 i) n (event_kept f (one_more s) g k h.2 i)
+event_kept f s (and_then e n g) k h = λ i. and_then (event_kept f s e k h.1 i) n (event_kept f (one_deeper s) g k h.2 i)
 event_kept f s (choose e g) k h = λ i. choose (event_kept f s e k h.0 i) (event_kept f s g k h.1 i)
-event_kept f s (catch e n g) k h = λ i. catch (event_kept f s e k h.1 i) n (event_kept f (one_more s) g k h.2 i)
+event_kept f s (catch e n g) k h = λ i. catch (event_kept f s e k h.1 i) n (event_kept f (one_deeper s) g k h.2 i)
 event_kept f s (when test p q e g) k h = λ i. when test (primitive_kept f s p k h.0 i) (primitive_kept f s q k h.1 i) (event_kept f s e k h.2 i) (event_kept f s g k h.3 i)

@@ -6,7 +6,7 @@ use Rattle.te_script.specs.declared.wish.Spot.{Spot}
 use Rattle.te_script.specs.declared.wish.Round.{Round}
 use Rattle.te_script.specs.Scripts.{Statement, sync, emit, repeat, AreSyncs, IsRepeat}
 use Rattle.te_script.specs.Wishes.{Step, syncing, emitting, site_at, steps_of, pass_over, passes_over, flat_from}
-use Rattle.te_script.specs.Cores.{next_of, IsWaiting, IsSettled, behind, left_in, left_at, IsRound, FitsRound, IsAtSync, IsSpot, HasBodies, rest_of, GoesOn, IsPastEmits, pass_of}
+use Rattle.te_script.specs.Cores.{next_of, IsWaiting, IsPastEmitting, steps_behind, left_in, steps_left_at, IsInRepeat, FitsRound, IsAtSync, IsSyncSpot, HasBodies, steps_behind_first, SpotGoesOn, IsPastEmits, pass_of}
 
 -- what is behind a statement
 pub tail_of : (ss : List Statement) (i : ℕ) (s : Statement) (rest : List Statement) → drop i ss ≡ s ∷ rest → drop (suc i) ss ≡ rest
@@ -20,7 +20,7 @@ flat_skips number zero ss = let n : number + 0 ≡ number = omega arith in rw n 
 flat_skips number (suc k) [] = refl
 flat_skips number (suc k) (s ∷ ss) = let n : number + suc k ≡ suc number + k = omega arith in rw n (flat_skips (suc number) k ss)
 
-pub behind_sync : (place : ℕ) (ss rest : List Statement) (r : ℕ) (t : Term) → drop place ss ≡ sync r t ∷ rest → behind place ss ≡ syncing (site_at (suc place) 0) r t ∷ behind (suc place) ss
+pub behind_sync : (place : ℕ) (ss rest : List Statement) (r : ℕ) (t : Term) → drop place ss ≡ sync r t ∷ rest → steps_behind place ss ≡ syncing (site_at (suc place) 0) r t ∷ steps_behind (suc place) ss
 behind_sync place ss rest r t e =
     ap (flat_from (suc place) 0) e ∙ (λ i. syncing (site_at (suc place) 0) r t ∷ flat_from (suc (suc place)) 0 (sym (tail_of ss place (sync r t) rest e) i))
 
@@ -55,7 +55,7 @@ drop_both i zero ss = let n : 0 + i ≡ i = omega arith in rw n refl
 drop_both i (suc j) [] = drop-nil i ∙ sym (drop-nil (suc j + i))
 drop_both i (suc j) (s ∷ ss) = let n : suc j + i ≡ suc (j + i) = omega arith in rw n (drop_both i j ss)
 
-pub sync_in_round : (place : ℕ) (r : Round) (ss : List Statement) → IsRound place r ss → (reg : ℕ) × (t : Term) × (drop place ss ≡ sync reg t ∷ drop (suc place) ss)
+pub sync_in_round : (place : ℕ) (r : Round) (ss : List Statement) → IsInRepeat place r ss → (reg : ℕ) × (t : Term) × (drop place ss ≡ sync reg t ∷ drop (suc place) ss)
 sync_in_round place r ss h =
     let at = syncs_at (r.end - r.first) (place - r.first) (drop r.first ss) h.body (omega (arith, h.begun, h.inside)) in
     let here : r.first + (place - r.first) ≡ place = omega (arith, h.begun) in
@@ -66,7 +66,7 @@ sync_in_round place r ss h =
 abbrev pub left_behind : ℕ → Round → List Statement → List Step
 left_behind place r ss =
     pass_over (suc (suc place)) r.pass (take (r.end - suc place) (drop (suc place) ss))
-    ++ (passes_over (r.times - suc r.pass) (suc r.first) (suc r.pass) (take (r.end - r.first) (drop r.first ss)) ++ behind r.end ss)
+    ++ (passes_over (r.times - suc r.pass) (suc r.first) (suc r.pass) (take (r.end - r.first) (drop r.first ss)) ++ steps_behind r.end ss)
 
 in_round : (place reg : ℕ) (t : Term) (r : Round) (ss : List Statement) → place < r.end → drop place ss ≡ sync reg t ∷ drop (suc place) ss
     → left_in place (Some r) ss ≡ syncing (site_at (suc place) r.pass) reg t ∷ left_behind place r ss
@@ -76,12 +76,12 @@ in_round place reg t r ss lt e =
 
 -- the pass goes on
 goes_on : (place reg : ℕ) (t : Term) (r : Round) (ss : List Statement) → suc place < r.end → drop place ss ≡ sync reg t ∷ drop (suc place) ss
-    → left_in (suc place) (Some r) ss ≡ rest_of (left_in place (Some r) ss)
-goes_on place reg t r ss lt e = sym (ap rest_of (in_round place reg t r ss (omega (arith, lt)) e))
+    → left_in (suc place) (Some r) ss ≡ steps_behind_first (left_in place (Some r) ss)
+goes_on place reg t r ss lt e = sym (ap steps_behind_first (in_round place reg t r ss (omega (arith, lt)) e))
 
 -- the pass is done
 pass_done : (place : ℕ) (r : Round) (ss : List Statement) → r.end ≤ suc place
-    → left_behind place r ss ≡ passes_over (r.times - suc r.pass) (suc r.first) (suc r.pass) (take (r.end - r.first) (drop r.first ss)) ++ behind r.end ss
+    → left_behind place r ss ≡ passes_over (r.times - suc r.pass) (suc r.first) (suc r.pass) (take (r.end - r.first) (drop r.first ss)) ++ steps_behind r.end ss
 pass_done place r ss le =
     let none : r.end - suc place ≡ 0 = omega (arith, le) in
     rw none refl
@@ -90,35 +90,35 @@ abbrev pub next_pass : Round → Round
 next_pass r = record r { pass = suc r.pass }
 
 goes_again : (place reg : ℕ) (t : Term) (r : Round) (ss : List Statement) → place < r.end → r.end ≤ suc place → suc r.pass < r.times → drop place ss ≡ sync reg t ∷ drop (suc place) ss
-    → left_in r.first (Some (next_pass r)) ss ≡ rest_of (left_in place (Some r) ss)
+    → left_in r.first (Some (next_pass r)) ss ≡ steps_behind_first (left_in place (Some r) ss)
 goes_again place reg t r ss lt le more e =
     let body = take (r.end - r.first) (drop r.first ss) in
     let left : r.times - suc r.pass ≡ suc (r.times - suc (suc r.pass)) = omega (arith, more) in
-    let assoc = append_assoc (pass_over (suc r.first) (suc r.pass) body) (passes_over (r.times - suc (suc r.pass)) (suc r.first) (suc (suc r.pass)) body) (behind r.end ss) in
-    let again : passes_over (r.times - suc r.pass) (suc r.first) (suc r.pass) body ++ behind r.end ss ≡ left_in r.first (Some (next_pass r)) ss = rw left assoc in
-    sym (ap rest_of (in_round place reg t r ss lt e) ∙ pass_done place r ss le ∙ again)
+    let assoc = append_assoc (pass_over (suc r.first) (suc r.pass) body) (passes_over (r.times - suc (suc r.pass)) (suc r.first) (suc (suc r.pass)) body) (steps_behind r.end ss) in
+    let again : passes_over (r.times - suc r.pass) (suc r.first) (suc r.pass) body ++ steps_behind r.end ss ≡ left_in r.first (Some (next_pass r)) ss = rw left assoc in
+    sym (ap steps_behind_first (in_round place reg t r ss lt e) ∙ pass_done place r ss le ∙ again)
 
 goes_out : (place reg : ℕ) (t : Term) (r : Round) (ss : List Statement) → place < r.end → r.end ≤ suc place → r.times ≤ suc r.pass → drop place ss ≡ sync reg t ∷ drop (suc place) ss
-    → behind (suc place) ss ≡ rest_of (left_in place (Some r) ss)
+    → steps_behind (suc place) ss ≡ steps_behind_first (left_in place (Some r) ss)
 goes_out place reg t r ss lt le last e =
     let none : r.times - suc r.pass ≡ 0 = omega (arith, last) in
     let at_end : r.end ≡ suc place = omega (arith, lt, le) in
-    let out : passes_over (r.times - suc r.pass) (suc r.first) (suc r.pass) (take (r.end - r.first) (drop r.first ss)) ++ behind r.end ss ≡ behind (suc place) ss = rw (none, at_end) refl in
-    sym (ap rest_of (in_round place reg t r ss lt e) ∙ pass_done place r ss le ∙ out)
+    let out : passes_over (r.times - suc r.pass) (suc r.first) (suc r.pass) (take (r.end - r.first) (drop r.first ss)) ++ steps_behind r.end ss ≡ steps_behind (suc place) ss = rw (none, at_end) refl in
+    sym (ap steps_behind_first (in_round place reg t r ss lt e) ∙ pass_done place r ss le ∙ out)
 
 -- ---- where a spot goes on
 
-pub on_outside : (place : ℕ) (ss : List Statement) → IsAtSync (drop place ss) → behind (suc place) ss ≡ rest_of (behind place ss)
+pub on_outside : (place : ℕ) (ss : List Statement) → IsAtSync (drop place ss) → steps_behind (suc place) ss ≡ steps_behind_first (steps_behind place ss)
 on_outside place ss h = at (drop place ss) refl h
   where
-    at : (rest : List Statement) → drop place ss ≡ rest → IsAtSync rest → behind (suc place) ss ≡ rest_of (behind place ss)
-    at [] e h = ap (flat_from (suc (suc place)) 0) (drop_past place ss e) ∙ sym (ap (λ (xs : List Statement). rest_of (flat_from (suc place) 0 xs)) e)
-    at (sync r t ∷ rest) e h = sym (ap rest_of (behind_sync place ss rest r t e))
+    at : (rest : List Statement) → drop place ss ≡ rest → IsAtSync rest → steps_behind (suc place) ss ≡ steps_behind_first (steps_behind place ss)
+    at [] e h = ap (flat_from (suc (suc place)) 0) (drop_past place ss e) ∙ sym (ap (λ (xs : List Statement). steps_behind_first (flat_from (suc place) 0 xs)) e)
+    at (sync r t ∷ rest) e h = sym (ap steps_behind_first (behind_sync place ss rest r t e))
     at (emit x ∷ rest) e h = absurd h
     at (repeat times count ∷ rest) e h = absurd h
 
-pub on_same_pass : (place : ℕ) (r : Round) (ss : List Statement) → IsRound place r ss → suc place < r.end
-    → IsSpot (record { place = suc place; round = Some r }) ss × (left_in (suc place) (Some r) ss ≡ rest_of (left_in place (Some r) ss))
+pub on_same_pass : (place : ℕ) (r : Round) (ss : List Statement) → IsInRepeat place r ss → suc place < r.end
+    → IsSyncSpot (record { place = suc place; round = Some r }) ss × (left_in (suc place) (Some r) ss ≡ steps_behind_first (left_in place (Some r) ss))
 on_same_pass place r ss h lt =
     let at = sync_in_round place r ss h in (
       record {
@@ -128,8 +128,8 @@ on_same_pass place r ss h lt =
       goes_on place at.0 at.1 r ss lt at.2,
     )
 
-pub on_next_pass : (place : ℕ) (r : Round) (ss : List Statement) → IsRound place r ss → r.end ≤ suc place → suc r.pass < r.times
-    → IsSpot (record { place = r.first; round = Some (next_pass r) }) ss × (left_in r.first (Some (next_pass r)) ss ≡ rest_of (left_in place (Some r) ss))
+pub on_next_pass : (place : ℕ) (r : Round) (ss : List Statement) → IsInRepeat place r ss → r.end ≤ suc place → suc r.pass < r.times
+    → IsSyncSpot (record { place = r.first; round = Some (next_pass r) }) ss × (left_in r.first (Some (next_pass r)) ss ≡ steps_behind_first (left_in place (Some r) ss))
 on_next_pass place r ss h le more =
     let at = sync_in_round place r ss h in (
       record {
@@ -139,25 +139,25 @@ on_next_pass place r ss h le more =
       goes_again place at.0 at.1 r ss h.inside le more at.2,
     )
 
-pub on_behind : (place : ℕ) (r : Round) (ss : List Statement) → IsRound place r ss → r.end ≤ suc place → r.times ≤ suc r.pass → behind (suc place) ss ≡ rest_of (left_in place (Some r) ss)
+pub on_behind : (place : ℕ) (r : Round) (ss : List Statement) → IsInRepeat place r ss → r.end ≤ suc place → r.times ≤ suc r.pass → steps_behind (suc place) ss ≡ steps_behind_first (left_in place (Some r) ss)
 on_behind place r ss h le last = let at = sync_in_round place r ss h in goes_out place at.0 at.1 r ss h.inside le last at.2
 
 -- ---- what stands at a spot
 
 -- a spot at a sync
-pub left_sync : (spot : Spot) (ss rest : List Statement) (r : ℕ) (t : Term) → IsSpot spot ss → drop spot.place ss ≡ sync r t ∷ rest
-    → left_at spot ss ≡ syncing (site_at (suc spot.place) (pass_of spot.round)) r t ∷ rest_of (left_at spot ss)
+pub left_sync : (spot : Spot) (ss rest : List Statement) (r : ℕ) (t : Term) → IsSyncSpot spot ss → drop spot.place ss ≡ sync r t ∷ rest
+    → steps_left_at spot ss ≡ syncing (site_at (suc spot.place) (pass_of spot.round)) r t ∷ steps_behind_first (steps_left_at spot ss)
 left_sync spot ss rest r t h e = at spot.place spot.round h.round e
   where
-    at : (place : ℕ) (o : Option Round) → FitsRound place o ss → drop place ss ≡ sync r t ∷ rest → left_in place o ss ≡ syncing (site_at (suc place) (pass_of o)) r t ∷ rest_of (left_in place o ss)
-    at place None h e = let is = behind_sync place ss rest r t e in is ∙ ap (λ (xs : List Step). syncing (site_at (suc place) 0) r t ∷ xs) (sym (ap rest_of is))
+    at : (place : ℕ) (o : Option Round) → FitsRound place o ss → drop place ss ≡ sync r t ∷ rest → left_in place o ss ≡ syncing (site_at (suc place) (pass_of o)) r t ∷ steps_behind_first (left_in place o ss)
+    at place None h e = let is = behind_sync place ss rest r t e in is ∙ ap (λ (xs : List Step). syncing (site_at (suc place) 0) r t ∷ xs) (sym (ap steps_behind_first is))
     at place (Some q) h e =
         let tail = tail_of ss place (sync r t) rest e in
         let is = in_round place r t q ss h.inside (e ∙ ap (λ (xs : List Statement). sync r t ∷ xs) (sym tail)) in
-        is ∙ ap (λ (xs : List Step). syncing (site_at (suc place) q.pass) r t ∷ xs) (sym (ap rest_of is))
+        is ∙ ap (λ (xs : List Step). syncing (site_at (suc place) q.pass) r t ∷ xs) (sym (ap steps_behind_first is))
 
 -- a spot where something waits is at a sync
-pub waits_at : (spot : Spot) (ss : List Statement) → IsSpot spot ss → IsWaiting (next_of (left_at spot ss)) → (r : ℕ) × (t : Term) × (drop spot.place ss ≡ sync r t ∷ drop (suc spot.place) ss)
+pub waits_at : (spot : Spot) (ss : List Statement) → IsSyncSpot spot ss → IsWaiting (next_of (steps_left_at spot ss)) → (r : ℕ) × (t : Term) × (drop spot.place ss ≡ sync r t ∷ drop (suc spot.place) ss)
 waits_at spot ss h w = at spot.place spot.round h.round w
   where
     outside : (place : ℕ) (rest : List Statement) → drop place ss ≡ rest → IsAtSync rest → IsWaiting (next_of (flat_from (suc place) 0 rest))
@@ -171,11 +171,11 @@ waits_at spot ss h w = at spot.place spot.round h.round w
     at place None h w = outside place (drop place ss) refl h w
     at place (Some q) h w = sync_in_round place q ss h
 
-pub waits_within : (spot : Spot) (ss : List Statement) → IsSpot spot ss → IsWaiting (next_of (left_at spot ss)) → spot.place < length ss
+pub waits_within : (spot : Spot) (ss : List Statement) → IsSyncSpot spot ss → IsWaiting (next_of (steps_left_at spot ss)) → spot.place < length ss
 waits_within spot ss h w = let at = waits_at spot ss h w in first_within spot.place ss _ _ at.2
 
 -- a spot is at no emit and at no repeat
-pub at_sync : (spot : Spot) (ss : List Statement) → IsSpot spot ss → IsAtSync (drop spot.place ss)
+pub at_sync : (spot : Spot) (ss : List Statement) → IsSyncSpot spot ss → IsAtSync (drop spot.place ss)
 at_sync spot ss h = at spot.place spot.round h.round
   where
     at : (place : ℕ) (o : Option Round) → FitsRound place o ss → IsAtSync (drop place ss)
@@ -183,29 +183,29 @@ at_sync spot ss h = at spot.place spot.round h.round
     at place (Some q) h = subst IsAtSync (sym (sync_in_round place q ss h).2) tt
 
 -- past the end nothing is left
-pub none_left : (spot : Spot) (ss : List Statement) → IsSpot spot ss → drop spot.place ss ≡ [] → left_at spot ss ≡ []
+pub none_left : (spot : Spot) (ss : List Statement) → IsSyncSpot spot ss → drop spot.place ss ≡ [] → steps_left_at spot ss ≡ []
 none_left spot ss h e = at spot.place spot.round h.round e
   where
     at : (place : ℕ) (o : Option Round) → FitsRound place o ss → drop place ss ≡ [] → left_in place o ss ≡ []
     at place None h e = ap (flat_from (suc place) 0) e
     at place (Some q) h e = absurd (let both : [] ≡ sync _ _ ∷ _ = sym e ∙ (sync_in_round place q ss h).2 in cc)
 
-pub spot_settled : (spot : Spot) (ss : List Statement) → IsSpot spot ss → IsSettled (left_at spot ss)
+pub spot_settled : (spot : Spot) (ss : List Statement) → IsSyncSpot spot ss → IsPastEmitting (steps_left_at spot ss)
 spot_settled spot ss h = at (drop spot.place ss) refl (at_sync spot ss h)
   where
-    ended : (place : ℕ) (o : Option Round) → FitsRound place o ss → drop place ss ≡ [] → IsSettled (left_in place o ss)
-    ended place None h e = subst (λ (xs : List Statement). IsSettled (flat_from (suc place) 0 xs)) (sym e) tt
+    ended : (place : ℕ) (o : Option Round) → FitsRound place o ss → drop place ss ≡ [] → IsPastEmitting (left_in place o ss)
+    ended place None h e = subst (λ (xs : List Statement). IsPastEmitting (flat_from (suc place) 0 xs)) (sym e) tt
     ended place (Some q) h e = absurd (let both : [] ≡ sync _ _ ∷ _ = sym e ∙ (sync_in_round place q ss h).2 in cc)
 
-    at : (rest : List Statement) → drop spot.place ss ≡ rest → IsAtSync rest → IsSettled (left_at spot ss)
+    at : (rest : List Statement) → drop spot.place ss ≡ rest → IsAtSync rest → IsPastEmitting (steps_left_at spot ss)
     at [] e a = ended spot.place spot.round h.round e
-    at (sync r t ∷ rest) e a = subst IsSettled (sym (left_sync spot ss rest r t h e)) tt
+    at (sync r t ∷ rest) e a = subst IsPastEmitting (sym (left_sync spot ss rest r t h e)) tt
     at (emit x ∷ rest) e a = absurd a
     at (repeat times count ∷ rest) e a = absurd a
 
 -- ---- a place outside of every repeat
 
-pub outside_spot : (place : ℕ) (ss : List Statement) → place ≤ length ss → IsAtSync (drop place ss) → IsSpot (record { place = place; round = None }) ss
+pub outside_spot : (place : ℕ) (ss : List Statement) → place ≤ length ss → IsAtSync (drop place ss) → IsSyncSpot (record { place = place; round = None }) ss
 outside_spot place ss le h = record { within = le; round = h }
 
 -- the first statement of a repeat, in the first pass
@@ -213,7 +213,7 @@ abbrev pub first_round : ℕ → ℕ → ℕ → Round
 first_round place times count = record { first = suc place; end = suc place + count; pass = 0; times = times }
 
 pub entered : (place times count : ℕ) (ss rest : List Statement) → drop place ss ≡ repeat times count ∷ rest → IsRepeat times count rest → suc place + count ≤ length ss
-    → IsSpot (record { place = suc place; round = Some (first_round place times count) }) ss × (left_in (suc place) (Some (first_round place times count)) ss ≡ behind place ss)
+    → IsSyncSpot (record { place = suc place; round = Some (first_round place times count) }) ss × (left_in (suc place) (Some (first_round place times count)) ss ≡ steps_behind place ss)
 entered place times count ss rest e h le =
     let tail = tail_of ss place (repeat times count) rest e in
     let all : suc place + count - suc place ≡ count = omega arith in
@@ -222,13 +222,13 @@ entered place times count ss rest e h le =
     let assoc = append_assoc (pass_over (suc (suc place)) 0 body) (passes_over (times - 1) (suc (suc place)) 1 body) (flat_from (suc (suc place)) count rest) in
     let number : suc (suc place) + count ≡ suc (suc place + count) = omega arith in
     let behind_body : drop count rest ≡ drop (suc place + count) ss = ap (drop count) (sym tail) ∙ drop_both count (suc place) ss in
-    let skips : flat_from (suc (suc place)) count rest ≡ behind (suc place + count) ss =
+    let skips : flat_from (suc (suc place)) count rest ≡ steps_behind (suc place + count) ss =
     flat_skips (suc (suc place)) count rest ∙ (λ i. flat_from (number i) 0 (behind_body i)) in
-    let whole : behind place ss ≡ passes_over times (suc (suc place)) 0 body ++ flat_from (suc (suc place)) count rest = ap (flat_from (suc place) 0) e in
+    let whole : steps_behind place ss ≡ passes_over times (suc (suc place)) 0 body ++ flat_from (suc (suc place)) count rest = ap (flat_from (suc place) 0) e in
     let first : passes_over times (suc (suc place)) 0 body ≡ pass_over (suc (suc place)) 0 body ++ passes_over (times - 1) (suc (suc place)) 1 body =
     ap (λ n. passes_over n (suc (suc place)) 0 body) least in
     let left : left_in (suc place) (Some (first_round place times count)) ss ≡ pass_over (suc (suc place)) 0 body ++ (passes_over (times - 1)
-    (suc (suc place)) 1 body ++ behind (suc place + count) ss) = rw (all, tail) refl in (
+    (suc (suc place)) 1 body ++ steps_behind (suc place + count) ss) = rw (all, tail) refl in (
       record {
         within = omega (arith, le);
         round = record {

@@ -9,7 +9,7 @@ use Rattle.te_script.specs.declared.script.Stmt.{Stmt}
 use Rattle.te_script.specs.declared.wish.Spot.{Spot}
 use Rattle.te_script.specs.Wishes.{Step, syncing, emitting, flat}
 use Rattle.te_script.specs.Texts.{statement_of}
-use Rattle.te_script.specs.Cores.{stand_at, without, under, next_at, behind, left_at, Settles}
+use Rattle.te_script.specs.Cores.{stand_at, without_register, under, next_at, steps_behind, steps_left_at, Settles}
 use Rattle.te_script.proofs.Replacing.{Keeps, expression_kept, event_kept}
 use Rattle.te_script.proofs.Rebinding.{without_at}
 use Rattle.te_script.proofs.StepsInScope.{AreSteps, thread_steps}
@@ -18,10 +18,10 @@ below : (b : Bool) (q r k : ℕ) → ltb r k ≡ b → r ≤ k → q < cond b k 
 below true q r k e le lt ne = lt
 below false q r k e le lt ne = omega (arith, ne)
 
-Keeps-without : (f : Variable → Variable) (r k : ℕ) → r ≤ k → Keeps f k → Keeps (without r f) (with_register k r)
+Keeps-without : (f : Variable → Variable) (r k : ℕ) → r ≤ k → Keeps f k → Keeps (without_register r f) (with_register k r)
 Keeps-without f r k le kept = record { registers = λ q lt. at q lt (eqb q r) refl; names = kept.names }
   where
-    at : (q : ℕ) → q < with_register k r → (b : Bool) → eqb q r ≡ b → without r f (register q) ≡ register q
+    at : (q : ℕ) → q < with_register k r → (b : Bool) → eqb q r ≡ b → without_register r f (register q) ≡ register q
     at q lt true e = without_at r q f true e
     at q lt false e = without_at r q f false e ∙ kept.registers q (below (ltb r k) q r k refl le lt (eqb-false q r e))
 
@@ -31,15 +31,15 @@ under_kept channels k (emitting at e ∷ ss) f kept h =
     λ i. emitting at (expression_kept f (record { written = k; level = 0; channels = channels }) e kept h.0 i) ∷ under_kept channels k ss f kept h.1 i
 under_kept channels k (syncing at r t ∷ ss) f kept h =
     λ i. syncing at r (event_kept f (record { written = k; level = 0; channels = channels }) t kept h.1 i) ∷ under_kept channels (with_register k r)
-    ss (without r f) (Keeps-without f r k h.0 kept) h.2 i
+    ss (without_register r f) (Keeps-without f r k h.0 kept) h.2 i
 
 nothing_written : (channels : ℕ) (t : Thread) (regs : List (List Atom)) → IsThread channels t → under (registers_to regs) (flat t) ≡ flat t
 nothing_written channels t regs h = under_kept channels 0 (flat t) (registers_to regs) (record { registers = λ r lt. absurd (omega arith); names = λ n. refl }) (thread_steps channels t h)
 
 -- where a thread stands at its start
 pub first_stand : (t : Thread) (stmts : List Stmt) (spot : Spot) {regs now : List (List Atom)} {raised : Option (List Atom)} → map statement_of stmts ≡ t.statements → IsThread 256 t
-    → Settles regs (behind 0 (map statement_of stmts)) [] raised (left_at spot (map statement_of stmts)) now
-    → record { emitted = now; next = next_at raised regs (left_at spot t.statements) } ≡ stand_at (flat t) []
+    → Settles regs (steps_behind 0 (map statement_of stmts)) [] raised (steps_left_at spot (map statement_of stmts)) now
+    → record { emitted = now; next = next_at raised regs (steps_left_at spot t.statements) } ≡ stand_at (flat t) []
 first_stand t stmts spot {regs = regs} {now = now} {raised = raised} is h settles =
-    let stands = subst (λ (ss : List Statement). stand_at (under (registers_to regs) (behind 0 ss)) [] ≡ record { emitted = now; next = next_at raised regs (left_at spot ss) }) is settles.stands in
+    let stands = subst (λ (ss : List Statement). stand_at (under (registers_to regs) (steps_behind 0 ss)) [] ≡ record { emitted = now; next = next_at raised regs (steps_left_at spot ss) }) is settles.stands in
     sym stands ∙ ap (λ (ss : List Step). stand_at ss []) (nothing_written 256 t regs h)

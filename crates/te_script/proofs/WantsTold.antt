@@ -13,7 +13,7 @@ use Rattle.te_script.specs.declared.wish.Want.TheVariants as wants
 use Rattle.te_script.specs.declared.wish.Spot.{Spot}
 use Rattle.te_script.specs.Scripts.{Statement, sync, Thread}
 use Rattle.te_script.specs.Wishes.{Step, syncing, Wish, wish_of, syncs, done, wish, site_at, site_of}
-use Rattle.te_script.specs.Cores.{At, core_after, wish_at, next_at, doing_of, IsWaiting, IsAtSync, IsSpot, left_at, pass_of}
+use Rattle.te_script.specs.Cores.{At, core_after, wish_at, next_at, doing_of, IsWaiting, IsAtSync, IsSyncSpot, steps_left_at, pass_of}
 use Rattle.te_script.specs.Texts.{statement_of}
 use Rattle.te_script.specs.Wants.{IsWant, IsOfText, IsOfStatement}
 use Rattle.te_script.proofs.EmitsDone.{statements_from, nothing_from}
@@ -27,28 +27,28 @@ pub stands_at : (ss : List Statement) (stmts : List Stmt) (i : ℕ) (s : Stmt) �
 stands_at ss stmts i s is lt here = ap (drop i) (sym is) ∙ statements_from stmts i s lt here
 
 -- a spot is at no emit and at no repeat
-pub no_emit : (spot : Spot) (ss rest : List Statement) (s : Stmt) (e : Expr) → IsSpot spot ss → drop spot.place ss ≡ statement_of s ∷ rest → s ≡ kinds.Emit e → ⊥
+pub no_emit : (spot : Spot) (ss rest : List Statement) (s : Stmt) (e : Expr) → IsSyncSpot spot ss → drop spot.place ss ≡ statement_of s ∷ rest → s ≡ kinds.Emit e → ⊥
 no_emit spot ss rest s e h is emits = subst (λ k. IsAtSync (statement_of k ∷ rest)) emits (subst IsAtSync is (at_sync spot ss h))
 
-pub no_repeat : (spot : Spot) (ss rest : List Statement) (s : Stmt) (times count : ℕ) → IsSpot spot ss → drop spot.place ss ≡ statement_of s ∷ rest → s ≡ kinds.Repeat times count → ⊥
+pub no_repeat : (spot : Spot) (ss rest : List Statement) (s : Stmt) (times count : ℕ) → IsSyncSpot spot ss → drop spot.place ss ≡ statement_of s ∷ rest → s ≡ kinds.Repeat times count → ⊥
 no_repeat spot ss rest s times count h is repeats = subst (λ k. IsAtSync (statement_of k ∷ rest)) repeats (subst IsAtSync is (at_sync spot ss h))
 
 pub sync_wish : (regs emitted : List (List Atom)) (raised : Option (List Atom)) (spot : Spot) (ss rest : List Statement) (r : ℕ) (t : Term)
-    → raised ≡ None → IsSpot spot ss → drop spot.place ss ≡ sync r t ∷ rest
-    → wish_of emitted (doing_of (next_at raised regs (left_at spot ss))) ≡ syncs (closed regs t)
+    → raised ≡ None → IsSyncSpot spot ss → drop spot.place ss ≡ sync r t ∷ rest
+    → wish_of emitted (doing_of (next_at raised regs (steps_left_at spot ss))) ≡ syncs (closed regs t)
 sync_wish regs emitted raised spot ss rest r t none h is = rw (none, left_sync spot ss rest r t h is) refl
 
 pub done_wish : (regs emitted : List (List Atom)) (raised : Option (List Atom)) (spot : Spot) (ss : List Statement) (stmts : List Stmt)
-    → raised ≡ None → IsSpot spot ss → map statement_of stmts ≡ ss → length stmts ≤ spot.place
-    → wish_of emitted (doing_of (next_at raised regs (left_at spot ss))) ≡ done emitted
+    → raised ≡ None → IsSyncSpot spot ss → map statement_of stmts ≡ ss → length stmts ≤ spot.place
+    → wish_of emitted (doing_of (next_at raised regs (steps_left_at spot ss))) ≡ done emitted
 done_wish regs emitted raised spot ss stmts none h is le = rw (none, none_left spot ss h (ap (drop spot.place) (sym is) ∙ nothing_from stmts spot.place le)) refl
 
 -- the site of a wish to synchronise
-pub waiting_site : (raised : Option (List Atom)) (regs : List (List Atom)) (spot : Spot) (ss : List Statement) → IsSpot spot ss → IsWaiting (next_at raised regs (left_at spot ss))
-    → site_of (doing_of (next_at raised regs (left_at spot ss))) ≡ Some (site_at (suc spot.place) (pass_of spot.round))
+pub waiting_site : (raised : Option (List Atom)) (regs : List (List Atom)) (spot : Spot) (ss : List Statement) → IsSyncSpot spot ss → IsWaiting (next_at raised regs (steps_left_at spot ss))
+    → site_of (doing_of (next_at raised regs (steps_left_at spot ss))) ≡ Some (site_at (suc spot.place) (pass_of spot.round))
 waiting_site (Some v) regs spot ss h w = absurd w
 waiting_site None regs spot ss h w =
-    let here = waits_at spot ss h (waits_itself None regs (left_at spot ss) w) in
+    let here = waits_at spot ss h (waits_itself None regs (steps_left_at spot ss) w) in
     rw (left_sync spot ss _ here.0 here.1 h here.2) refl
 
 first_left : (ss rest : List Statement) (i : ℕ) (s : Statement) → drop i ss ≡ s ∷ rest → slice_get ss i ≡ Some s

@@ -10,7 +10,7 @@ use Rattle.te_terms.specs.Terms.{Term, always, never, fresh, throw, send, recv, 
 use Rattle.te_script.specs.Scripts.{Thread}
 use Rattle.te_script.specs.declared.wish.Site.{Site}
 use Rattle.te_script.specs.Wishes.{Step, syncing, emitting, flat, holding, Doing, synchronises, ends, has_raised, Reached, emits_or, reached_by, reached, wish_of, wish, site_of, site}
-use Rattle.te_script.specs.Cores.{register_to, written, Next, waits, ended, failed, Stand, emits, stand_at, moved, goes_by, stand_after, doing_of, wish_at, without, under, At, core_after}
+use Rattle.te_script.specs.Cores.{register_to, written, Next, waits, ended, failed, Stand, emits, stand_at, moved, goes_by, stand_after, doing_of, wish_at, without_register, under, At, core_after}
 use Rattle.te_script.proofs.Rebinding.{IsPartial, IsWith, IsPartial-without, without_at, rebound, other_stays}
 
 -- what is told of a stand
@@ -27,12 +27,12 @@ stays_failed emitted v [] = refl
 stays_failed emitted v (o ∷ outs) = stays_failed emitted v outs
 
 -- a register that is written holds its value
-holds_so : (r : ℕ) (v : List Atom) (by : Variable → Variable) → IsPartial by → IsWith r v (without r by) (holding r v by)
+holds_so : (r : ℕ) (v : List Atom) (by : Variable → Variable) → IsPartial by → IsWith r v (without_register r by) (holding r v by)
 holds_so r v by p (name n) = ap (register_to r v) (p.names n) ∙ sym (p.names n)
 holds_so r v by p (known u) = ap (register_to r v) (p.values u) ∙ sym (p.values u)
 holds_so r v by p (register q) = at (eqb q r) refl
   where
-    at : (b : Bool) → eqb q r ≡ b → register_to r v (without r by (register q)) ≡ cond (eqb q r) (known v) (by (register q))
+    at : (b : Bool) → eqb q r ≡ b → register_to r v (without_register r by (register q)) ≡ cond (eqb q r) (known v) (by (register q))
     at true e = ap (register_to r v) (without_at r q by true e) ∙ (rw e refl)
     at false e = ap (register_to r v) (without_at r q by false e) ∙ other_stays r v q (by (register q)) e (p.registers q) ∙ (rw e refl)
 
@@ -54,7 +54,7 @@ comes_to by (emitting at e ∷ ss) emitted outs p = on (value_of (in_expression 
     on (Err t) go = stays_failed emitted (trap_value t) outs
 comes_to by (syncing at r t ∷ ss) emitted [] p = refl
 comes_to by (syncing at r t ∷ ss) emitted (Gives v ∷ outs) p =
-    let set = rebound r v ss (without r by) (holding r v by) (IsPartial-without r by p) (holds_so r v by p) in
+    let set = rebound r v ss (without_register r by) (holding r v by) (IsPartial-without r by p) (holds_so r v by p) in
     ap (λ (xs : List Step). told (goes_by (stand_at xs emitted) outs)) set ∙ comes_to (holding r v by) ss emitted outs (IsPartial-holding r v by p)
 comes_to by (syncing at r t ∷ ss) emitted (Raises v ∷ outs) p = stays_failed emitted v outs
 
@@ -89,14 +89,14 @@ kept_event (choose e f) = λ i. choose (kept_event e i) (kept_event f i)
 kept_event (catch e n h) = λ i. catch (kept_event e i) n (kept_event h i)
 kept_event (when test p q e f) = λ i. when test (kept_primitive p i) (kept_primitive q i) (kept_event e i) (kept_event f i)
 
-without_none : (r : ℕ) → without r (λ x. x) ≡ (λ x. x)
+without_none : (r : ℕ) → without_register r (λ x. x) ≡ (λ x. x)
 without_none r = λ i x. at x i
   where
     chosen : (q : ℕ) (b : Bool) → cond b (register q) (register q) ≡ register q
     chosen q true = refl
     chosen q false = refl
 
-    at : (x : Variable) → without r (λ y. y) x ≡ x
+    at : (x : Variable) → without_register r (λ y. y) x ≡ x
     at (register q) = chosen q (eqb q r)
     at (name n) = refl
     at (known v) = refl

@@ -90,16 +90,16 @@ IsWaiting (failed v) = ⊥
 -- ---- the rest of a thread, under the present registers
 
 -- register r is written again, so its name stays
-abbrev pub without : ℕ → (Variable → Variable) → Variable → Variable
-without r by (register s) = if s == r then register s else by (register s)
-without r by (name n) = by (name n)
-without r by (known v) = by (known v)
+abbrev pub without_register : ℕ → (Variable → Variable) → Variable → Variable
+without_register r by (register s) = if s == r then register s else by (register s)
+without_register r by (name n) = by (name n)
+without_register r by (known v) = by (known v)
 
 -- the steps in which each register has its value, until it is written again
 abbrev pub under : (Variable → Variable) → List Step → List Step
 under by [] = []
 under by (emitting at e ∷ rest) = emitting at (in_expression by e) ∷ under by rest
-under by (syncing at r t ∷ rest) = syncing at r (replaced by t) ∷ under (without r by) rest
+under by (syncing at r t ∷ rest) = syncing at r (replaced by t) ∷ under (without_register r by) rest
 
 -- the first step left is a sync, or none is left
 abbrev pub next_of : List Step → Next
@@ -112,10 +112,10 @@ next_at (Some v) regs rest = failed v
 next_at None regs rest = next_of (under (registers_to regs) rest)
 
 -- the first step left is no emit
-abbrev pub IsSettled : List Step → Type 0
-IsSettled [] = Unit {0}
-IsSettled (syncing at r t ∷ rest) = Unit {0}
-IsSettled (emitting at e ∷ rest) = ⊥
+abbrev pub IsPastEmitting : List Step → Type 0
+IsPastEmitting [] = Unit {0}
+IsPastEmitting (syncing at r t ∷ rest) = Unit {0}
+IsPastEmitting (emitting at e ∷ rest) = ⊥
 
 -- the first step left is a sync at this site that writes this register
 abbrev pub WritesTo : List Step → ℕ → Type 0
@@ -139,22 +139,22 @@ emits_in (repeat times count ∷ rest) = emits_in rest
 -- ---- spots in a text
 
 -- the steps from a place on, outside of every repeat
-abbrev pub behind : ℕ → List Statement → List Step
-behind place ss = flat_from (suc place) 0 (drop place ss)
+abbrev pub steps_behind : ℕ → List Statement → List Step
+steps_behind place ss = flat_from (suc place) 0 (drop place ss)
 
 -- the rest of a pass over a body, the passes still to come, and what stands behind the repeat
 abbrev pub left_in : ℕ → Option Round → List Statement → List Step
-left_in place None ss = behind place ss
+left_in place None ss = steps_behind place ss
 left_in place (Some r) ss =
     pass_over (suc place) r.pass (take (r.end - place) (drop place ss))
-    ++ (passes_over (r.times - suc r.pass) (suc r.first) (suc r.pass) (take (r.end - r.first) (drop r.first ss)) ++ behind r.end ss)
+    ++ (passes_over (r.times - suc r.pass) (suc r.first) (suc r.pass) (take (r.end - r.first) (drop r.first ss)) ++ steps_behind r.end ss)
 
 -- the steps that are left from a spot on
-abbrev pub left_at : Spot → List Statement → List Step
-left_at spot ss = left_in spot.place spot.round ss
+abbrev pub steps_left_at : Spot → List Statement → List Step
+steps_left_at spot ss = left_in spot.place spot.round ss
 
 -- a place in the body of a repeat
-pub record IsRound (place : ℕ) (r : Round) (ss : List Statement) : Type 0 where
+pub record IsInRepeat (place : ℕ) (r : Round) (ss : List Statement) : Type 0 where
   pub begun : r.first ≤ place
   pub inside : place < r.end
   pub within : r.end ≤ length ss
@@ -171,7 +171,7 @@ IsAtSync (repeat times count ∷ ss) = ⊥
 
 abbrev pub FitsRound : ℕ → Option Round → List Statement → Type 0
 FitsRound place None ss = IsAtSync (drop place ss)
-FitsRound place (Some r) ss = IsRound place r ss
+FitsRound place (Some r) ss = IsInRepeat place r ss
 
 -- each repeat has its body
 abbrev pub HasBodies : List Statement → Type 0
@@ -181,23 +181,23 @@ HasBodies (emit e ∷ ss) = HasBodies ss
 HasBodies (repeat times count ∷ ss) = IsRepeat times count ss × HasBodies ss
 
 -- a spot at a sync or past the end
-pub record IsSpot (spot : Spot) (ss : List Statement) : Type 0 where
+pub record IsSyncSpot (spot : Spot) (ss : List Statement) : Type 0 where
   pub within : spot.place ≤ length ss
   pub round : FitsRound spot.place spot.round ss
 
 -- the steps behind the first one
-abbrev pub rest_of : List Step → List Step
-rest_of [] = []
-rest_of (s ∷ ss) = ss
+abbrev pub steps_behind_first : List Step → List Step
+steps_behind_first [] = []
+steps_behind_first (s ∷ ss) = ss
 
 -- the spot behind the sync at a spot is in the same repeat, or is the place behind it
-abbrev pub GoesOn : Spot → Option Spot → List Statement → Type 0
-GoesOn spot (Some next) ss = IsSpot next ss × (left_at next ss ≡ rest_of (left_at spot ss))
-GoesOn spot None ss = behind (suc spot.place) ss ≡ rest_of (left_at spot ss)
+abbrev pub SpotGoesOn : Spot → Option Spot → List Statement → Type 0
+SpotGoesOn spot (Some next) ss = IsSyncSpot next ss × (steps_left_at next ss ≡ steps_behind_first (steps_left_at spot ss))
+SpotGoesOn spot None ss = steps_behind (suc spot.place) ss ≡ steps_behind_first (steps_left_at spot ss)
 
 -- the spot is one of some text
 abbrev pub IsSomewhere : Spot → Type 0
-IsSomewhere spot = (ss : List Statement) × IsSpot spot ss
+IsSomewhere spot = (ss : List Statement) × IsSyncSpot spot ss
 
 -- the first statement is no emit
 abbrev pub IsPastEmits : List Statement → Type 0
@@ -213,8 +213,8 @@ pass_of (Some r) = r.pass
 -- a core stands at a sync or past the end, and has room for all that is still emitted
 pub record IsCore (t : Thread) (spot : Spot) (len room : ℕ) : Type 0 where
   pub short : length t.statements ≤ most_statements
-  pub at : IsSpot spot t.statements
-  pub fits : len + emits_left (left_at spot t.statements) ≤ room
+  pub at : IsSyncSpot spot t.statements
+  pub fits : len + emits_left (steps_left_at spot t.statements) ≤ room
 
 -- where a thread stands once the emits before its next sync are done
 pub record Settles (regs : List (List Atom)) (before : List Step) (emitted : List (List Atom))

@@ -18,37 +18,37 @@ abbrev pub rounds_of : ℕ → ℕ
 rounds_of number = 1 + number % 300
 
 -- a letter and a number in decimal
-abbrev pub channel_name : ℕ → List ℕ
-channel_name n = codes "c" ++ decimal n
+abbrev pub generated_channel_name : ℕ → List ℕ
+generated_channel_name n = codes "c" ++ decimal n
 
-abbrev pub thread_name : ℕ → List ℕ
-thread_name n = codes "t" ++ decimal n
+abbrev pub generated_thread_name : ℕ → List ℕ
+generated_thread_name n = codes "t" ++ decimal n
 
 -- do { _0 <- send p (round); recv r }
 abbrev pub starting : ℕ → ℕ → ℕ → Term
 starting p r round = and_then (send (chan p) (tuple (one (int (pos round)) ∷ []))) 0 (recv (chan r))
 
 -- do { _0 <- recv p; _1 <- send q (_0.0 + 1); always _0 }
-abbrev pub passing : ℕ → ℕ → Term
-passing p q = and_then (recv (chan p)) 0 (and_then (send (chan q) (tuple (both Add (part (name 0) 0) (int (pos 1)) ∷ []))) 1 (always (whole (name 0))))
+abbrev pub passing_event : ℕ → ℕ → Term
+passing_event p q = and_then (recv (chan p)) 0 (and_then (send (chan q) (tuple (both Add (part (name 0) 0) (int (pos 1)) ∷ []))) 1 (always (whole (name 0))))
 
 -- the first thread of a ring with these three channels starts a number round, and the others pass it on
 abbrev pub part_event : ℕ → ℕ → ℕ → Term
 part_event zero first round = starting first (first + 2) round
-part_event (suc zero) first round = passing first (first + 1)
-part_event (suc (suc more)) first round = passing (first + 1) (first + 2)
+part_event (suc zero) first round = passing_event first (first + 1)
+part_event (suc (suc more)) first round = passing_event (first + 1) (first + 2)
 
 -- the event of a thread in a round
 abbrev pub event_of : ℕ → ℕ → Term
 event_of thread round = part_event (thread % 3) (3 * (thread / 3)) round
 
 -- a sync a round, and then an emit
-abbrev pub thread_of : ℕ → ℕ → Thread
-thread_of rounds thread = record {
-  name = thread_name thread;
+abbrev pub generated_thread : ℕ → ℕ → Thread
+generated_thread rounds thread = record {
+  name = generated_thread_name thread;
   registers = codes "x" ∷ [];
   statements = each (λ round. sync 0 (event_of thread round)) rounds ++ emit (whole (register 0)) ∷ [];
 }
 
 abbrev pub generated : ℕ → Program
-generated number = record { channels = each channel_name (3 * rings_of number); threads = each (thread_of (rounds_of number)) (3 * rings_of number) }
+generated number = record { channels = each generated_channel_name (3 * rings_of number); threads = each (generated_thread (rounds_of number)) (3 * rings_of number) }

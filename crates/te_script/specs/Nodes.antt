@@ -6,7 +6,7 @@ use Rattle.te_terms.specs.Codes.{term_at, term_under}
 use Rattle.te_terms.specs.Terms.{Term}
 
 -- what stands under the nodes that were there stays
-pub record Grows (before after : List Node) : Type 0 where
+pub record CodeGrows (before after : List Node) : Type 0 where
   pub longer : length before ≤ length after
   pub stays : (level i : ℕ) → i < length before → term_at after level i ≡ term_at before level i
 

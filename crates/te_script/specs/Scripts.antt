@@ -34,8 +34,8 @@ pub record Scope : Type 0 where
   pub level : ℕ
   pub channels : ℕ
 
-abbrev pub one_more : Scope → Scope
-one_more s = record s { level = suc s.level }
+abbrev pub one_deeper : Scope → Scope
+one_deeper s = record s { level = suc s.level }
 
 abbrev pub IsVariable : Scope → Variable → Type 0
 IsVariable s (register r) = r < s.written
@@ -62,9 +62,9 @@ IsEvent s fresh = Unit {0}
 IsEvent s (throw e) = IsExpression s e
 IsEvent s (send p e) = IsPrimitive s p × IsExpression s e
 IsEvent s (recv p) = IsPrimitive s p
-IsEvent s (and_then e n f) = (n ≡ s.level) × IsEvent s e × IsEvent (one_more s) f
+IsEvent s (and_then e n f) = (n ≡ s.level) × IsEvent s e × IsEvent (one_deeper s) f
 IsEvent s (choose e f) = IsEvent s e × IsEvent s f
-IsEvent s (catch e n h) = (n ≡ s.level) × IsEvent s e × IsEvent (one_more s) h
+IsEvent s (catch e n h) = (n ≡ s.level) × IsEvent s e × IsEvent (one_deeper s) h
 IsEvent s (when test p q e f) = IsPrimitive s p × IsPrimitive s q × IsEvent s e × IsEvent s f
 
 -- ---- threads and programs

@@ -14,13 +14,13 @@ statement_of (stmts.Emit e) = emit (expression_of e)
 statement_of (stmts.Repeat times count) = repeat times count
 
 -- each root is a node of its code
-abbrev pub HasRoot : Stmt → Type 0
-HasRoot (stmts.Sync r code root) = root < length code.value
-HasRoot (stmts.Emit e) = Unit {0}
-HasRoot (stmts.Repeat times count) = Unit {0}
+abbrev pub RootIsNode : Stmt → Type 0
+RootIsNode (stmts.Sync r code root) = root < length code.value
+RootIsNode (stmts.Emit e) = Unit {0}
+RootIsNode (stmts.Repeat times count) = Unit {0}
 
 -- what a thread text keeps: what a thread keeps by itself, with as many channels as there may be, its names and its roots
 pub record IsText (t : Thread) (stmts : List Stmt) : Type 0 where
   pub thread : IsThread most_channels t
   pub names : HasNames t
-  pub roots : AllByRecursion HasRoot stmts
+  pub roots : AllByRecursion RootIsNode stmts

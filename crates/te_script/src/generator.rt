@@ -4,9 +4,9 @@ ghost use Rattle.te_terms.specs.Expressions.{register, whole, tuple};
 ghost use Rattle.te_terms.specs.Codes.{calculation_of, expression_of, term_under};
 ghost use Rattle.te_terms.specs.Shape.{IsForest};
 ghost use Rattle.te_script.specs.Scripts.{sync, emit};
-ghost use Rattle.te_script.specs.Texts.{statement_of, HasRoot};
-ghost use Rattle.te_script.specs.Generated.{each, rings_of, rounds_of, channel_name, thread_name, starting, passing, event_of, thread_of, generated};
-ghost use Rattle.te_script.specs.Nodes.{Grows, HasEvents};
+ghost use Rattle.te_script.specs.Texts.{statement_of, RootIsNode};
+ghost use Rattle.te_script.specs.Generated.{each, rings_of, rounds_of, generated_channel_name, generated_thread_name, starting, passing_event, event_of, generated_thread, generated};
+ghost use Rattle.te_script.specs.Nodes.{CodeGrows, HasEvents};
 
 use crate::script::{Script, Stmt, ThreadText};
 use itoa::Buffer;
@@ -58,7 +58,7 @@ fn put(code: &mut EventCode, node: Node) -> Result<u32, NoMemory>
 fn put_starting(code: &mut EventCode, p: u32, r: u32, round: u32) -> Result<u32, NoMemory>
     ensures root { IfOk result (λ n. n < length code.new) }
     ensures event { IfOk result (λ n. term_under code.new n ≡ starting p r round) }
-    ensures grows { OnOk result (Grows code.old code.new) }
+    ensures grows { OnOk result (CodeGrows code.old code.new) }
 {
     let sent = put(
         code,
@@ -74,7 +74,7 @@ fn put_starting(code: &mut EventCode, p: u32, r: u32, round: u32) -> Result<u32,
 // Puts the nodes of do { _0 <- recv p; _1 <- send q (_0.0 + 1); always _0 }.
 fn put_passing(code: &mut EventCode, p: u32, q: u32) -> Result<u32, NoMemory>
     ensures root { IfOk result (λ n. n < length code.new) }
-    ensures event { IfOk result (λ n. term_under code.new n ≡ passing p q) }
+    ensures event { IfOk result (λ n. term_under code.new n ≡ passing_event p q) }
 {
     let received = put(code, Node::Recv(Prim::Chan(p)))?;
     let more = Calc::Op(Arith::Add, Prim::Part(Var::Inner(0), 0), Prim::Int(1));
@@ -106,7 +106,7 @@ fn starting_events(alloc: Global, p: u32, r: u32, rounds: u32) -> Result<Events,
 
 // The events of a thread that passes a number on each round: one event, whose root stands for every round.
 fn passing_events(alloc: Global, p: u32, q: u32, rounds: u32) -> Result<Events, NoMemory>
-    ensures { IfOk result (λ e. HasEvents e.code e.roots.items (each (λ round. passing p q) rounds)) }
+    ensures { IfOk result (λ e. HasEvents e.code e.roots.items (each (λ round. passing_event p q) rounds)) }
 {
     let mut code = EventCode::new(alloc);
     let root = put_passing(&mut code, p, q)?;
@@ -145,7 +145,7 @@ fn events_of(alloc: Global, thread: u32, rounds: u32) -> Result<Events, NoMemory
 fn statements(alloc: Global, events: Events) -> Result<Rows<Stmt>, NoMemory>
     requires { AllByRecursion (λ i. i < length events.code) events.roots.items }
     ensures value { IfOk result (λ stmts. map statement_of stmts ≡ map (sync 0) (map (term_under events.code) events.roots.items) ++ emit (whole (register 0)) ∷ []) }
-    ensures roots { IfOk result (λ stmts. AllByRecursion HasRoot stmts) }
+    ensures roots { IfOk result (λ stmts. AllByRecursion RootIsNode stmts) }
 {
     let Events { code, roots } = events;
     let code = Arc::new(alloc, code)?;
@@ -167,7 +167,7 @@ fn thread_text(alloc: Global, thread: u32, rounds: u32) -> Result<ThreadText, No
     requires few { thread < 63 }
     requires some { 0 < rounds }
     requires most { rounds ≤ 300 }
-    ensures { IfOk result (λ text. text ≡ thread_of rounds thread) }
+    ensures { IfOk result (λ text. text ≡ generated_thread rounds thread) }
 {
     let events = events_of(alloc, thread, rounds)?;
     let stmts = statements(alloc, events)?;

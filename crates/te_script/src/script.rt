@@ -48,7 +48,7 @@ impl Model for ThreadText {
 impl ThreadText {
     ghost use Rattle.std.specs.Prelude.{◌≡◌, map};
     ghost use Rattle.std.specs.List.{AllByRecursion};
-    ghost use Rattle.te_script.specs.Texts.{statement_of, HasRoot};
+    ghost use Rattle.te_script.specs.Texts.{statement_of, RootIsNode};
     ghost use Rattle.te_script.specs.Limits.{most_channels};
     ghost use Rattle.te_script.specs.Scripts.{IsThread};
     ghost use Rattle.te_script.specs.Cores.{HasBodies};
@@ -57,7 +57,7 @@ impl ThreadText {
     pub(crate) fn statements(&self) -> &[Stmt]
         ensures value { map statement_of result.now ≡ self.now.statements }
         ensures thread { IsThread most_channels self.now }
-        ensures roots { AllByRecursion HasRoot result.now }
+        ensures roots { AllByRecursion RootIsNode result.now }
         ensures bodies { HasBodies (map statement_of result.now) }
     {
         self.stmts.as_slice()

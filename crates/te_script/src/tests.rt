@@ -3,7 +3,7 @@ ghost use Rattle.te_terms.specs.Expressions.{tuple};
 ghost use Rattle.te_terms.specs.Terms.{always};
 ghost use Rattle.te_terms.specs.Codes.{calculation_of, expression_of};
 ghost use Rattle.te_script.specs.Scripts.{AreStatements, IsEvent};
-ghost use Rattle.te_script.specs.Texts.{statement_of, HasRoot};
+ghost use Rattle.te_script.specs.Texts.{statement_of, RootIsNode};
 
 use crate::*;
 use std::alloc::Global;
@@ -85,7 +85,7 @@ fn code_of(alloc: Global, expr: Expr) -> Result<Arc<EventCode>, Fail>
 
 fn first_statement(alloc: Global, z: i64) -> Result<Stmt, Fail>
     ensures first { IfOk result (λ stmt. AreStatements 256 1 0 (statement_of stmt ∷ [])) }
-    ensures root { IfOk result (λ stmt. HasRoot stmt) }
+    ensures root { IfOk result (λ stmt. RootIsNode stmt) }
 {
     let code = code_of(alloc, calculated(&[Calc::One(Prim::Int(z))]))?;
     Ok(Stmt::Sync {
@@ -97,7 +97,7 @@ fn first_statement(alloc: Global, z: i64) -> Result<Stmt, Fail>
 
 fn statement(alloc: Global, line: Line) -> Result<Stmt, Fail>
     ensures later { IfOk result (λ stmt. AreStatements 256 1 1 (statement_of stmt ∷ [])) }
-    ensures root { IfOk result (λ stmt. HasRoot stmt) }
+    ensures root { IfOk result (λ stmt. RootIsNode stmt) }
 {
     match line {
         Line::Sync(form) => {

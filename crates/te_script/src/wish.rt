@@ -11,18 +11,18 @@ ghost use Rattle.te_script.specs.Cores.{
   core_after,
   Settles,
   IsWaiting,
-  IsSpot,
+  IsSyncSpot,
   IsSomewhere,
   HasBodies,
   IsPastEmits,
   WritesTo,
-  GoesOn,
+  SpotGoesOn,
   next_of,
-  rest_of,
+  steps_behind_first,
   emits_in,
   emits_left,
-  behind,
-  left_at,
+  steps_behind,
+  steps_left_at,
 };
 ghost use Rattle.te_script.specs.Wants.{IsWant, IsOfText};
 ghost use Rattle.te_script.specs.Texts.{statement_of};
@@ -90,11 +90,11 @@ impl Model for Core {
     ghost coded = { coded_at };
 
     ghost use Rattle.std.specs.Prelude.{vec_len, vec_capacity};
-    ghost use Rattle.te_script.specs.Cores.{next_at, left_at, IsCore};
+    ghost use Rattle.te_script.specs.Cores.{next_at, steps_left_at, IsCore};
 
     ghost view = { λ c. record {
       thread = c.text.value;
-      stand = record { emitted = c.emitted.items; next = next_at c.raised c.regs (left_at c.spot c.text.value.statements) };
+      stand = record { emitted = c.emitted.items; next = next_at c.raised c.regs (steps_left_at c.spot c.text.value.statements) };
     } };
 
     ghost invariant = { λ c. IsCore c.text.value c.spot (vec_len c.emitted) (vec_capacity c.emitted) };
@@ -223,9 +223,9 @@ fn sync_want(code: &Arc<EventCode>, root: u32, regs: &[Value; 8]) -> Result<Want
 
 // The register that the sync at a spot writes.
 fn register_at(stmts: &[Stmt], spot: &Spot) -> usize
-    requires spot { IsSpot spot.now (map statement_of stmts.now) }
-    requires waits { IsWaiting (next_of (left_at spot.now (map statement_of stmts.now))) }
-    ensures { WritesTo (left_at spot.now (map statement_of stmts.now)) result }
+    requires spot { IsSyncSpot spot.now (map statement_of stmts.now) }
+    requires waits { IsWaiting (next_of (steps_left_at spot.now (map statement_of stmts.now))) }
+    ensures { WritesTo (steps_left_at spot.now (map statement_of stmts.now)) result }
 {
     match &stmts[spot.place] {
         Stmt::Sync { reg, .. } => *reg as usize,
@@ -261,7 +261,7 @@ struct Stop {
 fn next_in_round(spot: Spot, next: usize) -> Option<Spot>
     requires spot { IsSomewhere spot }
     requires next { next ≡ spot.place + 1 }
-    ensures { (ss : List Statement) → IsSpot spot ss → GoesOn spot result ss }
+    ensures { (ss : List Statement) → IsSyncSpot spot ss → SpotGoesOn spot result ss }
 {
     let Some(round) = spot.round else {
         return None;
@@ -288,13 +288,13 @@ fn next_in_round(spot: Spot, next: usize) -> Option<Spot>
 
 // Goes on behind the sync at a spot, up to the next one.
 fn go_on(stmts: &[Stmt], spot: &Spot, regs: &[Value; 8], emitted: &mut Vec<Value>) -> Stop
-    requires spot { IsSpot spot.now (map statement_of stmts.now) }
-    requires waits { IsWaiting (next_of (left_at spot.now (map statement_of stmts.now))) }
+    requires spot { IsSyncSpot spot.now (map statement_of stmts.now) }
+    requires waits { IsWaiting (next_of (steps_left_at spot.now (map statement_of stmts.now))) }
     requires bodies { HasBodies (map statement_of stmts.now) }
-    requires room { vec_len emitted.old + emits_left (left_at spot.now (map statement_of stmts.now)) ≤ vec_capacity emitted.old }
-    ensures settles { Settles regs.now (rest_of (left_at spot.now (map statement_of stmts.now))) emitted.old.items
-        result.raised (left_at result.spot (map statement_of stmts.now)) emitted.new.items }
-    ensures spot { IsSpot result.spot (map statement_of stmts.now) }
+    requires room { vec_len emitted.old + emits_left (steps_left_at spot.now (map statement_of stmts.now)) ≤ vec_capacity emitted.old }
+    ensures settles { Settles regs.now (steps_behind_first (steps_left_at spot.now (map statement_of stmts.now))) emitted.old.items
+        result.raised (steps_left_at result.spot (map statement_of stmts.now)) emitted.new.items }
+    ensures spot { IsSyncSpot result.spot (map statement_of stmts.now) }
     ensures room { vec_capacity emitted.new ≡ vec_capacity emitted.old }
     ensures eight { length regs.now ≡ 8 }
 {
@@ -310,8 +310,8 @@ fn spot_at(stmts: &[Stmt], place: usize) -> Spot
     requires within { place ≤ length stmts.now }
     requires past { IsPastEmits (drop place (map statement_of stmts.now)) }
     requires bodies { HasBodies (map statement_of stmts.now) }
-    ensures left { left_at result (map statement_of stmts.now) ≡ behind place (map statement_of stmts.now) }
-    ensures spot { IsSpot result (map statement_of stmts.now) }
+    ensures left { steps_left_at result (map statement_of stmts.now) ≡ steps_behind place (map statement_of stmts.now) }
+    ensures spot { IsSyncSpot result (map statement_of stmts.now) }
 {
     if place == stmts.len() {
         return Spot { place, round: None };
@@ -335,10 +335,10 @@ fn spot_at(stmts: &[Stmt], place: usize) -> Spot
 fn past_emits(stmts: &[Stmt], from: usize, regs: &[Value; 8], emitted: &mut Vec<Value>) -> Stop
     requires within { from ≤ length stmts.now }
     requires bodies { HasBodies (map statement_of stmts.now) }
-    requires room { vec_len emitted.old + emits_left (behind from (map statement_of stmts.now)) ≤ vec_capacity emitted.old }
-    ensures settles { Settles regs.now (behind from (map statement_of stmts.now)) emitted.old.items
-        result.raised (left_at result.spot (map statement_of stmts.now)) emitted.new.items }
-    ensures spot { IsSpot result.spot (map statement_of stmts.now) }
+    requires room { vec_len emitted.old + emits_left (steps_behind from (map statement_of stmts.now)) ≤ vec_capacity emitted.old }
+    ensures settles { Settles regs.now (steps_behind from (map statement_of stmts.now)) emitted.old.items
+        result.raised (steps_left_at result.spot (map statement_of stmts.now)) emitted.new.items }
+    ensures spot { IsSyncSpot result.spot (map statement_of stmts.now) }
     ensures room { vec_capacity emitted.new ≡ vec_capacity emitted.old }
     ensures eight { length regs.now ≡ 8 }
 {

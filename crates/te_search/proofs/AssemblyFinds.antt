@@ -9,7 +9,7 @@ use Rattle.te_terms.proofs.Settles.{settled_already}
 use Rattle.te_terms.proofs.OneThing.{end_is_alone}
 use Rattle.te_trail.specs.Paths.{Path, planted, branched, sent, got, thread_of, own_labels, IsAbove, move_of, RestsOn}
 use Rattle.te_trail.specs.Clocks.{clock_of, Agree}
-use Rattle.te_trail.specs.States.{chosen, state_of}
+use Rattle.te_trail.specs.States.{chosen, path_state}
 use Rattle.te_trail.specs.Stores.{Holds, same_path}
 use Rattle.te_trail.specs.Views.{touches, view_of}
 use Rattle.te_trail.proofs.Lines.{above_trans}
@@ -377,7 +377,7 @@ complete g store finals full listed fails co =
         let e : (e : Member) × (member_of k up.end ≡ Some e) = there_is (member_of k up.end) (up.members k ∙ q.1) in
         let there : member_of k co.end ≡ Some e.0 = ap (member_of k) (sym up.parts) ∙ part_at co.side k up.end q.0 ∙ e.1 in
         let f : (o : Outcome) × (outcome_of e.0.term ≡ Some o) = co.finals k e.0 there in
-        let st : Holds store (cov.path k) × (state_of g (cov.path k) ≡ Some (settled e.0)) = cov.stands k e.0 e.1 in
+        let st : Holds store (cov.path k) × (path_state g (cov.path k) ≡ Some (settled e.0)) = cov.stands k e.0 e.1 in
         (st.0, record { member = e.0; outcome = f.0; state = st.1 ∙ ap Some (settled_already e.0 (end_is_alone e.0 e.0.term f.0 f.1).0); ends = f.1 })
 
     test : (ℕ → Path) → Path → Bool

@@ -7,7 +7,7 @@ use Rattle.te_terms.specs.Settling.{settled}
 use Rattle.te_terms.proofs.OneThing.{choice_rests, send_is_alone}
 use Rattle.te_trail.specs.Paths.{Path, planted, branched, sent, got, thread_of, IsAbove, move_of, RestsOn}
 use Rattle.te_trail.specs.Clocks.{clock_of, IsSound}
-use Rattle.te_trail.specs.States.{chosen, met, Ends, state_of, HasState}
+use Rattle.te_trail.specs.States.{chosen, members_met, MovedEnds, path_state, HasState}
 use Rattle.te_trail.proofs.Lines.{above_self, above_trans, above_both, above_line, rests_move, above_rests}
 use Rattle.te_trail.proofs.ClockLaws.{clock_self, clock_top, Agrees, made_planted}
 use Rattle.te_trail.proofs.MembersMove.{Handing, handing}
@@ -48,22 +48,22 @@ pub record Chooses (g : List Member) (p : Path) : Type 0 where
   pub member : Member
   pub left : Bool
   pub next : Member
-  pub state : state_of g p ≡ Some member
+  pub state : path_state g p ≡ Some member
   pub chooses : chosen left member ≡ Some next
 
 pub record Sends (g : List Member) (p : Path) : Type 0 where
   pub member : Member
   pub other : Member
-  pub ends : Ends
-  pub state : state_of g p ≡ Some member
-  pub meets : met member other ≡ Some ends
+  pub ends : MovedEnds
+  pub state : path_state g p ≡ Some member
+  pub meets : members_met member other ≡ Some ends
 
 pub record Receives (g : List Member) (p : Path) : Type 0 where
   pub member : Member
   pub other : Member
-  pub ends : Ends
-  pub state : state_of g p ≡ Some member
-  pub meets : met other member ≡ Some ends
+  pub ends : MovedEnds
+  pub state : path_state g p ≡ Some member
+  pub meets : members_met other member ≡ Some ends
 
 one_member : (o : Option Member) (a b : Member) → o ≡ Some a → o ≡ Some b → a ≡ b
 one_member o a b x y = cc
@@ -73,7 +73,7 @@ never_both o x e f = cc
 
 pub no_choice_at_send : (g : List Member) (p : Path) → Chooses g p → Sends g p → ⊥
 no_choice_at_send g p c s =
-    let same : c.member ≡ s.member = one_member (state_of g p) c.member s.member c.state s.state in
+    let same : c.member ≡ s.member = one_member (path_state g p) c.member s.member c.state s.state in
     let h : Handing s.member s.other s.ends = handing s.member s.other s.ends s.meets in
     let ch : chosen c.left s.member ≡ Some c.next = subst (λ m. chosen c.left m ≡ Some c.next) same c.chooses in
     let t = mapped (at_term s.member) (after_choice c.left s.member.term) c.next ch in
@@ -81,7 +81,7 @@ no_choice_at_send g p c s =
 
 pub no_choice_at_receive : (g : List Member) (p : Path) → Chooses g p → Receives g p → ⊥
 no_choice_at_receive g p c r =
-    let same : c.member ≡ r.member = one_member (state_of g p) c.member r.member c.state r.state in
+    let same : c.member ≡ r.member = one_member (path_state g p) c.member r.member c.state r.state in
     let h : Handing r.other r.member r.ends = handing r.other r.member r.ends r.meets in
     let ch : chosen c.left r.member ≡ Some c.next = subst (λ m. chosen c.left m ≡ Some c.next) same c.chooses in
     let t = mapped (at_term r.member) (after_choice c.left r.member.term) c.next ch in
@@ -89,7 +89,7 @@ no_choice_at_receive g p c r =
 
 pub no_send_at_receive : (g : List Member) (p : Path) → Sends g p → Receives g p → ⊥
 no_send_at_receive g p s r =
-    let same : r.member ≡ s.member = one_member (state_of g p) r.member s.member r.state s.state in
+    let same : r.member ≡ s.member = one_member (path_state g p) r.member s.member r.state s.state in
     let h : Handing s.member s.other s.ends = handing s.member s.other s.ends s.meets in
     let k : Handing r.other r.member r.ends = handing r.other r.member r.ends r.meets in
     let gets = subst (λ m. receiving m.term ≡ Some k.channel) same k.receives in
@@ -97,7 +97,7 @@ no_send_at_receive g p s r =
 
 branched_from : (g : List Member) (p : Path) (l : Bool) → HasState g (branched p l) → Chooses g p
 branched_from g p l f =
-    let a : (m : Member) × (state_of g p ≡ Some m) × (option_map settled (chosen l m) ≡ Some f.0) = then_some (λ m. option_map settled (chosen l m)) (state_of g p) f.0 f.1 in
+    let a : (m : Member) × (path_state g p ≡ Some m) × (option_map settled (chosen l m) ≡ Some f.0) = then_some (λ m. option_map settled (chosen l m)) (path_state g p) f.0 f.1 in
     let b : (u : Member) × (chosen l a.0 ≡ Some u) × (settled u ≡ f.0) = mapped settled (chosen l a.0) f.0 a.2 in
     record { member = a.0; left = l; next = b.0; state = a.1; chooses = b.1 }
 
@@ -105,7 +105,7 @@ branched_from g p l f =
 abbrev Meets : List Member → Path → Path → Type 0
 Meets g s r = Sends g s × Receives g r
 
-met_from : (g : List Member) (s r : Path) → ((a : Member) × (b : Member) × (p : Ends) × (state_of g s ≡ Some a) × (state_of g r ≡ Some b) × (met a b ≡ Some p)) → Meets g s r
+met_from : (g : List Member) (s r : Path) → ((a : Member) × (b : Member) × (p : MovedEnds) × (path_state g s ≡ Some a) × (path_state g r ≡ Some b) × (members_met a b ≡ Some p)) → Meets g s r
 met_from g s r (a, b, p, sa, sb, m) = (record { member = a; other = b; ends = p; state = sa; meets = m }, record { member = b; other = a; ends = p; state = sb; meets = m })
 
 sent_from : (g : List Member) (s r : Path) → HasState g (sent s r) → Meets g s r

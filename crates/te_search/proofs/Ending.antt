@@ -9,14 +9,14 @@ use Rattle.te_terms.proofs.OneThing.{Rests}
 use Rattle.te_terms.specs.Settling.{settled}
 use Rattle.te_trail.proofs.Lines.{rests_move}
 use Rattle.te_trail.proofs.ClockLaws.{clock_in}
-use Rattle.te_pair.specs.Ends.{paths_of}
+use Rattle.te_pair.specs.Ends.{paths_kept}
 use Rattle.te_search.specs.Assemblies.{IsMore}
 use Rattle.te_path.specs.Paths.{IsChoice}
 use Rattle.te_terms.specs.Joint.{Message, after_choice, sending, receiving}
 use Rattle.te_trail.specs.Paths.{Path, planted, branched, sent, got}
 use Rattle.te_trail.specs.Stores.{Holds, IsStore, labels_of_move}
-use Rattle.te_trail.specs.Trails.{IsAtChoice, IsThread}
-use Rattle.te_trail.specs.States.{chosen, Ends, met, state_of}
+use Rattle.te_trail.specs.Trails.{IsAtChoice, IsPathThread}
+use Rattle.te_trail.specs.States.{chosen, MovedEnds, members_met, path_state}
 use Rattle.te_trail.proofs.MovesChain.{mapped}
 use Rattle.te_trail.proofs.MembersMove.{Handing, handing}
 use Rattle.te_search.specs.declared.work.Work.{Work}
@@ -24,9 +24,10 @@ use Rattle.te_search.specs.declared.finals.Final.{Final}
 use Rattle.te_search.specs.Finals.{number_of, numbers_of, TellThreads}
 use Rattle.te_search.proofs.FinalsTold.{told_one}
 use Rattle.te_search.specs.Groups.{IsFinal, Partial, IsPartial}
-use Rattle.te_search.specs.Searching.{path_at, paths_by, AreUp, NoneTwice, AllFail, MayMeet, IsSearch}
-use Rattle.te_search.specs.Works.{AreLow, AreEnds, told, pending_of, IsCounted, IsWork, IsWorkOn}
-use Rattle.te_search.specs.Works.{Gains, IsPassed, IsSpentAt, StandsAs}
+use Rattle.te_search.specs.Searching.{paths_by, AreUp, NoPathTwice, AllFail, MayMeet, IsSearch}
+use Rattle.te_trail.specs.Records.{path_at}
+use Rattle.te_search.specs.Works.{AreLow, EndsStand, label_told, pending_of, IsCounted, IsWork, IsWorkOn}
+use Rattle.te_search.specs.Works.{Gains, IsPassed, IsSpentAt, WaitsOn}
 use Rattle.te_search.proofs.ListLaws.{once_both, holds_left, holds_right, holds_which, holds_one, holds_at, once_by_places}
 use Rattle.te_search.proofs.WorkDone.{IsStep, step_done, final_cannot_choose}
 use Rattle.te_search.proofs.PartialLaws.{all_by}
@@ -39,14 +40,14 @@ use Rattle.te_terms.proofs.OneThing.{never_is_alone}
 use Rattle.te_path.specs.declared.spot.Stop.{Stop}
 use Rattle.te_path.specs.Paths.{StandsAt}
 use Rattle.te_trail.specs.Trails.{IsStop}
-use Rattle.te_search.specs.Works.{Grows}
+use Rattle.te_search.specs.Works.{WorkGrows}
 use Rattle.te_trail.specs.Paths.{move_of, RestsOn}
 use Rattle.te_trail.proofs.ClockLaws.{made_planted, made_branched, made_met}
 use Rattle.te_trail.proofs.PastsChain.{parts_of, grown_has}
 use Rattle.te_search.specs.Searching.{Fails, wanting}
-use Rattle.te_search.specs.Assemblies.{Stand, Crew, Names, Tries, Assembles, IsFound, joint}
+use Rattle.te_search.specs.Assemblies.{AssemblyStand, Crew, NamesPaths, Tries, Assembles, IsFound, joint}
 use Rattle.std.proofs.Common.{Vec, Global}
-use Rattle.te_search.specs.Works.{IsHit, EndsSo, threads_of}
+use Rattle.te_search.specs.Works.{IsHit, StepEndsSo, threads_of}
 use Rattle.te_search.proofs.GroupsSound.{grown_from}
 use Rattle.te_search.proofs.WorkDone.{parent_made, final_cannot_meet, final_is_last}
 use Rattle.te_search.proofs.PartialLaws.{all_both, tries_zero, tries_less, tried_more}
@@ -56,7 +57,7 @@ use Rattle.te_search.proofs.PartialLaws.{all_both, tries_zero, tries_less, tried
 both_made : (g : List Member) (paths pending waits finals : List Path) → IsSearch g paths pending waits finals → (s r : Path) → Holds paths (sent s r) → Holds paths (got s r)
 both_made g paths pending waits finals w s r h =
     let t = w.store.state (sent s r) h in
-    let m : (a : Member) × (b : Member) × (p : Ends) × (state_of g s ≡ Some a) × (state_of g r ≡ Some b) × (met a b ≡ Some p) = parts_of g s r (λ p. settled p.sender) t.0 t.1 in
+    let m : (a : Member) × (b : Member) × (p : MovedEnds) × (path_state g s ≡ Some a) × (path_state g r ≡ Some b) × (members_met a b ≡ Some p) = parts_of g s r (λ p. settled p.sender) t.0 t.1 in
     let k = w.met_from s r h in
     (w.meetings s r m.0 m.1 m.2 k.0 k.1 (w.store.sound (sent s r) h).2 m.3 m.4 m.5).1
 
@@ -102,13 +103,13 @@ all_fail_more g finals x before fails front start rest e = elim (last_case final
 pub numbers_one : (old new : List Final) (p t : ℕ) → new ≡ old ++ (record { path = p; thread = t } ∷ []) → numbers_of new ≡ numbers_of old ++ (p ∷ [])
 numbers_one old new p t is = ap numbers_of is ∙ map_both number_of old (record { path = p; thread = t } ∷ [])
 
-pub told_after : (old : Work) (new : List Final) (p t : ℕ) → IsWorkOn old p → new ≡ old.finals ++ (record { path = p; thread = t } ∷ []) → IsThread old.store.paths p t
+pub told_after : (old : Work) (new : List Final) (p t : ℕ) → IsWorkOn old p → new ≡ old.finals ++ (record { path = p; thread = t } ∷ []) → IsPathThread old.store.paths p t
     → TellThreads old.store.paths new
 told_after old new p t w is th = subst (TellThreads old.store.paths) (sym is) (told_one old.store.paths old.finals p t w.finals_told th)
 
 -- final paths with the one in hand
 pub record Ending (old : Work) (p : ℕ) (x : Path) (threads : List ℕ) : Type 0 where
-  pub stand : Stand old.store.events old.store.paths threads (numbers_of old.finals ++ (p ∷ []))
+  pub stand : AssemblyStand old.store.events old.store.paths threads (numbers_of old.finals ++ (p ∷ []))
   pub crew : Crew old.store.events (Holds old.store.paths) (IsFinal old.store.events) (x ∷ [])
   pub partial : IsPartial old.store.events old.store.paths (record { start = x; members = x ∷ [] })
   pub new : ¬ Holds (paths_by old.store.paths (numbers_of old.finals)) x
@@ -127,7 +128,7 @@ ending old p x threads ex w f th = record {
       | inr b ↦ subst (IsFinal old.store.events)
           (sym (holds_one y x b)) f
     ];
-    finals_once = subst NoneTwice (sym finals_are) (once_both finals (x ∷ []) before.finals_once ((λ n. n), tt) (λ y h k. new (subst (Holds finals) (holds_one y x k) h)));
+    finals_once = subst NoPathTwice (sym finals_are) (once_both finals (x ∷ []) before.finals_once ((λ n. n), tt) (λ y h k. new (subst (Holds finals) (holds_one y x k) h)));
     threads_are = th;
   };
   crew = record {
@@ -143,7 +144,7 @@ ending old p x threads ex w f th = record {
 }
   where
     waits : List Path
-    waits = paths_by old.store.paths (paths_of old.waiting)
+    waits = paths_by old.store.paths (paths_kept old.waiting)
 
     finals : List Path
     finals = paths_by old.store.paths (numbers_of old.finals)
@@ -194,10 +195,10 @@ pub end_done : (old new : Work) (p : ℕ) (x : Path) (threads : List ℕ) (count
     → Fails (Holds (paths_by old.store.paths (numbers_of old.finals ++ (p ∷ [])))) (x ∷ []) → TellThreads old.store.paths new.finals → IsWork new
 end_done old new p x threads count ex w f e st mo pe wa fi gr tries fails told_so = record {
   search = subst (λ t. IsSearch t.events t.paths (paths_by t.paths new.pending.items)
-      (paths_by t.paths (paths_of new.waiting)) (paths_by t.paths (numbers_of new.finals))) (sym st)
-      (subst (λ k. IsSearch old.store.events old.store.paths (paths_by old.store.paths k) (paths_by old.store.paths (paths_of new.waiting))
+      (paths_by t.paths (paths_kept new.waiting)) (paths_by t.paths (numbers_of new.finals))) (sym st)
+      (subst (λ k. IsSearch old.store.events old.store.paths (paths_by old.store.paths k) (paths_by old.store.paths (paths_kept new.waiting))
       (paths_by old.store.paths (numbers_of new.finals))) (sym pe)
-      (subst (λ k. IsSearch old.store.events old.store.paths (pending_of old) (paths_by old.store.paths (paths_of k))
+      (subst (λ k. IsSearch old.store.events old.store.paths (pending_of old) (paths_by old.store.paths (paths_kept k))
       (paths_by old.store.paths (numbers_of new.finals))) (sym wa)
       (subst (λ k. IsSearch old.store.events old.store.paths (pending_of old) waits (paths_by old.store.paths k)) (sym fi)
       (subst (IsSearch old.store.events old.store.paths (pending_of old) waits) (sym e.finals_are)
@@ -206,17 +207,17 @@ end_done old new p x threads count ex w f e st mo pe wa fi gr tries fails told_s
       (subst (λ q. IsSearch old.store.events (old.store.paths ++ []) (pending_of old ++ []) q (finals ++ (x ∷ []))) (append-nil waits)
       (step_done old.store.events old.store.paths (pending_of old) waits finals x [] [] (x ∷ []) before step))))))));
   pending_low = subst (λ t. AreLow t.paths new.pending.items) (sym st) (subst (AreLow old.store.paths) (sym pe) w.pending_low);
-  waits_low = subst (λ t. AreLow t.paths (paths_of new.waiting)) (sym st) (subst (λ k. AreLow old.store.paths (paths_of k)) (sym wa) w.waits_low);
+  waits_low = subst (λ t. AreLow t.paths (paths_kept new.waiting)) (sym st) (subst (λ k. AreLow old.store.paths (paths_kept k)) (sym wa) w.waits_low);
   finals_low = subst (λ t. AreLow t.paths (numbers_of new.finals)) (sym st) (subst (AreLow old.store.paths) (sym fi) e.stand.finals_low);
   finals_told = subst (λ t. TellThreads t.paths new.finals) (sym st) told_so;
-  ends = subst (λ t. AreEnds t.events t.paths new.waiting) (sym st) (subst (AreEnds old.store.events old.store.paths) (sym wa) w.ends);
-  told_are = ap (map told) mo ∙ w.told_are ∙ ap (λ t. map labels_of_move t.paths) (sym st);
+  ends = subst (λ t. EndsStand t.events t.paths new.waiting) (sym st) (subst (EndsStand old.store.events old.store.paths) (sym wa) w.ends);
+  told_are = ap (map label_told) mo ∙ w.told_are ∙ ap (λ t. map labels_of_move t.paths) (sym st);
   counted = subst (λ t. IsCounted t.events t.paths (paths_by t.paths (numbers_of new.finals)) new.groups) (sym st)
       (subst (λ k. IsCounted old.store.events old.store.paths (paths_by old.store.paths k) new.groups) (sym fi) (ending_counted old p x threads count new.groups w e tries gr));
 }
   where
     waits : List Path
-    waits = paths_by old.store.paths (paths_of old.waiting)
+    waits = paths_by old.store.paths (paths_kept old.waiting)
 
     finals : List Path
     finals = paths_by old.store.paths (numbers_of old.finals)
@@ -231,7 +232,7 @@ end_done old new p x threads count ex w f e st mo pe wa fi gr tries fails told_s
     step = record {
       store = subst (IsStore old.store.events) (sym plain) before.store;
       ups = subst AreUp (sym plain) before.ups;
-      news_once = subst NoneTwice (sym plain) (once_by_places old.store.paths before.store.once);
+      news_once = subst NoPathTwice (sym plain) (once_by_places old.store.paths before.store.once);
       done = record {
         chooses = λ l m u s c. absurd (final_cannot_choose old.store.events x l m u f s c);
         waits_there = λ m. absurd (final_cannot_meet old.store.events x f m);
@@ -256,12 +257,12 @@ pub end_found : (old new : Work) (p : ℕ) (x : Path) (threads : List ℕ) (out 
     → Ending old p x threads → new.store ≡ old.store → new.moves.items ≡ old.moves.items → numbers_of new.finals ≡ numbers_of old.finals ++ (p ∷ [])
     → IsFound old.store.events old.store.paths threads x (x ∷ []) out → IsHit new threads out
 end_found old new p x threads out ex w f e st mo fi found = record {
-  stand = subst (λ t. Stand t.events t.paths threads (numbers_of new.finals)) (sym st) (subst (Stand old.store.events old.store.paths threads) (sym fi) e.stand);
+  stand = subst (λ t. AssemblyStand t.events t.paths threads (numbers_of new.finals)) (sym st) (subst (AssemblyStand old.store.events old.store.paths threads) (sym fi) e.stand);
   start = x;
   final = subst (λ t. IsFinal t.events x) (sym st) f;
   made = subst (λ t. Holds t.paths x) (sym st) (holds_at old.store.paths p x ex);
   found = subst (λ t. IsFound t.events t.paths threads x (x ∷ []) out) (sym st) found;
-  told_are = ap (map told) mo ∙ w.told_are ∙ ap (λ t. map labels_of_move t.paths) (sym st);
+  told_are = ap (map label_told) mo ∙ w.told_are ∙ ap (λ t. map labels_of_move t.paths) (sym st);
 }
 
 -- so many partial groups of the paths pass the budget
@@ -299,9 +300,9 @@ end_spent old new p x threads count budget w e st gr tries sum = record {
 pub end_ends : (old new : Work) (p : ℕ) (x : Path) (threads : List ℕ) (joined : List (Option ℕ)) (count : ℕ) (found : Option (Vec (Option ℕ) Global))
     → slice_get old.store.paths p ≡ Some x → IsWorkOn old p → IsFinal old.store.events x → Ending old p x threads → new.store ≡ old.store → new.moves.items ≡ old.moves.items
     → new.pending.items ≡ old.pending.items → new.waiting ≡ old.waiting
-    → numbers_of new.finals ≡ numbers_of old.finals ++ (p ∷ []) → new.groups ≡ old.groups + suc count → Names old.store.paths threads (joint (x ∷ [])) joined
+    → numbers_of new.finals ≡ numbers_of old.finals ++ (p ∷ []) → new.groups ≡ old.groups + suc count → NamesPaths old.store.paths threads (joint (x ∷ [])) joined
     → Assembles old.store.events old.store.paths threads (numbers_of old.finals ++ (p ∷ [])) joined count found
-    → TellThreads old.store.paths new.finals → EndsSo new threads found
+    → TellThreads old.store.paths new.finals → StepEndsSo new threads found
 end_ends old new p x threads joined count None ex w f e st mo pe wa fi gr names h told_so =
     (let r = h x (x ∷ []) e.crew (inl refl) names in end_done old new p x threads count ex w f e st mo pe wa fi gr r.0 r.1 told_so)
 end_ends old new p x threads joined count (Some v) ex w f e st mo pe wa fi gr names h told_so =
@@ -318,7 +319,7 @@ stop_final w p stop h by x ex = (let a = h x ex in let o = by a.0.term a.2 in re
 
 pub stop_waits : (w : Work) (p : ℕ) (stop : Stop) (channel : ℕ) (sends : Bool) → IsStop w.store p stop
     → ((t : Term) → StandsAt t stop → MatchBool sends ((m : Message) × (sending t ≡ Some m) × (m.channel ≡ channel)) (receiving t ≡ Some channel)) → (x : Path)
-    → slice_get w.store.paths p ≡ Some x → StandsAs w.store.events x channel sends
+    → slice_get w.store.paths p ≡ Some x → WaitsOn w.store.events x channel sends
 stop_waits w p stop channel sends h by x ex = (let a = h x ex in record { member = a.0; state = a.1.state; stands = by a.0.term a.2 })
 
 pub stop_chooses : (w : Work) (p : ℕ) (stop : Stop) → IsStop w.store p stop → ((t : Term) → StandsAt t stop → IsChoice t) → IsAtChoice w.store p
@@ -337,25 +338,25 @@ dead_done old new p x stop ex w h by same = subst IsWork (sym same)
       store = w.search.store;
       pending = sym (append-nil (pending_of old));
       pending_low = w.pending_low;
-      moves = sym (append-nil (map told old.moves.items));
+      moves = sym (append-nil (map label_told old.moves.items));
       waiting = refl;
       finals = refl;
       groups = refl;
     }
 
-    st0 : (m : Member) × (state_of old.store.events x ≡ Some m) × (head m.term ≡ never)
+    st0 : (m : Member) × (path_state old.store.events x ≡ Some m) × (head m.term ≡ never)
     st0 = (let a = h x ex in (a.0, a.1.state, by a.0.term a.2))
 
     alone : Rests st0.0 st0.0.term × ((left : Bool) → after_choice left st0.0.term ≡ None) × (sending st0.0.term ≡ None) × (receiving st0.0.term ≡ None)
     alone = never_is_alone st0.0 st0.0.term st0.2
 
-    the_one : (m : Member) → state_of old.store.events x ≡ Some m → st0.0 ≡ m
+    the_one : (m : Member) → path_state old.store.events x ≡ Some m → st0.0 ≡ m
     the_one m st = (let k : Some st0.0 ≡ Some m = sym st0.1 ∙ st in cc)
 
     none_at : {A : Type 0} (o : Option A) (a : A) → o ≡ None → o ≡ Some a → ⊥
     none_at o a e f = cc
 
-    no_choice : (l : Bool) (m u : Member) → state_of old.store.events x ≡ Some m → chosen l m ≡ Some u → ⊥
+    no_choice : (l : Bool) (m u : Member) → path_state old.store.events x ≡ Some m → chosen l m ≡ Some u → ⊥
     no_choice l m u st c = (let a : (t : Term) × (after_choice l m.term ≡ Some t) × (at_term m t ≡ u) = mapped (at_term m) (after_choice l m.term) u c in none_at
         (after_choice l m.term) a.0 (ap (λ k. after_choice l k.term) (sym (the_one m st)) ∙ alone.1 l) a.1)
 
@@ -376,7 +377,7 @@ by_length : (paths : List Path) (ns : List ℕ) → length (paths_by paths ns) �
 by_length paths [] = refl
 by_length paths (n ∷ ns) = ap suc (by_length paths ns)
 
-pub gains_grow : (old new : Work) (news : List Path) → Gains old new news → Grows old new
+pub gains_grow : (old new : Work) (news : List Path) → Gains old new news → WorkGrows old new
 gains_grow old new news g =
     let a : length new.pending.items ≡ length old.pending.items + length news = sym (by_length new.store.paths new.pending.items) ∙ ap length g.pending
     ∙ length-append (pending_of old) news ∙ ap (λ k. k + length news) (by_length old.store.paths old.pending.items) in
@@ -388,20 +389,20 @@ gains_grow old new news g =
 pub taken_in_hand : (old new : Work) (p : ℕ) → IsWork old → new.store ≡ old.store → new.moves.items ≡ old.moves.items → new.waiting ≡ old.waiting
     → new.finals ≡ old.finals → new.groups ≡ old.groups → old.pending.items ≡ new.pending.items ++ (p ∷ []) → IsWorkOn new p
 taken_in_hand old new p w st mo wa fi gr pe = record {
-  search = subst (λ t. IsSearch t.events t.paths (paths_by t.paths new.pending.items ++ (path_at t.paths p ∷ [])) (paths_by t.paths (paths_of new.waiting))
+  search = subst (λ t. IsSearch t.events t.paths (paths_by t.paths new.pending.items ++ (path_at t.paths p ∷ [])) (paths_by t.paths (paths_kept new.waiting))
       (paths_by t.paths (numbers_of new.finals))) (sym st)
       (subst (λ k. IsSearch old.store.events old.store.paths (paths_by old.store.paths new.pending.items ++ (path_at old.store.paths p ∷ []))
-      (paths_by old.store.paths (paths_of k)) (paths_by old.store.paths (numbers_of new.finals))) (sym wa)
+      (paths_by old.store.paths (paths_kept k)) (paths_by old.store.paths (numbers_of new.finals))) (sym wa)
       (subst (λ k. IsSearch old.store.events old.store.paths (paths_by old.store.paths new.pending.items ++ (path_at old.store.paths p ∷ []))
-      (paths_by old.store.paths (paths_of old.waiting)) (paths_by old.store.paths (numbers_of k))) (sym fi)
-      (subst (λ k. IsSearch old.store.events old.store.paths k (paths_by old.store.paths (paths_of old.waiting)) (paths_by old.store.paths (numbers_of old.finals)))
+      (paths_by old.store.paths (paths_kept old.waiting)) (paths_by old.store.paths (numbers_of k))) (sym fi)
+      (subst (λ k. IsSearch old.store.events old.store.paths k (paths_by old.store.paths (paths_kept old.waiting)) (paths_by old.store.paths (numbers_of old.finals)))
       (ap (paths_by old.store.paths) pe ∙ map_both (path_at old.store.paths) new.pending.items (p ∷ [])) w.search)));
   pending_low = subst (λ t. AreLow t.paths new.pending.items) (sym st) (λ i n e. w.pending_low i n (ap (λ k. slice_get k i) pe ∙ get_more new.pending.items (p ∷ []) i n e));
-  waits_low = subst (λ t. AreLow t.paths (paths_of new.waiting)) (sym st) (subst (λ k. AreLow old.store.paths (paths_of k)) (sym wa) w.waits_low);
+  waits_low = subst (λ t. AreLow t.paths (paths_kept new.waiting)) (sym st) (subst (λ k. AreLow old.store.paths (paths_kept k)) (sym wa) w.waits_low);
   finals_low = subst (λ t. AreLow t.paths (numbers_of new.finals)) (sym st) (subst (λ k. AreLow old.store.paths (numbers_of k)) (sym fi) w.finals_low);
   finals_told = subst (λ t. TellThreads t.paths new.finals) (sym st) (subst (TellThreads old.store.paths) (sym fi) w.finals_told);
-  ends = subst (λ t. AreEnds t.events t.paths new.waiting) (sym st) (subst (AreEnds old.store.events old.store.paths) (sym wa) w.ends);
-  told_are = ap (map told) mo ∙ w.told_are ∙ ap (λ t. map labels_of_move t.paths) (sym st);
+  ends = subst (λ t. EndsStand t.events t.paths new.waiting) (sym st) (subst (EndsStand old.store.events old.store.paths) (sym wa) w.ends);
+  told_are = ap (map label_told) mo ∙ w.told_are ∙ ap (λ t. map labels_of_move t.paths) (sym st);
   counted = subst (λ t. IsCounted t.events t.paths (paths_by t.paths (numbers_of new.finals)) new.groups) (sym st)
       (subst (λ k. IsCounted old.store.events old.store.paths (paths_by old.store.paths (numbers_of k)) new.groups) (sym fi)
       (subst (IsCounted old.store.events old.store.paths (paths_by old.store.paths (numbers_of old.finals))) (sym gr) w.counted));

@@ -9,12 +9,13 @@ use Rattle.te_trail.specs.Paths.{Path, planted, branched, sent, got}
 use Rattle.te_trail.specs.States.{HasState}
 use Rattle.te_trail.specs.Stores.{Holds, IsStore, labels_of_move}
 use Rattle.te_trail.proofs.MovesChain.{mapped}
-use Rattle.te_pair.specs.Ends.{paths_of}
+use Rattle.te_pair.specs.Ends.{paths_kept}
 use Rattle.te_search.specs.declared.work.Work.{Work}
 use Rattle.te_search.specs.Finals.{numbers_of, TellThreads}
-use Rattle.te_search.specs.Searching.{path_at, paths_by, IsSearch}
-use Rattle.te_search.specs.Works.{AreLow, AreEnds, told, IsCounted, IsWork}
-use Rattle.te_search.specs.Stacks.{lists_of, IsWhole, IsAmong, count_left}
+use Rattle.te_search.specs.Searching.{paths_by, IsSearch}
+use Rattle.te_trail.specs.Records.{path_at}
+use Rattle.te_search.specs.Works.{AreLow, EndsStand, label_told, IsCounted, IsWork}
+use Rattle.te_search.specs.Stacks.{lists_of, SearchIsWhole, EventsAreAmong, count_left}
 use Rattle.te_search.specs.Plantings.{has_number}
 use Rattle.te_search.proofs.ListLaws.{holds_left, holds_right, holds_which, holds_one}
 use Rattle.te_search.proofs.Working.{map_both, by_more, low_more, at_end, counted_more, ends_more, ups_more}
@@ -24,7 +25,7 @@ use Rattle.te_search.proofs.EventsAdded as added
 
 -- ---- one more event
 
-pub more_among : (g : List Member) (new : Member) → IsAmong g (g ++ (new ∷ []))
+pub more_among : (g : List Member) (new : Member) → EventsAreAmong g (g ++ (new ∷ []))
 more_among [] new t e h = cc
 more_among (m ∷ ms) new t e h = go (more_among ms new t e) (nat_eq m.thread t) h
   where
@@ -101,29 +102,29 @@ plant_search g paths waits finals t w new s = record {
           (not_branched p l (holds_one (branched p l) (planted t) b))
     ]
 
-pub planted_work : (old new : Work) (m : Member) → IsWhole (lists_of old) old.groups → new.store.events ≡ old.store.events ++ (m ∷ []) → member_of m.thread old.store.events ≡ None
-    → new.store.paths ≡ old.store.paths ++ (planted m.thread ∷ []) → IsStore new.store.events new.store.paths → map told new.moves.items ≡ map told old.moves.items ++ ([] ∷ [])
+pub planted_work : (old new : Work) (m : Member) → SearchIsWhole (lists_of old) old.groups → new.store.events ≡ old.store.events ++ (m ∷ []) → member_of m.thread old.store.events ≡ None
+    → new.store.paths ≡ old.store.paths ++ (planted m.thread ∷ []) → IsStore new.store.events new.store.paths → map label_told new.moves.items ≡ map label_told old.moves.items ++ ([] ∷ [])
     → new.pending.items ≡ length old.store.paths ∷ [] → new.waiting ≡ old.waiting → new.finals ≡ old.finals → new.groups ≡ old.groups → IsWork new
 planted_work old new m w ev none ps st mo pe wa fi gr = record {
-  search = subst₂ (λ g p. IsSearch g p (paths_by p new.pending.items) (paths_by p (paths_of new.waiting)) (paths_by p (numbers_of new.finals))) (sym ev) (sym ps)
-      (subst (λ k. IsSearch h paths (paths_by paths k) (paths_by paths (paths_of new.waiting)) (paths_by paths (numbers_of new.finals))) (sym pe)
-      (subst (λ k. IsSearch h paths (path_at paths (length old.store.paths) ∷ []) (paths_by paths (paths_of k)) (paths_by paths (numbers_of new.finals))) (sym wa)
-      (subst (λ k. IsSearch h paths (path_at paths (length old.store.paths) ∷ []) (paths_by paths (paths_of old.waiting)) (paths_by paths (numbers_of k))) (sym fi)
-      (subst₂ (λ a b. IsSearch h paths (path_at paths (length old.store.paths) ∷ []) a b) (sym (by_more old.store.paths own (paths_of old.waiting) w.waits_low))
+  search = subst₂ (λ g p. IsSearch g p (paths_by p new.pending.items) (paths_by p (paths_kept new.waiting)) (paths_by p (numbers_of new.finals))) (sym ev) (sym ps)
+      (subst (λ k. IsSearch h paths (paths_by paths k) (paths_by paths (paths_kept new.waiting)) (paths_by paths (numbers_of new.finals))) (sym pe)
+      (subst (λ k. IsSearch h paths (path_at paths (length old.store.paths) ∷ []) (paths_by paths (paths_kept k)) (paths_by paths (numbers_of new.finals))) (sym wa)
+      (subst (λ k. IsSearch h paths (path_at paths (length old.store.paths) ∷ []) (paths_by paths (paths_kept old.waiting)) (paths_by paths (numbers_of k))) (sym fi)
+      (subst₂ (λ a b. IsSearch h paths (path_at paths (length old.store.paths) ∷ []) a b) (sym (by_more old.store.paths own (paths_kept old.waiting) w.waits_low))
       (sym (by_more old.store.paths own (numbers_of old.finals) w.finals_low))
       (subst (λ x. IsSearch h paths (x ∷ []) waits finals) (sym (at_end old.store.paths (planted m.thread) []))
       (plant_search h old.store.paths waits finals m.thread (added.search_more old.store.events h old.store.paths [] waits finals among w.search)
       (unplanted_yet old.store.events old.store.paths m.thread w.search.store none) store))))));
   pending_low = subst₂ AreLow (sym ps) (sym pe) last;
-  waits_low = subst (λ k. AreLow new.store.paths (paths_of k)) (sym wa)
-      (subst (λ p. AreLow p (paths_of old.waiting)) (sym ps) (low_more old.store.paths own (paths_of old.waiting) w.waits_low));
+  waits_low = subst (λ k. AreLow new.store.paths (paths_kept k)) (sym wa)
+      (subst (λ p. AreLow p (paths_kept old.waiting)) (sym ps) (low_more old.store.paths own (paths_kept old.waiting) w.waits_low));
   finals_low = subst (λ k. AreLow new.store.paths (numbers_of k)) (sym fi)
       (subst (λ p. AreLow p (numbers_of old.finals)) (sym ps)
       (low_more old.store.paths own (numbers_of old.finals) w.finals_low));
   finals_told = subst (TellThreads new.store.paths) (sym fi)
       (subst (λ p. TellThreads p old.finals) (sym ps) (told_more old.store.paths own old.finals w.finals_low w.finals_told));
-  ends = subst₂ (λ g p. AreEnds g p new.waiting) (sym ev) (sym ps)
-      (subst (AreEnds h paths) (sym wa) (added.ends_more old.store.events h paths old.waiting among
+  ends = subst₂ (λ g p. EndsStand g p new.waiting) (sym ev) (sym ps)
+      (subst (EndsStand h paths) (sym wa) (added.ends_more old.store.events h paths old.waiting among
       (ends_more old.store.events old.store.paths own old.waiting w.waits_low w.ends)));
   told_are = mo ∙ ap (λ l. l ++ ([] ∷ [])) w.told_are ∙ sym (map_both labels_of_move old.store.paths own) ∙ ap (map labels_of_move) (sym ps);
   counted = subst₂ (λ g p. IsCounted g p (paths_by p (numbers_of new.finals)) new.groups) (sym ev) (sym ps)
@@ -142,12 +143,12 @@ planted_work old new m w ev none ps st mo pe wa fi gr = record {
     paths = old.store.paths ++ own
 
     waits : List Path
-    waits = paths_by old.store.paths (paths_of old.waiting)
+    waits = paths_by old.store.paths (paths_kept old.waiting)
 
     finals : List Path
     finals = paths_by old.store.paths (numbers_of old.finals)
 
-    among : IsAmong old.store.events h
+    among : EventsAreAmong old.store.events h
     among = more_among old.store.events m
 
     store : IsStore h paths

@@ -9,7 +9,7 @@ use Rattle.te_terms.proofs.Settles.{settled_already, settled_after}
 use Rattle.te_terms.proofs.OneThing.{choice_rests, send_is_alone, receive_is_alone}
 use Rattle.te_trail.specs.Paths.{Path, planted, branched, sent, got, thread_of, own_labels, IsAbove, OnOneLine}
 use Rattle.te_trail.specs.Clocks.{deeper, clock_of, Agree, IsSound}
-use Rattle.te_trail.specs.States.{chosen, Ends, met, state_of}
+use Rattle.te_trail.specs.States.{chosen, MovedEnds, members_met, path_state}
 use Rattle.te_trail.specs.Views.{view_of}
 use Rattle.te_trail.proofs.Lines.{above_self}
 use Rattle.te_trail.proofs.ClockLaws.{eq_same, eq_apart, deeper_either, Agrees, agree_by}
@@ -107,8 +107,8 @@ agree_planted s t ne = record {
 -- ---- every path has gone on
 pub record Full (g : List Member) (made : Path → Type 0) : Type 0 where
   pub plants : (t : ℕ) (e : Member) → member_of t g ≡ Some e → made (planted t)
-  pub branches : (p : Path) (l : Bool) (e u : Member) → made p → state_of g p ≡ Some e → chosen l e ≡ Some u → made (branched p l)
-  pub joins : (p q : Path) (a b : Member) (r : Ends) → made p → made q → Agrees p q → state_of g p ≡ Some a → state_of g q ≡ Some b → met a b ≡ Some r → made (sent p q) × made (got p q)
+  pub branches : (p : Path) (l : Bool) (e u : Member) → made p → path_state g p ≡ Some e → chosen l e ≡ Some u → made (branched p l)
+  pub joins : (p q : Path) (a b : Member) (r : MovedEnds) → made p → made q → Agrees p q → path_state g p ≡ Some a → path_state g q ≡ Some b → members_met a b ≡ Some r → made (sent p q) × made (got p q)
 
 -- one made path for each member, where a after with the labels w has come to h
 pub record Covers (g : List Member) (made : Path → Type 0) (h : List Member) (w : List Label) : Type 0 where
@@ -117,8 +117,8 @@ pub record Covers (g : List Member) (made : Path → Type 0) (h : List Member) (
   pub sounds : (t : ℕ) → IsSound (path t)
   pub agrees : (s t : ℕ) → nat_eq s t ≡ false → Agrees (path s) (path t)
   pub told : (t : ℕ) → own_labels (path t) ≡ view_of t w
-  pub stands : (t : ℕ) (e : Member) → member_of t h ≡ Some e → made (path t) × (state_of g (path t) ≡ Some (settled e))
-  pub kept : (t : ℕ) → (path t ≡ planted t) ⊎ ((e : Member) × (state_of g (path t) ≡ Some e))
+  pub stands : (t : ℕ) (e : Member) → member_of t h ≡ Some e → made (path t) × (path_state g (path t) ≡ Some (settled e))
+  pub kept : (t : ℕ) → (path t ≡ planted t) ⊎ ((e : Member) × (path_state g (path t) ≡ Some e))
 
 pub covers_start : (g : List Member) (made : Path → Type 0) → Full g made → Covers g made g []
 covers_start g made full = record {
@@ -134,7 +134,7 @@ covers_start g made full = record {
 chosen_waits : (l : Bool) (m u : Member) → chosen l m ≡ Some u → settled m ≡ m
 chosen_waits l m u e = settled_already m (choice_rests m l m.term (mapped (at_term m) (after_choice l m.term) u e).0 (mapped (at_term m) (after_choice l m.term) u e).1).0.0
 
-met_waits : (s r : Member) (p : Ends) → met s r ≡ Some p → (settled s ≡ s) × (settled r ≡ r)
+met_waits : (s r : Member) (p : MovedEnds) → members_met s r ≡ Some p → (settled s ≡ s) × (settled r ≡ r)
 met_waits s r p e =
     let h : Handing s r p = handing s r p e in
     (settled_already s (send_is_alone s s.term h.message h.sends).0.0, settled_already r (receive_is_alone r r.term h.channel h.receives).0.0)
@@ -151,23 +151,23 @@ covers_quiet g made h w c i t u tu at q = record {
   kept = c.kept;
 }
   where
-    go : (k : ℕ) (e : Member) (o : Bool) → nat_eq k i ≡ o → member_of k (with_member u h) ≡ Some e → made (c.path k) × (state_of g (c.path k) ≡ Some (settled e))
+    go : (k : ℕ) (e : Member) (o : Bool) → nat_eq k i ≡ o → member_of k (with_member u h) ≡ Some e → made (c.path k) × (path_state g (c.path k) ≡ Some (settled e))
     go k e true n now =
         let one : k ≡ i = eqb-true k i n in
         let here : member_of i (with_member u h) ≡ Some u = put_here i h t u tu at in
         let here2 : member_of i (with_member u h) ≡ Some e = subst (λ m. member_of m (with_member u h) ≡ Some e) one now in
         let same : u ≡ e = cc in
-        let was : made (c.path i) × (state_of g (c.path i) ≡ Some (settled t)) = c.stands i t at in
-        subst (λ m. made (c.path m) × (state_of g (c.path m) ≡ Some (settled e))) (sym one) (was.0, was.1 ∙ ap Some (sym (settled_after t u q) ∙ ap settled same))
+        let was : made (c.path i) × (path_state g (c.path i) ≡ Some (settled t)) = c.stands i t at in
+        subst (λ m. made (c.path m) × (path_state g (c.path m) ≡ Some (settled e))) (sym one) (was.0, was.1 ∙ ap Some (sym (settled_after t u q) ∙ ap settled same))
     go k e false n now = c.stands k e (sym (put_other k i h u tu n) ∙ now)
 
 covers_choice : (g : List Member) (made : Path → Type 0) → Full g made → (h : List Member) (w : List Label) → Covers g made h w → (i : ℕ) (l : Bool) (t u : Member) → u.thread ≡ i
     → member_of i h ≡ Some t → chosen l t ≡ Some u → Covers g made (with_member u h) (w ++ (choice i l ∷ []))
 covers_choice g made full h w c i l t u tu at ch =
-    let was : made (c.path i) × (state_of g (c.path i) ≡ Some (settled t)) = c.stands i t at in
-    let here : state_of g (c.path i) ≡ Some t = was.1 ∙ ap Some (chosen_waits l t u ch) in
+    let was : made (c.path i) × (path_state g (c.path i) ≡ Some (settled t)) = c.stands i t at in
+    let here : path_state g (c.path i) ≡ Some t = was.1 ∙ ap Some (chosen_waits l t u ch) in
     let fresh : made (branched (c.path i) l) = full.branches (c.path i) l t u was.0 here ch in
-    let now : state_of g (branched (c.path i) l) ≡ Some (settled u) = rw (here, ch) refl in
+    let now : path_state g (branched (c.path i) l) ≡ Some (settled u) = rw (here, ch) refl in
     record {
       path = λ k. cond (nat_eq k i) (branched (c.path i) l) (c.path k);
       threads = λ k. thr k (nat_eq k i) refl;
@@ -178,8 +178,8 @@ covers_choice g made full h w c i l t u tu at ch =
       kept = λ k. kpt (settled u, now) k (nat_eq k i) refl;
     }
   where
-    kpt : ((e : Member) × (state_of g (branched (c.path i) l) ≡ Some e)) → (k : ℕ) (o : Bool) → nat_eq k i ≡ o → (cond o (branched (c.path i) l) (c.path k) ≡ planted k) ⊎
-        ((e : Member) × (state_of g (cond o (branched (c.path i) l) (c.path k)) ≡ Some e))
+    kpt : ((e : Member) × (path_state g (branched (c.path i) l) ≡ Some e)) → (k : ℕ) (o : Bool) → nat_eq k i ≡ o → (cond o (branched (c.path i) l) (c.path k) ≡ planted k) ⊎
+        ((e : Member) × (path_state g (cond o (branched (c.path i) l) (c.path k)) ≡ Some e))
     kpt f k true w = inr f
     kpt f k false w = c.kept k
 
@@ -202,8 +202,8 @@ covers_choice g made full h w c i l t u tu at ch =
         (ap₂ (λ a j. a ++ (choice j l ∷ [])) (c.told i) (c.threads i) ∙ ap (λ x. view_of i w ++ x) (sym (view_choice i l)) ∙ sym (view_append i w (choice i l ∷ [])))
     tld k false f = c.told k ∙ sym (append-nil (view_of k w)) ∙ ap (λ x. view_of k w ++ x) (sym (view_choice_other k i l f)) ∙ sym (view_append k w (choice i l ∷ []))
 
-    stn : made (branched (c.path i) l) → state_of g (branched (c.path i) l) ≡ Some (settled u) → (k : ℕ) (e : Member) (o : Bool) → nat_eq k i ≡ o
-        → member_of k (with_member u h) ≡ Some e → made (cond o (branched (c.path i) l) (c.path k)) × (state_of g (cond o (branched (c.path i) l) (c.path k)) ≡ Some (settled e))
+    stn : made (branched (c.path i) l) → path_state g (branched (c.path i) l) ≡ Some (settled u) → (k : ℕ) (e : Member) (o : Bool) → nat_eq k i ≡ o
+        → member_of k (with_member u h) ≡ Some e → made (cond o (branched (c.path i) l) (c.path k)) × (path_state g (cond o (branched (c.path i) l) (c.path k)) ≡ Some (settled e))
     stn fresh st k e true f now =
         let here : member_of i (with_member u h) ≡ Some u = put_here i h t u tu at in
         let here2 : member_of i (with_member u h) ≡ Some e = subst (λ m. member_of m (with_member u h) ≡ Some e) (eqb-true k i f) now in
@@ -215,17 +215,17 @@ covers_choice g made full h w c i l t u tu at ch =
 abbrev paired : Path → Path → Bool → Bool → Path → Path
 paired s r o v x = cond o (sent s r) (cond v (got s r) x)
 
-covers_meet : (g : List Member) (made : Path → Type 0) → Full g made → (h : List Member) (w : List Label) → Covers g made h w → (i j : ℕ) (a b : Member) (p : Ends)
-    → nat_eq i j ≡ false → p.sender.thread ≡ i → p.receiver.thread ≡ j → member_of i h ≡ Some a → member_of j h ≡ Some b → met a b ≡ Some p
+covers_meet : (g : List Member) (made : Path → Type 0) → Full g made → (h : List Member) (w : List Label) → Covers g made h w → (i j : ℕ) (a b : Member) (p : MovedEnds)
+    → nat_eq i j ≡ false → p.sender.thread ≡ i → p.receiver.thread ≡ j → member_of i h ≡ Some a → member_of j h ≡ Some b → members_met a b ≡ Some p
     → Covers g made (with_member p.receiver (with_member p.sender h)) (w ++ (meeting i j ∷ []))
 covers_meet g made full h w c i j a b p ne ti tj ata atb m =
-    let wa : made (c.path i) × (state_of g (c.path i) ≡ Some (settled a)) = c.stands i a ata in
-    let wb : made (c.path j) × (state_of g (c.path j) ≡ Some (settled b)) = c.stands j b atb in
+    let wa : made (c.path i) × (path_state g (c.path i) ≡ Some (settled a)) = c.stands i a ata in
+    let wb : made (c.path j) × (path_state g (c.path j) ≡ Some (settled b)) = c.stands j b atb in
     let still : (settled a ≡ a) × (settled b ≡ b) = met_waits a b p m in
-    let ha : state_of g (c.path i) ≡ Some a = wa.1 ∙ ap Some still.0 in
-    let hb : state_of g (c.path j) ≡ Some b = wb.1 ∙ ap Some still.1 in
+    let ha : path_state g (c.path i) ≡ Some a = wa.1 ∙ ap Some still.0 in
+    let hb : path_state g (c.path j) ≡ Some b = wb.1 ∙ ap Some still.1 in
     let fresh : made (sent (c.path i) (c.path j)) × made (got (c.path i) (c.path j)) = full.joins (c.path i) (c.path j) a b p wa.0 wb.0 (c.agrees i j ne) ha hb m in
-    let now : (state_of g (sent (c.path i) (c.path j)) ≡ Some (settled p.sender)) × (state_of g (got (c.path i) (c.path j)) ≡ Some (settled p.receiver)) = state_after g (c.path i)
+    let now : (path_state g (sent (c.path i) (c.path j)) ≡ Some (settled p.sender)) × (path_state g (got (c.path i) (c.path j)) ≡ Some (settled p.receiver)) = state_after g (c.path i)
     (c.path j) a b p ha hb m in
     record {
       path = λ k. paired (c.path i) (c.path j) (nat_eq k i) (nat_eq k j) (c.path k);
@@ -237,8 +237,8 @@ covers_meet g made full h w c i j a b p ne ti tj ata atb m =
       kept = λ k. kpt (settled p.sender, now.0) (settled p.receiver, now.1) k (nat_eq k i) (nat_eq k j);
     }
   where
-    kpt : ((e : Member) × (state_of g (sent (c.path i) (c.path j)) ≡ Some e)) → ((e : Member) × (state_of g (got (c.path i) (c.path j)) ≡ Some e)) → (k : ℕ) (o v : Bool)
-        → (paired (c.path i) (c.path j) o v (c.path k) ≡ planted k) ⊎ ((e : Member) × (state_of g (paired (c.path i) (c.path j) o v (c.path k)) ≡ Some e))
+    kpt : ((e : Member) × (path_state g (sent (c.path i) (c.path j)) ≡ Some e)) → ((e : Member) × (path_state g (got (c.path i) (c.path j)) ≡ Some e)) → (k : ℕ) (o v : Bool)
+        → (paired (c.path i) (c.path j) o v (c.path k) ≡ planted k) ⊎ ((e : Member) × (path_state g (paired (c.path i) (c.path j) o v (c.path k)) ≡ Some e))
     kpt f h k true v = inr f
     kpt f h k false true = inr h
     kpt f h k false false = c.kept k
@@ -296,10 +296,10 @@ covers_meet g made full h w c i j a b p ne ti tj ata atb m =
     at_j : member_of j (with_member p.receiver (with_member p.sender h)) ≡ Some p.receiver
     at_j = put_here j (with_member p.sender h) b p.receiver tj (put_other j i h p.sender ti (eq_apart i j ne) ∙ atb)
 
-    stn : made (sent (c.path i) (c.path j)) × made (got (c.path i) (c.path j)) → (state_of g (sent (c.path i) (c.path j)) ≡ Some (settled p.sender)) ×
-        (state_of g (got (c.path i) (c.path j)) ≡ Some (settled p.receiver))
+    stn : made (sent (c.path i) (c.path j)) × made (got (c.path i) (c.path j)) → (path_state g (sent (c.path i) (c.path j)) ≡ Some (settled p.sender)) ×
+        (path_state g (got (c.path i) (c.path j)) ≡ Some (settled p.receiver))
         → (k : ℕ) (e : Member) (o : Bool) → nat_eq k i ≡ o → (v : Bool) → nat_eq k j ≡ v → member_of k (with_member p.receiver (with_member p.sender h)) ≡ Some e
-        → made (paired (c.path i) (c.path j) o v (c.path k)) × (state_of g (paired (c.path i) (c.path j) o v (c.path k)) ≡ Some (settled e))
+        → made (paired (c.path i) (c.path j) o v (c.path k)) × (path_state g (paired (c.path i) (c.path j) o v (c.path k)) ≡ Some (settled e))
     stn fresh now k e true n v f at =
         let there : member_of i (with_member p.receiver (with_member p.sender h)) ≡ Some e = subst (λ q. member_of q (with_member p.receiver (with_member p.sender h)) ≡ Some e) (eqb-true k i n) at in
         let here : member_of i (with_member p.receiver (with_member p.sender h)) ≡ Some p.sender = at_i in

@@ -7,8 +7,9 @@ use Rattle.te_trail.specs.Paths.{Path, thread_of}
 use Rattle.te_trail.specs.Stores.{Holds}
 use Rattle.te_search.specs.declared.finals.Final.{Final}
 use Rattle.te_search.specs.Finals.{numbers_of, is_in, numbers_in, TellThreads}
-use Rattle.te_search.specs.Searching.{path_at, paths_by, NoneTwice}
-use Rattle.te_search.specs.Assemblies.{Stand}
+use Rattle.te_search.specs.Searching.{paths_by, NoPathTwice}
+use Rattle.te_trail.specs.Records.{path_at}
+use Rattle.te_search.specs.Assemblies.{AssemblyStand}
 
 -- ---- threads stay told
 
@@ -64,19 +65,19 @@ kept_path paths take_it (f ∷ finals) x h = go (take_it f) (kept_path paths tak
     go false ih r = inr (ih r)
 
 kept_once : (paths : List Path) (take_it : Final → Bool) (finals : List Final)
-    → NoneTwice (paths_by paths (numbers_of finals)) → NoneTwice (paths_by paths (numbers_of (filter take_it finals)))
+    → NoPathTwice (paths_by paths (numbers_of finals)) → NoPathTwice (paths_by paths (numbers_of (filter take_it finals)))
 kept_once paths take_it [] h = h
 kept_once paths take_it (f ∷ finals) h = go (take_it f) (kept_once paths take_it finals h.1)
   where
-    go : (b : Bool) → NoneTwice (paths_by paths (numbers_of (filter take_it finals)))
-        → NoneTwice (paths_by paths (numbers_of (cond b (f ∷ filter take_it finals) (filter take_it finals))))
+    go : (b : Bool) → NoPathTwice (paths_by paths (numbers_of (filter take_it finals)))
+        → NoPathTwice (paths_by paths (numbers_of (cond b (f ∷ filter take_it finals) (filter take_it finals))))
     go true rest = ((λ r. h.0 (kept_path paths take_it finals (path_at paths f.path) r)), rest)
     go false rest = rest
 
 -- assembly stands on a bucket as it does on all final paths
-pub stand_in : (g : List Member) (paths : List Path) (threads : List ℕ) (finals : List Final) (bucket : ℕ) (there : List ℕ) → Stand g paths threads (numbers_of finals)
-    → there ≡ numbers_in bucket finals → Stand g paths threads there
-stand_in g paths threads finals bucket there s is = subst (Stand g paths threads) (sym is) (record {
+pub stand_in : (g : List Member) (paths : List Path) (threads : List ℕ) (finals : List Final) (bucket : ℕ) (there : List ℕ) → AssemblyStand g paths threads (numbers_of finals)
+    → there ≡ numbers_in bucket finals → AssemblyStand g paths threads there
+stand_in g paths threads finals bucket there s is = subst (AssemblyStand g paths threads) (sym is) (record {
   store = s.store;
   ups = s.ups;
   closed = s.closed;

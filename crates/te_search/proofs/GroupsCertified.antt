@@ -16,7 +16,7 @@ use Rattle.te_cert.proofs.Places.{member_stands}
 use Rattle.te_cert.proofs.PlacesOfThreads.{found_at}
 use Rattle.te_cert.proofs.ReductionsPlay.{reductions_play}
 use Rattle.te_trail.specs.Paths.{Path, planted, branched, sent, got, thread_of}
-use Rattle.te_trail.specs.States.{chosen, state_of}
+use Rattle.te_trail.specs.States.{chosen, path_state}
 use Rattle.te_trail.specs.Stores.{Holds, labels_of_move, labels_of, any_rests_on}
 use Rattle.te_trail.proofs.PastsChain.{then_some}
 use Rattle.te_search.specs.Assemblies.{joint}
@@ -62,7 +62,7 @@ outcomes_end f (m ∷ ms) (o ∷ os) own ((n, fn, on), rest) =
     let one : m ≡ n = (let k : Some m ≡ Some n = sym (own 0 m refl) ∙ fn in cc) in
     ap₂ and_outcome (ap (λ k. outcome_of k.term) one ∙ on) (outcomes_end f ms os (λ i k h. own (suc i) k h) rest)
 
-ends_by : (g : List steps.Member) (ps : List Path) (f : ℕ → Option steps.Member) → ((t : ℕ) (x : Path) → joint ps t ≡ Some x → f t ≡ state_of g x)
+ends_by : (g : List steps.Member) (ps : List Path) (f : ℕ → Option steps.Member) → ((t : ℕ) (x : Path) → joint ps t ≡ Some x → f t ≡ path_state g x)
     → (ts : List ℕ) (os : List Outcome) → EndSo g ps ts os → EndsBy f ts os
 ends_by g ps f by [] [] e = tt
 ends_by g ps f by (t ∷ ts) (o ∷ os) e = ((e.0.member, by t e.0.path e.0.named ∙ e.0.state, e.0.ends), ends_by g ps f by ts os e.1)

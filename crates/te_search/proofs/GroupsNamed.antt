@@ -9,7 +9,7 @@ use Rattle.te_trail.specs.Paths.{Path, planted, branched, sent, got, thread_of, 
 use Rattle.te_trail.specs.Clocks.{IsSound}
 use Rattle.te_trail.specs.States.{HasState}
 use Rattle.te_trail.specs.Stores.{Holds, with_moves, IsStore, any_rests_on, trail_of, joint_trail}
-use Rattle.te_trail.specs.Views.{view_of, Begins, HasPast, Name, name_of, IsPathName, IsGroupName}
+use Rattle.te_trail.specs.Views.{view_of, Begins, HasPast, Name, path_name_of, IsPathName, IsGroupName}
 use Rattle.te_trail.specs.Together.{ChainOfAll}
 use Rattle.te_trail.proofs.Lines.{rests_move, rests_trans, above_rests, rests_made}
 use Rattle.te_trail.proofs.MembersMove.{found_thread}
@@ -18,10 +18,10 @@ use Rattle.te_trail.proofs.PastsChain.{pasts_true, true_pasts, fits_past, sound_
 use Rattle.te_trail.proofs.OwnMoves.{own_depth, HasEvenMeetings}
 use Rattle.te_trail.proofs.AgreeIsExact.{known_in, near}
 use Rattle.te_trail.proofs.NamesApart.{pasts_together, known_by_own, has_name, apart_by_name}
-use Rattle.te_search.specs.Groups.{Partial, IsPartial, AreOne, AreApart, AreTried}
-use Rattle.te_search.specs.Bounds.{AreDistinct}
-use Rattle.te_search.specs.Searching.{NoneTwice}
-use Rattle.te_search.specs.Findings.{HasNames}
+use Rattle.te_search.specs.Groups.{Partial, IsPartial, AreOne, NoneIsAnother, AreTried}
+use Rattle.te_search.specs.Bounds.{NoNameTwice}
+use Rattle.te_search.specs.Searching.{NoPathTwice}
+use Rattle.te_search.specs.Findings.{CountsNames}
 use Rattle.te_search.proofs.ListLaws.{once_by_places}
 use Rattle.te_search.proofs.PartialLaws.{partial_team}
 use Rattle.te_search.proofs.Trying.{state_member}
@@ -29,11 +29,11 @@ use Rattle.te_search.proofs.NamesCounted.{all_at}
 use Rattle.te_search.proofs.NamesAreFew.{all_two}
 
 abbrev path_name : List Member → List Path → Path → Name
-path_name g paths p = name_of g (thread_of p) (trail_of paths p)
+path_name g paths p = path_name_of g (thread_of p) (trail_of paths p)
 
 -- the start's thread, and what each member has done in the joined past
 abbrev group_name : List Member → List Path → Partial → Name
-group_name g paths q = name_of g (thread_of q.start) (joint_trail paths q.members)
+group_name g paths q = path_name_of g (thread_of q.start) (joint_trail paths q.members)
 
 -- what is known of a path whose move the joined past has
 record Known (paths : List Path) (q : Partial) (x : Path) : Type 0 where
@@ -179,7 +179,7 @@ module _ (g : List Member) (paths : List Path) (store : IsStore g paths) where
   other_path x hx (y ∷ ys) made none =
       ((λ e. none (inl (apart_by_name g paths x y store hx (made y (inl refl)) e))), other_path x hx ys (λ z h. made z (inr h)) (λ h. none (inr h)))
 
-  paths_distinct : (xs : List Path) → ((x : Path) → Holds xs x → Holds paths x) → NoneTwice xs → AreDistinct (map (path_name g paths) xs)
+  paths_distinct : (xs : List Path) → ((x : Path) → Holds xs x → Holds paths x) → NoPathTwice xs → NoNameTwice (map (path_name g paths) xs)
   paths_distinct [] made once = tt
   paths_distinct (x ∷ xs) made once = (other_path x (made x (inl refl)) xs (λ y h. made y (inr h)) once.0, paths_distinct xs (λ y h. made y (inr h)) once.1)
 
@@ -191,7 +191,7 @@ module _ (g : List Member) (paths : List Path) (store : IsStore g paths) where
   groups_named [] a = tt
   groups_named (q ∷ qs) a = (group_named q a.0, groups_named qs a.1)
 
-  groups_distinct : (tried : List Partial) → AllByRecursion (IsPartial g paths) tried → AreApart tried → AreDistinct (map (group_name g paths) tried)
+  groups_distinct : (tried : List Partial) → AllByRecursion (IsPartial g paths) tried → NoneIsAnother tried → NoNameTwice (map (group_name g paths) tried)
   groups_distinct [] a once = tt
   groups_distinct (q ∷ qs) a once = (
     all_mapped (λ n. group_name g paths q ≢ n) (group_name g paths) qs
@@ -200,7 +200,7 @@ module _ (g : List Member) (paths : List Path) (store : IsStore g paths) where
   )
 
 pub have_names : (parked : List Parked) (made : List Path) (tried : List Partial) → IsStore (as_group parked) made → AreTried (as_group parked) made tried
-    → HasNames parked (length made) (length tried)
+    → CountsNames parked (length made) (length tried)
 have_names parked made tried store are = record {
   path_names = map (path_name (as_group parked) made) made;
   are_of_paths = paths_named (as_group parked) made store made (λ x h. h);

@@ -3,7 +3,7 @@ use Rattle.std.proofs.Common.{◌≡◌, ◌⊎◌, inl, inr, ℕ, List, [], ◌
 use Rattle.te_terms.specs.Steps.{Member}
 use Rattle.te_terms.specs.Joint.{choice, meeting, Action, member_of, after, labels, part}
 use Rattle.te_trail.specs.Paths.{Path, planted, branched, sent, got, thread_of, move_of, RestsOn}
-use Rattle.te_trail.specs.States.{state_of}
+use Rattle.te_trail.specs.States.{path_state}
 use Rattle.te_trail.specs.Stores.{Holds, with_moves, IsStore, labels_of_move, labels_of, any_rests_on}
 use Rattle.te_trail.proofs.Lines.{rests_move, rests_made}
 use Rattle.te_trail.proofs.MovesChain.{store_shut}
@@ -98,7 +98,7 @@ pub record GroupOf (g : List Member) (store ps : List Path) (start : Path) : Typ
   pub end : List Member
   pub reached : after actions (part (taken ps) g) ≡ Some end
   pub labelled : labels actions ≡ labels_of (any_rests_on ps) store
-  pub stands : (y : Path) → Holds ps y → member_of (thread_of y) end ≡ state_of g y
+  pub stands : (y : Path) → Holds ps y → member_of (thread_of y) end ≡ path_state g y
   pub tight : (side : ℕ → Bool) → Uncrossed side (labels_of (any_rests_on ps) store) → (t : ℕ) → taken ps t ≡ true → side t ≡ side (thread_of start)
 
 pub sound : (g : List Member) (store : List Path) → IsStore g store → (start : Path) (ps : List Path) → Agreeing g ps → ((y : Path) → Holds ps y → Holds store y) → Reaches start ps

@@ -7,7 +7,7 @@ use Rattle.te_terms.specs.declared.event.Parked.{Parked}
 use Rattle.te_terms.specs.Steps.{Member}
 use Rattle.te_terms.specs.Joint.{RiseFrom, IsGroup, member_of, as_member, as_group}
 use Rattle.te_search.specs.Findings.{HasThread, put_in, without}
-use Rattle.te_search.specs.Stacks.{IsPlaceFor, IsPlaceWith, IsAmong}
+use Rattle.te_search.specs.Stacks.{IsPlaceFor, IsPlaceWith, EventsAreAmong}
 
 -- ---- one more
 
@@ -55,7 +55,7 @@ has_by_member (p ∷ parked) t e h = go (has_by_member parked t e) (nat_eq p.thr
     go ih true w h = inl (eqb-true p.thread t w)
     go ih false w h = inr (ih h)
 
-pub put_among : (new : Parked) (parked : List Parked) → (¬ HasThread parked new.thread) → IsAmong (as_group parked) (as_group (put_in new parked))
+pub put_among : (new : Parked) (parked : List Parked) → (¬ HasThread parked new.thread) → EventsAreAmong (as_group parked) (as_group (put_in new parked))
 put_among new parked none t e h = found parked (λ s. none (subst (HasThread parked) (sym s) (has_by_member parked t e h))) h
   where
     found : (parked : List Parked) → (new.thread ≢ t) → member_of t (as_group parked) ≡ Some e → member_of t (as_group (put_in new parked)) ≡ Some e

@@ -10,13 +10,14 @@ use Rattle.te_trail.specs.Trails.{Trail, FaceEachOther}
 use Rattle.te_trail.specs.Clocks.{Agree, IsSound}
 use Rattle.te_trail.proofs.ClockLaws.{agrees_by, agree_by}
 use Rattle.te_trail.proofs.AgreeIsExact.{agree_flip}
-use Rattle.te_trail.specs.States.{state_of}
+use Rattle.te_trail.specs.States.{path_state}
 use Rattle.te_pair.specs.declared.end.End.{End}
-use Rattle.te_pair.specs.Ends.{paths_of, IsKept, is_at, paths_at}
+use Rattle.te_pair.specs.Ends.{paths_kept, PathIsKept, is_at, paths_at}
 use Rattle.te_pair.proofs.PartnersFound.{at_told, at_is}
 use Rattle.te_search.specs.declared.work.Work.{Work}
-use Rattle.te_search.specs.Searching.{path_at, paths_by, AreUp}
-use Rattle.te_search.specs.Works.{told, pending_of, IsWorkOf, IsWorkOn, CanMeet, met_paths, StandsAs, MeetsOne, others_of, IsMeeting}
+use Rattle.te_search.specs.Searching.{paths_by, AreUp}
+use Rattle.te_trail.specs.Records.{path_at}
+use Rattle.te_search.specs.Works.{label_told, pending_of, IsWorkOf, IsWorkOn, CanMeet, met_paths, WaitsOn, MeetsOne, others_of, IsMeeting}
 use Rattle.te_search.proofs.ListLaws.{holds_left, holds_right, holds_which, holds_at}
 use Rattle.te_search.proofs.Trying.{get_some, path_there}
 use Rattle.te_search.proofs.Trying as trying
@@ -42,7 +43,7 @@ end_of_other (d ∷ ends) channel sends j q e = go (is_at channel sends d) refl 
     later t = record { place = suc t.place; end = t.end; is = t.is; path = t.path; channel_is = t.channel_is; sends_is = t.sends_is }
 
     go : (b : Bool) → is_at channel sends d ≡ b → ((i : ℕ) → slice_get (paths_at channel sends ends) i ≡ Some q → IsThere ends channel sends q) → (j : ℕ)
-        → slice_get (paths_of (cond b (d ∷ filter (is_at channel sends) ends) (filter (is_at channel sends) ends))) j ≡ Some q → IsThere (d ∷ ends) channel sends q
+        → slice_get (paths_kept (cond b (d ∷ filter (is_at channel sends) ends) (filter (is_at channel sends) ends))) j ≡ Some q → IsThere (d ∷ ends) channel sends q
     go true w ih zero e = record { place = 0; end = d; is = refl; path = cc; channel_is = (at_told channel sends d w).0; sends_is = (at_told channel sends d w).1 }
     go true w ih (suc j) e = later (ih j e)
     go false w ih j e = later (ih j e)
@@ -52,13 +53,13 @@ pub other_of_end : (ends : List End) (channel : ℕ) (sends : Bool) (i : ℕ) (e
 other_of_end [] channel sends i e h c s = cc
 other_of_end (d ∷ ends) channel sends zero e h c s = (let one : d ≡ e = cc in go (is_at channel sends d) (ap (is_at channel sends) one ∙ at_is channel sends e c s) one)
   where
-    go : (b : Bool) → b ≡ true → d ≡ e → (j : ℕ) × (slice_get (paths_of (cond b (d ∷ filter (is_at channel sends) ends) (filter (is_at channel sends) ends))) j ≡ Some e.path)
+    go : (b : Bool) → b ≡ true → d ≡ e → (j : ℕ) × (slice_get (paths_kept (cond b (d ∷ filter (is_at channel sends) ends) (filter (is_at channel sends) ends))) j ≡ Some e.path)
     go true w one = (0, ap (λ k. Some k.path) one)
     go false w one = cc
 other_of_end (d ∷ ends) channel sends (suc i) e h c s = go (is_at channel sends d) (other_of_end ends channel sends i e h c s)
   where
     go : (b : Bool) → (j : ℕ) × (slice_get (paths_at channel sends ends) j ≡ Some e.path)
-        → (j : ℕ) × (slice_get (paths_of (cond b (d ∷ filter (is_at channel sends) ends) (filter (is_at channel sends) ends))) j ≡ Some e.path)
+        → (j : ℕ) × (slice_get (paths_kept (cond b (d ∷ filter (is_at channel sends) ends) (filter (is_at channel sends) ends))) j ≡ Some e.path)
     go true (j, f) = (suc j, f)
     go false k = k
 
@@ -92,7 +93,7 @@ meeting_starts old p x sends others w = record {
     store = w.search.store;
     pending = sym (append-nil (pending_of old));
     pending_low = w.pending_low;
-    moves = sym (append-nil (map told old.moves.items));
+    moves = sym (append-nil (map label_told old.moves.items));
     waiting = refl;
     finals = refl;
     groups = refl;
@@ -160,7 +161,7 @@ meeting_more old cur new x y sends others n q hx en ey m (inl (ag, g)) = record 
 
 -- ---- a partner can be met
 
-pub number_there : (ends : List End) (i : ℕ) (e : End) → slice_get ends i ≡ Some e → slice_get (paths_of ends) i ≡ Some e.path
+pub number_there : (ends : List End) (i : ℕ) (e : End) → slice_get ends i ≡ Some e → slice_get (paths_kept ends) i ≡ Some e.path
 number_there [] i e h = cc
 number_there (d ∷ ends) zero e h = (let one : d ≡ e = cc in ap (λ q. Some q.path) one)
 number_there (d ∷ ends) (suc i) e h = number_there ends i e h
@@ -173,22 +174,22 @@ pub listed_at : (copy lent others : List ℕ) (i q : ℕ) → i < length copy �
 listed_at copy lent others i q low is a b = subst (λ l. slice_get l i ≡ Some q) (a ∙ b) (got_here copy i q low is)
 
 -- the path isn't kept yet
-pub not_kept : (w : Work) (p : ℕ) (x : Path) → IsWorkOn w p → slice_get w.store.paths p ≡ Some x → ¬ IsKept w.waiting p
+pub not_kept : (w : Work) (p : ℕ) (x : Path) → IsWorkOn w p → slice_get w.store.paths p ≡ Some x → ¬ PathIsKept w.waiting p
 not_kept w p x k ex (i, low, is) =
-    let e : slice_get (paths_of w.waiting) i ≡ Some p = got_here (paths_of w.waiting) i p low (sym is) in
-    let h : Holds (paths_by w.store.paths (paths_of w.waiting)) x = holds_at (paths_by w.store.paths (paths_of w.waiting)) i x (trying.paths_at w.store.paths (paths_of w.waiting) i p x e ex) in
+    let e : slice_get (paths_kept w.waiting) i ≡ Some p = got_here (paths_kept w.waiting) i p low (sym is) in
+    let h : Holds (paths_by w.store.paths (paths_kept w.waiting)) x = holds_at (paths_by w.store.paths (paths_kept w.waiting)) i x (trying.paths_at w.store.paths (paths_kept w.waiting) i p x e ex) in
     (k.search.pending_apart x (subst (λ q. Holds (pending_of w ++ (q ∷ [])) x) (sym (path_there w.store.paths p x ex)) (holds_right (pending_of w) (x ∷ []) x (inl refl)))).0 h
 
 pub other_low : (w : Work) (pending : List Path) (channel : ℕ) (sends : Bool) → IsWorkOf w pending → (j q : ℕ) → slice_get (others_of w channel sends) j ≡ Some q → q < length w.store.paths
 other_low w pending channel sends k j q e = (let t : IsThere w.waiting channel (not sends) q = end_of_other w.waiting channel (not sends) j q e in
     subst (λ n. n < length w.store.paths) t.path (end_low w pending k t.place t.end t.is))
 
-can_meet : (store : Trail) (p q : ℕ) (x y : Path) (a b : Member) → slice_get store.paths p ≡ Some x → slice_get store.paths q ≡ Some y → state_of store.events x ≡ Some a
-    → state_of store.events y ≡ Some b → FaceEachOther a b → Agree x y → (¬ Holds store.paths (sent x y)) → CanMeet store p q
+can_meet : (store : Trail) (p q : ℕ) (x y : Path) (a b : Member) → slice_get store.paths p ≡ Some x → slice_get store.paths q ≡ Some y → path_state store.events x ≡ Some a
+    → path_state store.events y ≡ Some b → FaceEachOther a b → Agree x y → (¬ Holds store.paths (sent x y)) → CanMeet store p q
 can_meet store p q x y a b ex ey sa sb face ag un = record {
   stand = λ u v c d eu ev su sv. (let one : x ≡ u = same_got store.paths p x u ex eu in let two : y ≡ v = same_got store.paths q y v ey ev in let s : a ≡ c = same_some
-      (state_of store.events u) a c (ap (state_of store.events) (sym one) ∙ sa) su in let t : b ≡ d = same_some (state_of store.events v) b d
-      (ap (state_of store.events) (sym two) ∙ sb) sv in subst (λ k. FaceEachOther k d) s (subst (FaceEachOther a) t face));
+      (path_state store.events u) a c (ap (path_state store.events) (sym one) ∙ sa) su in let t : b ≡ d = same_some (path_state store.events v) b d
+      (ap (path_state store.events) (sym two) ∙ sb) sv in subst (λ k. FaceEachOther k d) s (subst (FaceEachOther a) t face));
   agree = λ u v eu ev. subst (λ k. Agree k v) (same_got store.paths p x u ex eu) (subst (Agree x) (same_got store.paths q y v ey ev) ag);
   unmet = λ u v eu ev. subst (λ k. ¬ Holds store.paths (sent k v)) (same_got store.paths p x u ex eu) (subst (λ k. ¬ Holds store.paths (sent x k)) (same_got store.paths q y v ey ev) un);
 }
@@ -199,7 +200,7 @@ can_meet store p q x y a b ex ey sa sb face ag un = record {
     same_got : (paths : List Path) (n : ℕ) (u v : Path) → slice_get paths n ≡ Some u → slice_get paths n ≡ Some v → u ≡ v
     same_got paths n u v e f = cc
 
-pub face_by : (g : List Member) (x y : Path) (channel : ℕ) → (a : StandsAs g x channel true) → (b : StandsAs g y channel false) → FaceEachOther a.member b.member
+pub face_by : (g : List Member) (x y : Path) (channel : ℕ) → (a : WaitsOn g x channel true) → (b : WaitsOn g y channel false) → FaceEachOther a.member b.member
 face_by g x y channel a b = record { message = a.stands.0; sends = a.stands.1; receives = b.stands ∙ ap Some (sym a.stands.2) }
 
 pub agree_flips : (x y : Path) → IsSound x → IsSound y → Agree x y → Agree y x
@@ -230,7 +231,7 @@ still_unmet old cur p x y sends others n q w ex ey en once m h = elim
     ]
   where
     waits : List Path
-    waits = paths_by old.store.paths (paths_of old.waiting)
+    waits = paths_by old.store.paths (paths_kept old.waiting)
 
     free : ¬ Holds waits x
     free = (w.search.pending_apart x (subst (λ k. Holds (pending_of old ++ (k ∷ [])) x) (sym (path_there old.store.paths p x ex)) (holds_right (pending_of old) (x ∷ []) x (inl refl)))).0
@@ -243,31 +244,31 @@ still_unmet old cur p x y sends others n q w ex ey en once m h = elim
         let place : j ≡ n = distinct_places others once j n q (er ∙ ap Some same) en in
         absurd (omega (arith, place, jn))
 
-pub same_channel : (g : List Member) (y : Path) (c d : ℕ) (s t : Bool) → c ≡ d → s ≡ t → StandsAs g y c s → StandsAs g y d t
-same_channel g y c d s t e f h = subst (λ k. StandsAs g y k t) e (subst (StandsAs g y c) f h)
+pub same_channel : (g : List Member) (y : Path) (c d : ℕ) (s t : Bool) → c ≡ d → s ≡ t → WaitsOn g y c s → WaitsOn g y d t
+same_channel g y c d s t e f h = subst (λ k. WaitsOn g y k t) e (subst (WaitsOn g y c) f h)
 
 -- one of the others stands on the other side of the channel
 pub other_stands : (w : Work) (pending : List Path) (channel : ℕ) (sends : Bool) → IsWorkOf w pending → (j q : ℕ) (y : Path) → slice_get (others_of w channel sends) j ≡ Some q
-    → slice_get w.store.paths q ≡ Some y → StandsAs w.store.events y channel (not sends)
+    → slice_get w.store.paths q ≡ Some y → WaitsOn w.store.events y channel (not sends)
 other_stands w pending channel sends k j q y e ey = (let t : IsThere w.waiting channel (not sends) q = end_of_other w.waiting channel (not sends) j q e in
     same_channel w.store.events y t.end.channel channel t.end.sends (not sends) t.channel_is t.sends_is (k.ends t.place t.end y t.is (ap (slice_get w.store.paths) t.path ∙ ey)))
 
 pub meeting_ready : (old cur : Work) (p : ℕ) (x y : Path) (channel : ℕ) (sends : Bool) (n q : ℕ) → IsWorkOn old p → slice_get old.store.paths p ≡ Some x
-    → slice_get old.store.paths q ≡ Some y → StandsAs old.store.events x channel sends → slice_get (others_of old channel sends) n ≡ Some q → IsDistinct nat_eq (others_of old channel sends)
+    → slice_get old.store.paths q ≡ Some y → WaitsOn old.store.events x channel sends → slice_get (others_of old channel sends) n ≡ Some q → IsDistinct nat_eq (others_of old channel sends)
     → IsMeeting old cur x sends (others_of old channel sends) n → Agree x y → MatchBool sends (CanMeet cur.store p q) (CanMeet cur.store q p)
 meeting_ready old cur p x y channel true n q w ex ey stands en once m ag =
-    let other : StandsAs old.store.events y channel false = other_stands old (pending_of old ++ (path_at old.store.paths p ∷ [])) channel true w n q y en ey in
+    let other : WaitsOn old.store.events y channel false = other_stands old (pending_of old ++ (path_at old.store.paths p ∷ [])) channel true w n q y en ey in
     can_meet cur.store p q x y stands.member other.member (ap (λ k. slice_get k p) m.gains.paths ∙ get_more old.store.paths m.news p x ex)
     (ap (λ k. slice_get k q) m.gains.paths ∙ get_more old.store.paths m.news q y ey)
-    (ap (λ g. state_of g x) m.gains.events ∙ stands.state) (ap (λ g. state_of g y) m.gains.events ∙ other.state) (face_by old.store.events x y channel stands other) ag
+    (ap (λ g. path_state g x) m.gains.events ∙ stands.state) (ap (λ g. path_state g y) m.gains.events ∙ other.state) (face_by old.store.events x y channel stands other) ag
     (still_unmet old cur p x y true (others_of old channel true) n q w ex ey en once m)
 meeting_ready old cur p x y channel false n q w ex ey stands en once m ag =
-    let other : StandsAs old.store.events y channel true = other_stands old (pending_of old ++ (path_at old.store.paths p ∷ [])) channel false w n q y en ey in
+    let other : WaitsOn old.store.events y channel true = other_stands old (pending_of old ++ (path_at old.store.paths p ∷ [])) channel false w n q y en ey in
     let hx : Holds old.store.paths x = holds_at old.store.paths p x ex in
     let hy : Holds old.store.paths y = holds_at old.store.paths q y ey in
     can_meet cur.store q p y x other.member stands.member (ap (λ k. slice_get k q) m.gains.paths ∙ get_more old.store.paths m.news q y ey)
     (ap (λ k. slice_get k p) m.gains.paths ∙ get_more old.store.paths m.news p x ex)
-    (ap (λ g. state_of g y) m.gains.events ∙ other.state) (ap (λ g. state_of g x) m.gains.events ∙ stands.state) (face_by old.store.events y x channel other stands)
+    (ap (λ g. path_state g y) m.gains.events ∙ other.state) (ap (λ g. path_state g x) m.gains.events ∙ stands.state) (face_by old.store.events y x channel other stands)
     (agree_flips x y (w.search.store.sound x hx) (w.search.store.sound y hy) ag) (still_unmet old cur p x y false (others_of old channel false) n q w ex ey en once m)
 
 -- ---- what is still there

@@ -8,10 +8,10 @@ use Rattle.te_terms.specs.Steps.{Member}
 use Rattle.te_terms.specs.Joint.{Label, IsGroup, member_of}
 use Rattle.te_terms.specs.Settling.{settled}
 use Rattle.te_trail.specs.Paths.{Path, planted, thread_of, own_labels}
-use Rattle.te_trail.specs.States.{state_of, HasState}
-use Rattle.te_trail.specs.Views.{Chain, view_of, Name, name_of, IsPathName, IsGroupName}
+use Rattle.te_trail.specs.States.{path_state, HasState}
+use Rattle.te_trail.specs.Views.{Chain, view_of, Name, path_name_of, IsPathName, IsGroupName}
 use Rattle.te_trail.proofs.MembersMove.{found_thread}
-use Rattle.te_search.specs.Bounds.{AreDistinct, over_all, views_most, paths_most, enough_for}
+use Rattle.te_search.specs.Bounds.{NoNameTwice, over_all, views_most, paths_most, enough_for}
 use Rattle.te_search.proofs.EveryChainCovered.{Full, Covers, covers}
 use Rattle.te_search.proofs.Trying.{state_member}
 use Rattle.te_search.proofs.NodesRunOut.{moves_fit}
@@ -213,7 +213,7 @@ number_tells_name g rise x y k a b =
     let views : x.views ≡ y.views = a.views ∙ map_by (λ t. own_labels (a.at.path t)) (λ t. own_labels (b.at.path t)) (λ t. ap own_labels (digits_tell g a.at b.at alike t)) g ∙ sym b.views in
     ap₂ (λ t v. record { thread = t; views = v }) (place_tells g x.thread y.thread a.member b.member a.is_member b.is_member place) views
 
-numbered : (g : List Member) → IsGroup g → (name : Name) (word : List Label) (chain : Chain g word) (m : Member) → member_of name.thread g ≡ Some m → name ≡ name_of g name.thread word
+numbered : (g : List Member) → IsGroup g → (name : Name) (word : List Label) (chain : Chain g word) (m : Member) → member_of name.thread g ≡ Some m → name ≡ path_name_of g name.thread word
     → (k : ℕ) × (k < paths_most g) × HasNumber g name k
 numbered g rise name word chain m at e =
     let c : Covers g Any chain.end word = standing g word chain in
@@ -235,23 +235,23 @@ path_numbered g rise name is = numbered g rise name is.word is.chain is.member i
 group_numbered : (g : List Member) → IsGroup g → (name : Name) → IsGroupName g name → (k : ℕ) × (k < paths_most g) × HasNumber g name k
 group_numbered g rise name is =
     let c : Covers g Any is.chain.end is.word = standing g is.word is.chain in
-    let s : Any (c.path name.thread) × (state_of g (c.path name.thread) ≡ Some (settled is.member)) = c.stands name.thread is.member is.is_member in
+    let s : Any (c.path name.thread) × (path_state g (c.path name.thread) ≡ Some (settled is.member)) = c.stands name.thread is.member is.is_member in
     let m : (m : Member) × (member_of (thread_of (c.path name.thread)) g ≡ Some m) = state_member g (c.path name.thread) (settled is.member, s.1) in
     numbered g rise name is.word is.chain m.0 (subst (λ t. member_of t g ≡ Some m.0) (c.threads name.thread) m.1) is.views
 
-apart_alike : (names : List Name) → AreDistinct names → NoneAlike names
+apart_alike : (names : List Name) → NoNameTwice names → NoneAlike names
 apart_alike [] d = tt
 apart_alike (n ∷ ns) d = (d.0, apart_alike ns d.1)
 
-pub path_names_few : (g : List Member) (names : List Name) → IsGroup g → AreDistinct names → AllByRecursion (IsPathName g) names → length names ≤ paths_most g
+pub path_names_few : (g : List Member) (names : List Name) → IsGroup g → NoNameTwice names → AllByRecursion (IsPathName g) names → length names ≤ paths_most g
 path_names_few g names rise d a = counted (HasNumber g) (paths_most g) (number_tells_name g rise) names
     (all_with (IsPathName g) (λ n. (k : ℕ) × (k < paths_most g) × HasNumber g n k) names (path_numbered g rise) a) (apart_alike names d)
 
-pub group_names_few : (g : List Member) (names : List Name) → IsGroup g → AreDistinct names → AllByRecursion (IsGroupName g) names → length names ≤ paths_most g
+pub group_names_few : (g : List Member) (names : List Name) → IsGroup g → NoNameTwice names → AllByRecursion (IsGroupName g) names → length names ≤ paths_most g
 group_names_few g names rise d a = counted (HasNumber g) (paths_most g) (number_tells_name g rise) names
     (all_with (IsGroupName g) (λ n. (k : ℕ) × (k < paths_most g) × HasNumber g n k) names (group_numbered g rise) a) (apart_alike names d)
 
 -- so both together are at most what is enough
-pub names_fit : (g : List Member) (paths groups : List Name) → IsGroup g → AreDistinct paths → AllByRecursion (IsPathName g) paths → AreDistinct groups → AllByRecursion (IsGroupName g) groups
+pub names_fit : (g : List Member) (paths groups : List Name) → IsGroup g → NoNameTwice paths → AllByRecursion (IsPathName g) paths → NoNameTwice groups → AllByRecursion (IsGroupName g) groups
     → length paths + length groups ≤ enough_for g
 names_fit g paths groups rise dp ap dg ag = omega (arith, path_names_few g paths rise dp ap, group_names_few g groups rise dg ag)

@@ -10,13 +10,13 @@ use Rattle.te_terms.specs.Steps.{Member, outcome_of}
 use Rattle.te_terms.specs.Joint.{Label, IsGroup, RiseFrom, member_of}
 use Rattle.te_terms.specs.Settling.{settled}
 use Rattle.te_trail.specs.Paths.{Path, planted, branched, sent, got, thread_of, own_labels}
-use Rattle.te_trail.specs.States.{chosen, Ends, met, state_of, HasState}
-use Rattle.te_trail.specs.Views.{Chain, view_of, Name, name_of, IsPathName, IsGroupName}
+use Rattle.te_trail.specs.States.{chosen, MovedEnds, members_met, path_state, HasState}
+use Rattle.te_trail.specs.Views.{Chain, view_of, Name, path_name_of, IsPathName, IsGroupName}
 use Rattle.te_trail.proofs.ClockLaws.{eq_same}
 use Rattle.te_trail.proofs.MembersMove.{found_thread}
 use Rattle.te_trail.proofs.MovesChain.{state_after}
 use Rattle.te_trail.proofs.PastsChain.{then_some, parts_of}
-use Rattle.te_search.specs.Bounds.{AreDistinct, over_all, views_most, paths_most}
+use Rattle.te_search.specs.Bounds.{NoNameTwice, over_all, views_most, paths_most}
 use Rattle.te_search.proofs.EveryChainCovered.{Full, Covers, covers}
 use Rattle.te_search.proofs.Trying.{state_member}
 use Rattle.te_search.proofs.NodesRunOut.{moves_weigh, moves_fit}
@@ -149,7 +149,7 @@ all_both : {A : Type 0} (P : A → Type 0) (xs ys : List A) → AllByRecursion P
 all_both P [] ys a b = b
 all_both P (x ∷ xs) ys a b = (a.0, all_both P xs ys a.1 b)
 
-received : (g : List Member) (s r : Path) → ((a : Member) × (b : Member) × (p : Ends) × (state_of g s ≡ Some a) × (state_of g r ≡ Some b) × (met a b ≡ Some p)) → IsTarget g (target_of r)
+received : (g : List Member) (s r : Path) → ((a : Member) × (b : Member) × (p : MovedEnds) × (path_state g s ≡ Some a) × (path_state g r ≡ Some b) × (members_met a b ≡ Some p)) → IsTarget g (target_of r)
 received g s r (a, b, p, sa, sb, m) =
     let e : (n : Member) × (member_of (thread_of r) g ≡ Some n) = state_member g r (b, sb) in
     let fit = moves_fit 0 0 1 g (got s r) e.0 (settled p.receiver) e.1 (state_after g s r a b p sa sb m).1 in
@@ -157,7 +157,7 @@ received g s r (a, b, p, sa, sb, m) =
 
 pub are_targets : (g : List Member) (p : Path) → HasState g p → AllByRecursion (IsTarget g) (targets p)
 are_targets g (planted t) h = tt
-are_targets g (branched p l) h = let a = then_some (λ m. option_map settled (chosen l m)) (state_of g p) h.0 h.1 in are_targets g p (a.0, a.1)
+are_targets g (branched p l) h = let a = then_some (λ m. option_map settled (chosen l m)) (path_state g p) h.0 h.1 in are_targets g p (a.0, a.1)
 are_targets g (sent s r) h =
     let x = parts_of g s r (λ p. settled p.sender) h.0 h.1 in
     all_both (IsTarget g) (targets s) (target_of r ∷ []) (are_targets g s (x.0, x.3)) (received g s r x, tt)

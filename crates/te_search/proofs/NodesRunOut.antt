@@ -13,7 +13,7 @@ use Rattle.te_terms.proofs.QuietSteps.{OfEachStep, of_every_step}
 use Rattle.te_terms.proofs.OneThing.{send_is, receive_is}
 use Rattle.te_terms.proofs.Settles.{settled_is_reached}
 use Rattle.te_trail.specs.Paths.{Path, planted, branched, sent, got, thread_of}
-use Rattle.te_trail.specs.States.{chosen, Ends, met, state_of}
+use Rattle.te_trail.specs.States.{chosen, MovedEnds, members_met, path_state}
 use Rattle.te_trail.proofs.MembersMove.{Handing, handing}
 use Rattle.te_trail.proofs.MovesChain.{mapped, state_branched}
 use Rattle.te_trail.proofs.PastsChain.{then_some, parts_of}
@@ -83,26 +83,26 @@ moves_weigh c s r (branched p left) = moves_weigh c s r p + c
 moves_weigh c s r (sent a b) = moves_weigh c s r a + s
 moves_weigh c s r (got a b) = moves_weigh c s r b + r
 
-ends_as : (f : Ends → Member) (g : List Member) (a b : Path) (x y : Member) (p : Ends) (n : Member) → state_of g a ≡ Some x → state_of g b ≡ Some y → met x y ≡ Some p
-    → option_and_then (λ i. option_and_then (λ j. option_map f (met i j)) (state_of g b)) (state_of g a) ≡ Some n → f p ≡ n
+ends_as : (f : MovedEnds → Member) (g : List Member) (a b : Path) (x y : Member) (p : MovedEnds) (n : Member) → path_state g a ≡ Some x → path_state g b ≡ Some y → members_met x y ≡ Some p
+    → option_and_then (λ i. option_and_then (λ j. option_map f (members_met i j)) (path_state g b)) (path_state g a) ≡ Some n → f p ≡ n
 ends_as f g a b x y p n ea eb m e =
-    let is : Some (f p) ≡ Some n = subst (λ z. option_map f z ≡ Some n) m (subst (λ z. option_and_then (λ j. option_map f (met x j)) z ≡ Some n) eb (subst (λ z. option_and_then (λ i. option_and_then (λ j. option_map f (met i j)) (state_of g b)) z ≡ Some n) ea e)) in
+    let is : Some (f p) ≡ Some n = subst (λ z. option_map f z ≡ Some n) m (subst (λ z. option_and_then (λ j. option_map f (members_met x j)) z ≡ Some n) eb (subst (λ z. option_and_then (λ i. option_and_then (λ j. option_map f (members_met i j)) (path_state g b)) z ≡ Some n) ea e)) in
     cc
 
 -- and the nodes that are left count at most what the event has
-pub moves_fit : (c s r : ℕ) (g : List Member) (p : Path) (m n : Member) → member_of (thread_of p) g ≡ Some m → state_of g p ≡ Some n
+pub moves_fit : (c s r : ℕ) (g : List Member) (p : Path) (m n : Member) → member_of (thread_of p) g ≡ Some m → path_state g p ≡ Some n
     → total (weighing c s r) n.term + moves_weigh c s r p ≤ total (weighing c s r) m.term
 moves_fit c s r g (planted t) m n at e =
     let f : settled m ≡ n = (let h : Some (settled m) ≡ Some n = subst (λ z. option_map settled z ≡ Some n) at e in cc) in
     subst (λ x. total (weighing c s r) x.term + 0 ≤ total (weighing c s r) m.term) f (omega (arith, settled_no_more c s r m))
 moves_fit c s r g (branched p l) m n at e =
-    let b : (x : Member) × (state_of g p ≡ Some x) × (option_map settled (chosen l x) ≡ Some n) = then_some (λ m. option_map settled (chosen l m)) (state_of g p) n e in
+    let b : (x : Member) × (path_state g p ≡ Some x) × (option_map settled (chosen l x) ≡ Some n) = then_some (λ m. option_map settled (chosen l m)) (path_state g p) n e in
     let u : (u : Member) × (chosen l b.0 ≡ Some u) × (settled u ≡ n) = state_branched g p l b.0 n b.1 e in
     let less : total (weighing c s r) b.0.term + moves_weigh c s r p ≤ total (weighing c s r) m.term = moves_fit c s r g p m b.0 at b.1 in
     subst (λ x. total (weighing c s r) x.term + (moves_weigh c s r p + c) ≤ total (weighing c s r) m.term) u.2
     (omega (arith, settled_no_more c s r u.0, choice_less c s r l b.0 u.0 u.1, less))
 moves_fit c s r g (sent a b) m n at e =
-    let x : (i : Member) × (j : Member) × (p : Ends) × (state_of g a ≡ Some i) × (state_of g b ≡ Some j) × (met i j ≡ Some p) = parts_of g a b (λ p. settled p.sender) n e in
+    let x : (i : Member) × (j : Member) × (p : MovedEnds) × (path_state g a ≡ Some i) × (path_state g b ≡ Some j) × (members_met i j ≡ Some p) = parts_of g a b (λ p. settled p.sender) n e in
     let h : Handing x.0 x.1 x.2 = handing x.0 x.1 x.2 x.5 in
     let less : total (weighing c s r) x.0.term + moves_weigh c s r a ≤ total (weighing c s r) m.term = moves_fit c s r g a m x.0 at x.3 in
     let sends : total (weighing c s r) x.2.sender.term + s ≤ total (weighing c s r) x.0.term =
@@ -110,7 +110,7 @@ moves_fit c s r g (sent a b) m n at e =
     subst (λ y. total (weighing c s r) y.term + (moves_weigh c s r a + s) ≤ total (weighing c s r) m.term) (ends_as (λ p. settled p.sender) g a b x.0 x.1 x.2 n x.3 x.4 x.5 e)
     (omega (arith, settled_no_more c s r x.2.sender, sends, less))
 moves_fit c s r g (got a b) m n at e =
-    let x : (i : Member) × (j : Member) × (p : Ends) × (state_of g a ≡ Some i) × (state_of g b ≡ Some j) × (met i j ≡ Some p) = parts_of g a b (λ p. settled p.receiver) n e in
+    let x : (i : Member) × (j : Member) × (p : MovedEnds) × (path_state g a ≡ Some i) × (path_state g b ≡ Some j) × (members_met i j ≡ Some p) = parts_of g a b (λ p. settled p.receiver) n e in
     let h : Handing x.0 x.1 x.2 = handing x.0 x.1 x.2 x.5 in
     let less : total (weighing c s r) x.1.term + moves_weigh c s r b ≤ total (weighing c s r) m.term = moves_fit c s r g b m x.1 at x.4 in
     let gets : total (weighing c s r) x.2.receiver.term + r ≤ total (weighing c s r) x.1.term =

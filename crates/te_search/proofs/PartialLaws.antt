@@ -7,8 +7,8 @@ use Rattle.te_trail.specs.Stores.{Holds, IsStore, rests_on, any_rests_on}
 use Rattle.te_trail.proofs.Lines.{rests_move}
 use Rattle.te_trail.proofs.ClockLaws.{agrees_by}
 use Rattle.te_trail.proofs.PastsChain.{Agreeing, true_pasts, team_line}
-use Rattle.te_search.specs.Groups.{IsFinal, Partial, IsPartial, AreOne, AreApart, AreTried}
-use Rattle.te_search.specs.Searching.{NoneTwice}
+use Rattle.te_search.specs.Groups.{IsFinal, Partial, IsPartial, AreOne, NoneIsAnother, AreTried}
+use Rattle.te_search.specs.Searching.{NoPathTwice}
 use Rattle.te_search.specs.Assemblies.{IsMore, Tries, IsThrough, TriesBy}
 use Rattle.te_search.proofs.ListLaws.{one_place, holds_at}
 use Rattle.te_search.proofs.WorkDone.{final_is_last}
@@ -26,7 +26,7 @@ pub all_across : (P Q : Partial → Type 0) (xs ys : List Partial) → ((x y : P
 all_across P Q [] ys f a b = tt
 all_across P Q (x ∷ xs) ys f a b = (all_by Q (λ y. ¬ AreOne x y) ys (λ y q. f x y a.0 q) b, all_across P Q xs ys f a.1 b)
 
-pub apart_both : (xs ys : List Partial) → AreApart xs → AreApart ys → AllByRecursion (λ x. AllByRecursion (λ y. ¬ AreOne x y) ys) xs → AreApart (xs ++ ys)
+pub apart_both : (xs ys : List Partial) → NoneIsAnother xs → NoneIsAnother ys → AllByRecursion (λ x. AllByRecursion (λ y. ¬ AreOne x y) ys) xs → NoneIsAnother (xs ++ ys)
 apart_both [] ys a b c = b
 apart_both (x ∷ xs) ys a b c = (all_both (λ q. ¬ AreOne x q) xs ys a.0 c.0, apart_both xs ys a.1 b c.1)
 
@@ -87,7 +87,7 @@ tries_zero g paths start ps = record { more = []; count_is = refl; are = tt; onc
 pub tries_less : (g : List Member) (paths : List Path) (start : Path) (ps : List Path) (count : ℕ) → Tries g paths start ps (count + 1) → Tries g paths start ps count
 tries_less g paths start ps count t = go t.more t.count_is t.are t.once
   where
-    go : (more : List Partial) → length more ≡ count + 1 → AllByRecursion (IsMore g paths start ps) more → AreApart more → Tries g paths start ps count
+    go : (more : List Partial) → length more ≡ count + 1 → AllByRecursion (IsMore g paths start ps) more → NoneIsAnother more → Tries g paths start ps count
     go [] e a o = absurd (omega (arith, e))
     go (q ∷ qs) e a o = record { more = qs; count_is = omega (arith, e); are = a.1; once = o.1 }
 
@@ -96,7 +96,7 @@ pub record Adding (g : List Member) (paths : List Path) (start : Path) (ps final
   pub store : IsStore g paths
   pub final_made : (x : Path) → Holds finals x → Holds paths x
   pub finals_are : (x : Path) → Holds finals x → IsFinal g x
-  pub once : NoneTwice finals
+  pub once : NoPathTwice finals
   pub at : slice_get finals n ≡ Some f
   pub thread : thread_of f ≡ t
   pub crew : IsPartial g paths (record { start = start; members = f ∷ ps })

@@ -18,7 +18,7 @@ use Rattle.te_trail.specs.declared.moves.Move.{Move}
 use Rattle.te_trail.specs.Trails.{label_of, TellsWhether}
 use Rattle.te_trail.specs.Paths.{Path, planted, branched, sent, got, thread_of, IsAbove, OnOneLine, move_of}
 use Rattle.te_trail.specs.Clocks.{clock_of}
-use Rattle.te_trail.specs.States.{state_of}
+use Rattle.te_trail.specs.States.{path_state}
 use Rattle.te_trail.specs.Stores.{Holds, labels_of_move, labels_of, any_rests_on}
 use Rattle.std.proofs.lemmas.Bool.{lt-leb}
 use Rattle.te_trail.proofs.Lines.{rests_move, above_rests}
@@ -28,9 +28,9 @@ use Rattle.te_search.specs.declared.work.Work.{Work}
 use Rattle.te_search.specs.declared.certifying.Gathered.{Gathered}
 use Rattle.te_search.specs.Groups.{IsFinal}
 use Rattle.te_search.specs.Assemblies.{joint, Numbers}
-use Rattle.te_search.specs.Works.{told, threads_of, IsHit}
+use Rattle.te_search.specs.Works.{label_told, threads_of, IsHit}
 use Rattle.te_search.specs.Findings.{IsGroupOf}
-use Rattle.te_search.specs.Stacks.{IsAmong}
+use Rattle.te_search.specs.Stacks.{EventsAreAmong}
 use Rattle.te_search.specs.Plantings.{has_number}
 use Rattle.te_search.specs.Picks.{Picks, touched, members_by, EndsAt, EndSo, thread_of_member, AreMembers, AreGathered, IsJointTrail, AreMeetingsOf, AreMeets, NumbersRise, TellsNamed}
 use Rattle.te_search.proofs.Working.{map_both}
@@ -93,12 +93,12 @@ labels_both : (has : Path → Bool) (xs ys : List Path) → labels_of has (xs ++
 labels_both has [] ys = refl
 labels_both has (x ∷ xs) ys = ap (λ r. cond (has x) (labels_of_move x) [] ++ r) (labels_both has xs ys) ∙ sym (append_assoc (cond (has x) (labels_of_move x) []) (labels_of has xs) (labels_of has ys))
 
-told_at : (moves : List (Option Move)) (paths : List Path) (k : ℕ) (m : Option Move) (x : Path) → map told moves ≡ map labels_of_move paths → slice_get moves k ≡ Some m
-    → slice_get paths k ≡ Some x → told m ≡ labels_of_move x
+told_at : (moves : List (Option Move)) (paths : List Path) (k : ℕ) (m : Option Move) (x : Path) → map label_told moves ≡ map labels_of_move paths → slice_get moves k ≡ Some m
+    → slice_get paths k ≡ Some x → label_told m ≡ labels_of_move x
 told_at [] paths k m x e f g = cc
 told_at (n ∷ moves) [] k m x e f g = cc
-told_at (n ∷ moves) (y ∷ paths) zero m x e f g = (let one : n ≡ m = cc in let two : y ≡ x = cc in let h : told n ≡ labels_of_move y = cc in ap told (sym one) ∙ h ∙ ap labels_of_move two)
-told_at (n ∷ moves) (y ∷ paths) (suc k) m x e f g = (let h : map told moves ≡ map labels_of_move paths = cc in told_at moves paths k m x h f g)
+told_at (n ∷ moves) (y ∷ paths) zero m x e f g = (let one : n ≡ m = cc in let two : y ≡ x = cc in let h : label_told n ≡ labels_of_move y = cc in ap label_told (sym one) ∙ h ∙ ap labels_of_move two)
+told_at (n ∷ moves) (y ∷ paths) (suc k) m x e f g = (let h : map label_told moves ≡ map labels_of_move paths = cc in told_at moves paths k m x h f g)
 
 -- a move that the past hasn't, or that isn't told, adds nothing
 trail_one : (has : Path → Bool) (paths : List Path) (k : ℕ) (x : Path) (so : List Label) → slice_get paths k ≡ Some x → so ≡ cond (has x) (labels_of_move x) []
@@ -110,27 +110,27 @@ nothing_told : (o : Bool) (x : Path) → labels_of_move x ≡ [] → [] ≡ cond
 nothing_told true x e = sym e
 nothing_told false x e = refl
 
-pub trail_untold : (ps paths : List Path) (moves : List (Option Move)) (k : ℕ) (x : Path) (word : List Move) → map told moves ≡ map labels_of_move paths
+pub trail_untold : (ps paths : List Path) (moves : List (Option Move)) (k : ℕ) (x : Path) (word : List Move) → map label_told moves ≡ map labels_of_move paths
     → slice_get moves k ≡ Some None → slice_get paths k ≡ Some x → map label_of word ≡ labels_of (any_rests_on ps) (take k paths) → map label_of word ≡ labels_of (any_rests_on ps)
     (take (k + 1) paths)
 trail_untold ps paths moves k x word t em ex is = is ∙ sym (append-nil (labels_of (any_rests_on ps) (take k paths)))
     ∙ sym (trail_one (any_rests_on ps) paths k x [] ex (nothing_told (any_rests_on ps x) x (sym (told_at moves paths k None x t em ex))))
 
 -- a move that is told is that of its path
-own_move : (x : Path) (m : Move) → told (Some m) ≡ labels_of_move x → move_of x ≡ x
+own_move : (x : Path) (m : Move) → label_told (Some m) ≡ labels_of_move x → move_of x ≡ x
 own_move (planted t) m e = refl
 own_move (branched p l) m e = refl
 own_move (sent s r) m e = refl
 own_move (got s r) m e = cc
 
-pub trail_without : (ps paths : List Path) (moves : List (Option Move)) (k : ℕ) (x : Path) (word : List Move) (m : Move) → map told moves ≡ map labels_of_move paths
+pub trail_without : (ps paths : List Path) (moves : List (Option Move)) (k : ℕ) (x : Path) (word : List Move) (m : Move) → map label_told moves ≡ map labels_of_move paths
     → slice_get moves k ≡ Some (Some m) → slice_get paths k ≡ Some x → false ≡ any_rests_on ps (move_of x) → map label_of word ≡ labels_of (any_rests_on ps) (take k paths)
     → map label_of word ≡ labels_of (any_rests_on ps) (take (k + 1) paths)
 trail_without ps paths moves k x word m t em ex not_had is = is ∙ sym (append-nil (labels_of (any_rests_on ps) (take k paths)))
     ∙ sym (trail_one (any_rests_on ps) paths k x [] ex (ap (λ o. cond o (labels_of_move x) [])
     (not_had ∙ ap (any_rests_on ps) (own_move x m (told_at moves paths k (Some m) x t em ex)))))
 
-pub trail_with : (ps paths : List Path) (moves : List (Option Move)) (k : ℕ) (x : Path) (word more : List Move) (m : Move) → map told moves ≡ map labels_of_move paths
+pub trail_with : (ps paths : List Path) (moves : List (Option Move)) (k : ℕ) (x : Path) (word more : List Move) (m : Move) → map label_told moves ≡ map labels_of_move paths
     → slice_get moves k ≡ Some (Some m) → slice_get paths k ≡ Some x → true ≡ any_rests_on ps (move_of x) → more ≡ word ++ (m ∷ [])
     → map label_of word ≡ labels_of (any_rests_on ps) (take k paths) → map label_of more ≡ labels_of (any_rests_on ps) (take (k + 1) paths)
 trail_with ps paths moves k x word more m t em ex had push is = ap (map label_of) push ∙ map_both label_of word (m ∷ []) ∙ ap (λ l. l ++ (label_of m ∷ [])) is
@@ -168,7 +168,7 @@ gathered_none g ps word parked p members names outcomes none a = record {
 }
 
 pub gathered_more : (g : List steps.Member) (ps : List Path) (word : List Label) (parked : List Parked) (p : Parked) (members members2 : List Member) (names names2 : List ℕ)
-    (outcomes outcomes2 : List Outcome) (choices : List Bool) (o : Outcome) (x : Path) (m : steps.Member) → joint ps p.thread ≡ Some x → state_of g x ≡ Some m
+    (outcomes outcomes2 : List Outcome) (choices : List Bool) (o : Outcome) (x : Path) (m : steps.Member) → joint ps p.thread ≡ Some x → path_state g x ≡ Some m
     → outcome_of m.term ≡ Some o
     → choices ≡ letters_of p.thread word → members2 ≡ members ++ (record { thread = p.thread; ticket = p.ticket; choices = choices } ∷ []) → names2 ≡ names ++ (p.thread ∷ [])
     → outcomes2 ≡ outcomes ++ (o ∷ []) → AreMembers g ps word parked members names outcomes → AreMembers g ps word (parked ++ (p ∷ [])) members2 names2 outcomes2
@@ -187,7 +187,7 @@ gathered_more g ps word parked p members members2 names names2 outcomes outcomes
         (end_more g ps names outcomes p.thread o a.end_so (record { path = x; named = named; member = m; state = st; ends = ends })))
 
 members_lift : (g h : List steps.Member) (ps : List Path) (word : List Label) (parked : List Parked) (members : List Member) (names : List ℕ) (outcomes : List Outcome)
-    → IsAmong g h → AreMembers g ps word parked members names outcomes → AreMembers h ps word parked members names outcomes
+    → EventsAreAmong g h → AreMembers g ps word parked members names outcomes → AreMembers h ps word parked members names outcomes
 members_lift g h ps word parked members names outcomes among a = record { are = a.are; names_are = a.names_are; end_so = lift names outcomes a.end_so }
   where
     lift : (ts : List ℕ) (os : List Outcome) → EndSo g ps ts os → EndSo h ps ts os
@@ -205,7 +205,7 @@ names_told g ps word parked members names outcomes a = a.names_are ∙ ap (map t
 -- all that was told of a joined past that was found
 pub record Told (w : Work) (threads : List ℕ) (joined : List (Option ℕ)) (parked : List Parked) (word : List Move) (gathered : Gathered) : Type 0 where
   pub hit : IsHit w threads joined
-  pub among : IsAmong w.store.events (as_group parked)
+  pub among : EventsAreAmong w.store.events (as_group parked)
   pub rise : IsGroup (as_group parked)
   pub trail : IsJointTrail w.store.events w.store.paths threads joined word
   pub members : AreGathered w.store.events w.store.paths threads joined (map label_of word) parked gathered
@@ -250,7 +250,7 @@ unnamed threads joined t none paths ps names listed = go (joint ps t) refl
     go None e = e
     go (Some c) e = (let i : (i : ℕ) × (slice_get threads i ≡ Some t) = listed t c e in absurd (true≢false (sym (number_in threads t i.0 i.1) ∙ none)))
 
-pub final_stop : (g : List steps.Member) (x : Path) (stop : Stop) → IsFinal g x → ((m : steps.Member) (s : Stop) → state_of g x ≡ Some m → StandsAt m.term s → stop ≡ s)
+pub final_stop : (g : List steps.Member) (x : Path) (stop : Stop) → IsFinal g x → ((m : steps.Member) (s : Stop) → path_state g x ≡ Some m → StandsAt m.term s → stop ≡ s)
     → ((v : List Atom) → stop ≡ stops.Done v → ⊥) → ((v : List Atom) → stop ≡ stops.Raised v → ⊥) → ⊥
 final_stop g x stop f only not_done not_raised = go f.outcome f.ends
   where
@@ -265,11 +265,11 @@ none_at moves k l f = got_or moves k None l ∙ ap Some (nothing (get_or moves k
     nothing None f = refl
     nothing (Some m) f = absurd (f m refl)
 
-pub as_long : (moves : List (Option Move)) (paths : List Path) → map told moves ≡ map labels_of_move paths → length moves ≡ length paths
+pub as_long : (moves : List (Option Move)) (paths : List Path) → map label_told moves ≡ map labels_of_move paths → length moves ≡ length paths
 as_long [] [] e = refl
 as_long [] (x ∷ paths) e = cc
 as_long (m ∷ moves) [] e = cc
-as_long (m ∷ moves) (x ∷ paths) e = (let h : map told moves ≡ map labels_of_move paths = cc in ap suc (as_long moves paths h))
+as_long (m ∷ moves) (x ∷ paths) e = (let h : map label_told moves ≡ map labels_of_move paths = cc in ap suc (as_long moves paths h))
 
 pub late : (k n : ℕ) → n < k → leb k n ≡ false
 late k n h = lt-leb k n h

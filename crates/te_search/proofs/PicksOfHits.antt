@@ -8,7 +8,7 @@ use Rattle.te_search.specs.Finals.{numbers_of}
 use Rattle.te_search.specs.Groups.{IsFinal}
 use Rattle.te_search.specs.Assemblies.{joint, Numbers, IsOfThreads, Reaches, starts, takes, AreNumbers}
 use Rattle.te_search.specs.Works.{IsHit}
-use Rattle.te_search.specs.Stacks.{IsAmong}
+use Rattle.te_search.specs.Stacks.{EventsAreAmong}
 use Rattle.te_search.specs.Picks.{Picks, touched}
 use Rattle.te_search.proofs.JoinedPasts.{crew_named, joint_past}
 use Rattle.te_search.proofs.GroupsSound.{taken, taken_true, true_taken}
@@ -72,7 +72,7 @@ hit_numbers w threads out h i m e =
 
 -- ---- among more events
 
-pub picks_more : (g h : List Member) (paths : List Path) (threads : List ℕ) (joined : List (Option ℕ)) (ps : List Path) → IsAmong g h → Picks g paths threads joined ps
+pub picks_more : (g h : List Member) (paths : List Path) (threads : List ℕ) (joined : List (Option ℕ)) (ps : List Path) → EventsAreAmong g h → Picks g paths threads joined ps
     → Picks h paths threads joined ps
 picks_more g h paths threads joined ps among p = record {
   store = store_more g h paths among p.store;

@@ -7,7 +7,7 @@ use Rattle.te_terms.specs.Steps.{Member, outcome_of}
 use Rattle.te_terms.specs.Joint.{IsGroup, member_of, as_group, as_member, part, outcomes_of, and_outcome, CanCommit}
 use Rattle.te_trail.specs.Paths.{Path, planted}
 use Rattle.te_trail.specs.Stores.{Holds, IsStore}
-use Rattle.te_pair.specs.Ends.{paths_of}
+use Rattle.te_pair.specs.Ends.{paths_kept}
 use Rattle.te_search.specs.declared.work.Work.{Work}
 use Rattle.te_search.specs.Finals.{numbers_of}
 use Rattle.te_search.specs.declared.stack.Stack.{Stack}
@@ -15,9 +15,9 @@ use Rattle.te_search.specs.declared.finding.SearchFault.TheVariants as faults
 use Rattle.te_search.specs.Searching.{paths_by}
 use Rattle.te_search.specs.Groups.{Partial, IsPartial, AreTried}
 use Rattle.te_search.specs.Works.{threads_of, IsCounted, IsNear, IsPassed, IsSpentAt}
-use Rattle.te_search.specs.Findings.{HasNames, IsUsedUp}
+use Rattle.te_search.specs.Findings.{CountsNames, IsUsedUp}
 use Rattle.te_search.specs.Bounds.{enough_for}
-use Rattle.te_search.specs.Stacks.{IsAmong, IsStack, IsLeft}
+use Rattle.te_search.specs.Stacks.{EventsAreAmong, IsStack, AwaitsPlanting}
 use Rattle.te_search.specs.Plantings.{has_number}
 use Rattle.te_search.proofs.AssemblyFinds.{Commits}
 use Rattle.te_search.proofs.WorkDone.{nothing_commits}
@@ -75,8 +75,8 @@ parked_at (p ∷ parked) (suc i) t e = parked_at parked i t e
 
 pub blocked : (s : Stack) → IsStack s → ((i : ℕ) (p : Parked) → slice_get s.parked i ≡ Some p → has_number s.threads p.thread ≡ true) → ¬ CanCommit s.parked
 blocked s w all c = nothing_commits (as_group s.parked) s.work.store.paths
-    (paths_by s.work.store.paths (paths_of s.work.waiting)) (paths_by s.work.store.paths (numbers_of s.work.finals))
-    (search_more s.work.store.events (as_group s.parked) s.work.store.paths [] (paths_by s.work.store.paths (paths_of s.work.waiting))
+    (paths_by s.work.store.paths (paths_kept s.work.waiting)) (paths_by s.work.store.paths (numbers_of s.work.finals))
+    (search_more s.work.store.events (as_group s.parked) s.work.store.paths [] (paths_by s.work.store.paths (paths_kept s.work.waiting))
     (paths_by s.work.store.paths (numbers_of s.work.finals)) w.levels.among w.whole.search) plants (commits s.parked c)
   where
     plants : (t : ℕ) (e : Member) → member_of t (as_group s.parked) ≡ Some e → Holds s.work.store.paths (planted t)
@@ -103,13 +103,13 @@ used_by parked budget made tried rise store are near more = record {
   short = omega (arith, fit, more.beyond, names.paths_are, names.groups_are);
 }
   where
-    names : HasNames parked (length more.made) (length more.tried)
+    names : CountsNames parked (length more.made) (length more.tried)
     names = have_names parked more.made more.tried more.store more.are
 
     fit : length names.path_names + length names.group_names ≤ enough_for (as_group parked)
     fit = names_fit (as_group parked) names.path_names names.group_names rise names.paths_distinct names.are_of_paths names.groups_distinct names.are_of_groups
 
-passed_more : (g h : List Member) (budget : ℕ) → IsAmong g h → IsPassed g budget → IsPassed h budget
+passed_more : (g h : List Member) (budget : ℕ) → EventsAreAmong g h → IsPassed g budget → IsPassed h budget
 passed_more g h budget among p = record {
   made = p.made;
   store = store_more g h p.made among p.store;
@@ -118,7 +118,7 @@ passed_more g h budget among p = record {
   beyond = p.beyond;
 }
 
-pub used_up : (parked : List Parked) (w : Work) (budget : ℕ) → IsGroup (as_group parked) → IsAmong w.store.events (as_group parked) → IsSpentAt w w.store.events budget → IsUsedUp parked budget (length w.store.paths) w.groups
+pub used_up : (parked : List Parked) (w : Work) (budget : ℕ) → IsGroup (as_group parked) → EventsAreAmong w.store.events (as_group parked) → IsSpentAt w w.store.events budget → IsUsedUp parked budget (length w.store.paths) w.groups
 used_up parked w budget rise among s = subst (IsUsedUp parked budget (length w.store.paths)) c.count_is
     (used_by parked budget w.store.paths c.tried rise (store_more w.store.events (as_group parked) w.store.paths among s.store) c.are
     (subst (λ n. IsNear (length w.store.paths + n) budget) (sym c.count_is) s.sum) (passed_more w.store.events (as_group parked) budget among s.passed))
@@ -127,7 +127,7 @@ used_up parked w budget rise among s = subst (IsUsedUp parked budget (length w.s
     c = counted_more w.store.events (as_group parked) w.store.paths s.finals w.groups among s.counted
 
 -- nothing is left of the budget for one more event
-pub whole_used_up : (s : Stack) (place budget : ℕ) → IsStack s → IsLeft s.threads s.parked (Some place) → length s.work.store.paths + s.work.groups ≡ budget
+pub whole_used_up : (s : Stack) (place budget : ℕ) → IsStack s → AwaitsPlanting s.threads s.parked (Some place) → length s.work.store.paths + s.work.groups ≡ budget
     → IsUsedUp s.parked budget (length s.work.store.paths) s.work.groups
 whole_used_up s place budget w left sum = subst (IsUsedUp s.parked budget (length s.work.store.paths)) c.count_is
     (used_by s.parked budget s.work.store.paths c.tried w.levels.rise store c.are (inl (ap (λ n. length s.work.store.paths + n) c.count_is ∙ sum)) (record {

@@ -12,7 +12,7 @@ use Rattle.te_search.specs.declared.finals.Final.{Final}
 use Rattle.te_search.specs.declared.stack.Level.{Level}
 use Rattle.te_search.specs.declared.stack.Stack.{Stack}
 use Rattle.te_search.specs.Works.{threads_of}
-use Rattle.te_search.specs.Stacks.{Lists, lists_of, IsWhole, Extent, extent_of, back_to, IsBefore, extent_at, IsLevel, AreLevels, IsAmong, HasLevels, IsStack}
+use Rattle.te_search.specs.Stacks.{Lists, lists_of, SearchIsWhole, Extent, extent_of, back_to, IsBefore, extent_at, IsLevel, AreLevels, EventsAreAmong, HasLevels, IsStack}
 use Rattle.te_search.proofs.Trying.{get_low}
 
 -- ---- parts of lists
@@ -33,7 +33,7 @@ map_taken f [] (suc n) = refl
 map_taken f (x ∷ xs) (suc n) = ap (λ r. f x ∷ r) (map_taken f xs n)
 
 -- the member of a thread among the first is that among all
-pub taken_among : (g : List Member) (n : ℕ) → IsAmong (take n g) g
+pub taken_among : (g : List Member) (n : ℕ) → EventsAreAmong (take n g) g
 taken_among g zero t e h = cc
 taken_among [] (suc n) t e h = cc
 taken_among (m ∷ ms) (suc n) t e h = go (taken_among ms n t e) (nat_eq m.thread t) h
@@ -111,7 +111,7 @@ levels_more old new levels marks more a = record {
     events_are = k.events_are;
     before = before_more (extent_at l m) old new more k.before;
     fewer = k.fewer;
-    whole = subst (λ q. IsWhole q l.groups) (sym (back_more (extent_at l m) old new more k.before)) k.whole;
+    whole = subst (λ q. SearchIsWhole q l.groups) (sym (back_more (extent_at l m) old new more k.before)) k.whole;
   });
   rising = a.rising;
 }
@@ -129,7 +129,7 @@ levels_back now levels marks i l m a el em = record {
         events_are = v.events_are;
         before = subst (IsBefore (extent_at k n)) (sym (back_extent (extent_at l m) now (a.each i l m el em).before)) b;
         fewer = v.fewer;
-        whole = subst (λ q. IsWhole q k.groups) (sym (back_twice (extent_at k n) (extent_at l m) now b)) v.whole;
+        whole = subst (λ q. SearchIsWhole q k.groups) (sym (back_twice (extent_at k n) (extent_at l m) now b)) v.whole;
       });
   rising = λ j k p q r s h ep eq er es. a.rising j k p q r s h (take_get levels i j p ep).1 (take_get levels i k q eq).1 (take_get marks i j r er).1 (take_get marks i k s es).1;
 }
@@ -142,8 +142,8 @@ cut_stack s t i l m h el em pa th le st mo wa fi pe gr = record {
   levels = record {
     rise = subst (λ q. IsGroup (as_group q)) (sym pa) h.rise;
     threads_are = th ∙ ap (take i) h.threads_are ∙ sym (map_taken (λ k. k.thread) s.work.store.events i) ∙ ap threads_of (sym events);
-    among = subst (λ q. IsAmong t.work.store.events (as_group q)) (sym pa)
-        (subst (λ q. IsAmong q (as_group s.parked)) (sym events) (λ k e f. h.among k e (taken_among s.work.store.events i k e f)));
+    among = subst (λ q. EventsAreAmong t.work.store.events (as_group q)) (sym pa)
+        (subst (λ q. EventsAreAmong q (as_group s.parked)) (sym events) (λ k e f. h.among k e (taken_among s.work.store.events i k e f)));
     levels = subst₂ (λ a b. AreLevels a b t.work.store.marks) (sym lists) (sym le)
         (subst (AreLevels (back_to (extent_at l m) (lists_of s.work)) (take i s.levels.items)) (sym marks)
         (levels_back (lists_of s.work) s.levels.items s.work.store.marks i l m h.levels el em));
@@ -151,7 +151,7 @@ cut_stack s t i l m h el em pa th le st mo wa fi pe gr = record {
   as_many = ap length le ∙ length_taken s.levels.items i (let z : i < length s.levels.items = get_low s.levels.items l i el in omega (arith, z)) ∙ sym long;
   fewer = (let a : length t.work.store.paths ≡ m.paths = ap length paths
       ∙ length_taken s.work.store.paths m.paths v.before.paths in let b : i ≤ m.paths = v.fewer in let c : length t.threads ≡ i = long in omega (arith, a, b, c));
-  whole = subst₂ IsWhole (sym lists) (sym gr) v.whole;
+  whole = subst₂ SearchIsWhole (sym lists) (sym gr) v.whole;
   idle = pe;
 }
   where
@@ -199,7 +199,7 @@ back_all l = lists_same (take (length l.events) l.events) l.events (take (length
     (take (length l.waiting) l.waiting) l.waiting (take (length l.finals) l.finals) l.finals (take_all l.events) (take_all l.paths) (take_all l.moves) (take_all l.waiting)
     (take_all l.finals)
 
-pub levels_begin : (now : Lists) (levels : List Level) (marks : List Mark) (l : Level) (m : Mark) → AreLevels now levels marks → IsWhole now l.groups
+pub levels_begin : (now : Lists) (levels : List Level) (marks : List Mark) (l : Level) (m : Mark) → AreLevels now levels marks → SearchIsWhole now l.groups
     → extent_at l m ≡ extent_of now → m.events ≡ length levels → length levels ≤ m.paths → AreLevels now (levels ++ (l ∷ [])) (marks ++ (m ∷ []))
 levels_begin now levels marks l m a w here events fewer = record {
   as_long = length-append levels (l ∷ []) ∙ ap (λ n. n + 1) a.as_long ∙ sym (length-append marks (m ∷ []));
@@ -211,7 +211,7 @@ levels_begin now levels marks l m a w here events fewer = record {
             before = subst (IsBefore (extent_at l m)) here (before_self (extent_at l m));
             fewer =
                 (let z : i ≡ length levels = p.0 in omega (arith, z, fewer));
-            whole = subst (λ q. IsWhole q l.groups) (sym (ap (λ x. back_to x now) here ∙ back_all now)) w;
+            whole = subst (λ q. SearchIsWhole q l.groups) (sym (ap (λ x. back_to x now) here ∙ back_all now)) w;
           }))
       | inr q ↦ absurd (let x : i ≡ length levels = p.0 in let y : i < length marks = q.0 in let z : length levels ≡ length marks = a.as_long in omega (arith, x, y, z))
     ]

@@ -10,7 +10,7 @@ use Rattle.te_trail.specs.Paths.{Path, planted, thread_of}
 use Rattle.te_trail.specs.Stores.{Holds, IsStore}
 use Rattle.te_trail.specs.Trails.{Mark, with_mark, unplanted}
 use Rattle.te_pair.specs.declared.end.End.{End}
-use Rattle.te_pair.specs.Ends.{paths_of}
+use Rattle.te_pair.specs.Ends.{paths_kept}
 use Rattle.te_search.specs.declared.work.Work.{Work}
 use Rattle.te_search.specs.declared.finals.Final.{Final}
 use Rattle.te_search.specs.declared.stack.Level.{Level}
@@ -18,10 +18,10 @@ use Rattle.te_search.specs.declared.stack.Stack.{Stack}
 use Rattle.te_search.specs.Groups.{Partial, IsPartial}
 use Rattle.te_search.specs.Searching.{paths_by, IsSearch}
 use Rattle.te_search.specs.Finals.{numbers_of}
-use Rattle.te_search.specs.Works.{told, threads_of, IsWork, Keeps}
+use Rattle.te_search.specs.Works.{label_told, threads_of, IsWork, WorkKeeps}
 use Rattle.te_search.specs.Findings.{HasThread, put_in, without}
-use Rattle.te_search.specs.Stacks.{Lists, lists_of, IsWhole, Extent, extent_of, extent_at, AreLevels}
-use Rattle.te_search.specs.Stacks.{IsAmong, HasLevels, IsStack, IsReady, IsBegun, IsExploring, IsOpened, count_left}
+use Rattle.te_search.specs.Stacks.{Lists, lists_of, SearchIsWhole, Extent, extent_of, extent_at, AreLevels}
+use Rattle.te_search.specs.Stacks.{EventsAreAmong, HasLevels, IsStack, IsReady, IsBegun, IsExploring, IsOpened, count_left}
 use Rattle.te_search.specs.Plantings.{has_number}
 use Rattle.te_search.proofs.Working.{map_both}
 use Rattle.te_search.proofs.Trying.{state_member}
@@ -60,15 +60,15 @@ begin_stack s t l k pa th le st mo wa fi pe gr lm lw lf lg = record {
     levels = record {
       rise = subst (λ q. IsGroup (as_group q)) (sym pa) k.levels.rise;
       threads_are = th ∙ k.levels.threads_are ∙ ap threads_of (sym events);
-      among = subst (λ q. IsAmong t.work.store.events (as_group q)) (sym pa) (subst (λ q. IsAmong q (as_group s.parked)) (sym events) k.levels.among);
+      among = subst (λ q. EventsAreAmong t.work.store.events (as_group q)) (sym pa) (subst (λ q. EventsAreAmong q (as_group s.parked)) (sym events) k.levels.among);
       levels = subst₂ (λ a b. AreLevels a b t.work.store.marks) (sym lists) (sym le)
           (subst (AreLevels (lists_of s.work) (s.levels.items ++ (l ∷ []))) (sym (ap (λ q. q.marks) st))
-          (levels_begin (lists_of s.work) s.levels.items s.work.store.marks l mark k.levels.levels (subst (IsWhole (lists_of s.work)) (sym lg) k.whole) here long
+          (levels_begin (lists_of s.work) s.levels.items s.work.store.marks l mark k.levels.levels (subst (SearchIsWhole (lists_of s.work)) (sym lg) k.whole) here long
           (let a : length s.levels.items ≡ length s.threads = k.as_many in let b : length s.threads ≤ length s.work.store.paths = k.fewer in omega (arith, a, b))));
     };
     one_more = ap length le ∙ length-append s.levels.items (l ∷ []) ∙ ap (λ n. n + 1) (k.as_many ∙ ap length (sym th));
     fewer = subst₂ (λ a b. length a ≤ length b) (sym th) (sym paths) k.fewer;
-    whole = subst₂ IsWhole (sym lists) (sym gr) k.whole;
+    whole = subst₂ SearchIsWhole (sym lists) (sym gr) k.whole;
     idle = pe ∙ k.idle;
   };
   threads = th;
@@ -123,8 +123,8 @@ pub put_levels : (s t : Stack) (p : Parked) → HasLevels s → PutsOne s t p �
 put_levels s t p h k = record {
   rise = subst (λ q. IsGroup (as_group q)) (sym k.parked) h.rise;
   threads_are = k.threads ∙ ap (λ l. l ++ (p.thread ∷ [])) h.threads_are ∙ sym (map_both (λ m. m.thread) s.work.store.events (as_member p ∷ [])) ∙ ap threads_of (sym k.events);
-  among = subst (λ q. IsAmong t.work.store.events (as_group q)) (sym k.parked)
-      (subst (λ q. IsAmong q (as_group s.parked)) (sym k.events) (λ t e f. elim (last_found s.work.store.events (as_member p) t e f) [
+  among = subst (λ q. EventsAreAmong t.work.store.events (as_group q)) (sym k.parked)
+      (subst (λ q. EventsAreAmong q (as_group s.parked)) (sym k.events) (λ t e f. elim (last_found s.work.store.events (as_member p) t e f) [
         | inl a ↦ h.among t e a
         | inr b ↦ subst₂ (λ u v. member_of u (as_group s.parked) ≡ Some v) b.0 b.1 (parked_found s.parked k.place p h.rise k.is)
       ]));
@@ -171,8 +171,8 @@ opened_stack s t p r k one_path one_move store pe gr = record {
     longer : length t.threads ≡ length s.threads + 1
     longer = ap length k.threads ∙ length-append s.threads (p.thread ∷ [])
 
-    moves : map told t.work.moves.items ≡ map told s.work.moves.items ++ ([] ∷ [])
-    moves = ap (map told) (k.moves ∙ ap (λ l. s.work.moves.items ++ l) one_move) ∙ map_both told s.work.moves.items (None ∷ [])
+    moves : map label_told t.work.moves.items ≡ map label_told s.work.moves.items ++ ([] ∷ [])
+    moves = ap (map label_told) (k.moves ∙ ap (λ l. s.work.moves.items ++ l) one_move) ∙ map_both label_told s.work.moves.items (None ∷ [])
 
 -- the event isn't put yet
 pub not_put : (s : Stack) (t : ℕ) → HasLevels s → has_number s.threads t ≡ false → member_of t s.work.store.events ≡ None
@@ -180,11 +180,11 @@ not_put s t h new = absent s.work.store.events t (subst (λ l. has_number l t �
 
 -- ---- all work is done
 
-pub keeps_levels : (s t : Stack) → HasLevels s → t.parked ≡ s.parked → t.threads ≡ s.threads → t.levels.items ≡ s.levels.items → Keeps s.work t.work → HasLevels t
+pub keeps_levels : (s t : Stack) → HasLevels s → t.parked ≡ s.parked → t.threads ≡ s.threads → t.levels.items ≡ s.levels.items → WorkKeeps s.work t.work → HasLevels t
 keeps_levels s t h pa th le k = record {
   rise = subst (λ q. IsGroup (as_group q)) (sym pa) h.rise;
   threads_are = th ∙ h.threads_are ∙ ap threads_of (sym k.events);
-  among = subst (λ q. IsAmong t.work.store.events (as_group q)) (sym pa) (subst (λ q. IsAmong q (as_group s.parked)) (sym k.events) h.among);
+  among = subst (λ q. EventsAreAmong t.work.store.events (as_group q)) (sym pa) (subst (λ q. EventsAreAmong q (as_group s.parked)) (sym k.events) h.among);
   levels = subst₂ (λ a b. AreLevels (lists_of t.work) a b) (sym le) (sym k.marks) (levels_more (lists_of s.work) (lists_of t.work) s.levels.items s.work.store.marks (record {
     more_events = [];
     events = k.events ∙ sym (append-nil s.work.store.events);
@@ -204,7 +204,7 @@ held_more [] ys x h = absurd h
 held_more (z ∷ xs) ys x (inl e) = inl e
 held_more (z ∷ xs) ys x (inr h) = inr (held_more xs ys x h)
 
-pub settled_stack : (s t : Stack) → IsExploring s → t.parked ≡ s.parked → t.threads ≡ s.threads → t.levels.items ≡ s.levels.items → Keeps s.work t.work → IsWork t.work
+pub settled_stack : (s t : Stack) → IsExploring s → t.parked ≡ s.parked → t.threads ≡ s.threads → t.levels.items ≡ s.levels.items → WorkKeeps s.work t.work → IsWork t.work
     → t.work.pending.items ≡ [] → IsStack t
 settled_stack s t x pa th le k w idle = record {
   levels = keeps_levels s t x.levels pa th le k;
@@ -212,7 +212,7 @@ settled_stack s t x pa th le k w idle = record {
   fewer = (let a : length s.threads ≤ length s.work.store.paths = x.fewer in let b : length t.threads ≡ length s.threads = ap length th in let c : length
       t.work.store.paths ≡ length s.work.store.paths + length k.more_paths = ap length k.paths ∙ length-append s.work.store.paths k.more_paths in omega (arith, a, b, c));
   whole = record {
-    search = subst (λ l. IsSearch t.work.store.events t.work.store.paths (paths_by t.work.store.paths l) (paths_by t.work.store.paths (paths_of t.work.waiting))
+    search = subst (λ l. IsSearch t.work.store.events t.work.store.paths (paths_by t.work.store.paths l) (paths_by t.work.store.paths (paths_kept t.work.waiting))
         (paths_by t.work.store.paths (numbers_of t.work.finals))) idle w.search;
     waits_low = w.waits_low;
     finals_low = w.finals_low;
@@ -238,7 +238,7 @@ post_stack s t p k none pa th le wo = record {
   };
   as_many = ap₂ (λ a b. length a.items) le th ∙ k.as_many ∙ ap (λ a. length a) (sym th);
   fewer = subst₂ (λ a b. length a ≤ length b.store.paths) (sym th) (sym wo) k.fewer;
-  whole = subst (λ b. IsWhole (lists_of b) b.groups) (sym wo) k.whole;
+  whole = subst (λ b. SearchIsWhole (lists_of b) b.groups) (sym wo) k.whole;
   idle = subst (λ b. b.pending.items ≡ []) (sym wo) k.idle;
 }
 
@@ -255,7 +255,7 @@ remove_stack s t u k gone pa th le wo = record {
   };
   as_many = ap₂ (λ a b. length a.items) le th ∙ k.as_many ∙ ap (λ a. length a) (sym th);
   fewer = subst₂ (λ a b. length a ≤ length b.store.paths) (sym th) (sym wo) k.fewer;
-  whole = subst (λ b. IsWhole (lists_of b) b.groups) (sym wo) k.whole;
+  whole = subst (λ b. SearchIsWhole (lists_of b) b.groups) (sym wo) k.whole;
   idle = subst (λ b. b.pending.items ≡ []) (sym wo) k.idle;
 }
 
@@ -289,7 +289,7 @@ empty_search = record {
     nothing [] start rest e = cc
     nothing (x ∷ front) start rest e = cc
 
-empty_whole : IsWhole (record { events = []; paths = []; moves = []; waiting = []; finals = [] }) 0
+empty_whole : SearchIsWhole (record { events = []; paths = []; moves = []; waiting = []; finals = [] }) 0
 empty_whole = record {
   search = empty_search;
   waits_low = λ i n e. cc;
@@ -307,12 +307,12 @@ empty_stack t rise th le st mo pe wa fi gr = record {
   levels = record {
     rise = rise;
     threads_are = th ∙ ap threads_of (sym events);
-    among = subst (λ q. IsAmong q (as_group t.parked)) (sym events) (λ u e h. cc);
+    among = subst (λ q. EventsAreAmong q (as_group t.parked)) (sym events) (λ u e h. cc);
     levels = subst₂ (AreLevels (lists_of t.work)) (sym le) (sym (ap (λ q. q.marks) st)) (record { as_long = refl; each = λ i l m e f. cc; rising = λ i j l k m n h e f g o. cc });
   };
   as_many = ap length le ∙ ap length (sym th);
   fewer = (let a : length t.threads ≡ 0 = ap length th in omega (arith, a));
-  whole = subst₂ IsWhole (sym lists) (sym gr) empty_whole;
+  whole = subst₂ SearchIsWhole (sym lists) (sym gr) empty_whole;
   idle = pe;
 }
   where

@@ -6,7 +6,7 @@ use Rattle.te_terms.specs.Steps.{Member, at_term, giving, quiet_step, with_head}
 use Rattle.te_terms.specs.Joint.{choice, meeting, quiet, labelled, Message, after_choice, sending, receiving, member_of, with_member, with_term, handed, meeting_of, joint_step}
 use Rattle.te_terms.specs.Settling.{here, after_one}
 use Rattle.te_terms.proofs.Settles.{quietly_thread}
-use Rattle.te_trail.specs.States.{chosen, Ends, met}
+use Rattle.te_trail.specs.States.{chosen, MovedEnds, members_met}
 use Rattle.te_trail.proofs.MovesChain.{mapped}
 use Rattle.te_trail.proofs.PastsChain.{then_some}
 use Rattle.te_trail.proofs.MembersMove.{Handing, handing, found_thread}
@@ -51,11 +51,11 @@ stepped_by_choice i left h k e =
 pub record Joining (i j : ℕ) (h k : List Member) : Type 0 where
   pub sender : Member
   pub receiver : Member
-  pub ends : Ends
+  pub ends : MovedEnds
   pub apart : nat_eq i j ≡ false
   pub at_i : member_of i h ≡ Some sender
   pub at_j : member_of j h ≡ Some receiver
-  pub meet : met sender receiver ≡ Some ends
+  pub meet : members_met sender receiver ≡ Some ends
   pub sender_thread : ends.sender.thread ≡ i
   pub receiver_thread : ends.receiver.thread ≡ j
   pub is : with_member ends.receiver (with_member ends.sender h) ≡ k
@@ -102,7 +102,7 @@ steps_quietly i h m n e q = rw (e, q) refl
 pub steps_by_choice : (i : ℕ) (left : Bool) (h : List Member) (m n : Member) → member_of i h ≡ Some m → chosen left m ≡ Some n → joint_step (labelled (choice i left)) h ≡ Some (with_member n h)
 steps_by_choice i left h m n e c = let a : (t : Term) × (after_choice left m.term ≡ Some t) × (at_term m t ≡ n) = mapped (at_term m) (after_choice left m.term) n c in rw (e, a.1, a.2) refl
 
-pub steps_by_meeting : (i j : ℕ) (h : List Member) (s r : Member) (ends : Ends) → nat_eq i j ≡ false → member_of i h ≡ Some s → member_of j h ≡ Some r → met s r ≡ Some ends
+pub steps_by_meeting : (i j : ℕ) (h : List Member) (s r : Member) (ends : MovedEnds) → nat_eq i j ≡ false → member_of i h ≡ Some s → member_of j h ≡ Some r → members_met s r ≡ Some ends
     → joint_step (labelled (meeting i j)) h ≡ Some (with_member ends.receiver (with_member ends.sender h))
 steps_by_meeting i j h s r ends ne ei ej m =
     let b : Handing s r ends = handing s r ends m in

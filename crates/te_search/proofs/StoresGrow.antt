@@ -8,7 +8,7 @@ use Rattle.te_terms.specs.Settling.{settled}
 use Rattle.te_path.specs.Paths.{IsChoice}
 use Rattle.te_trail.specs.Paths.{Path, planted, branched, sent, got, move_of}
 use Rattle.te_trail.specs.Clocks.{Agree, IsSound}
-use Rattle.te_trail.specs.States.{chosen, Ends, met, state_of, HasState}
+use Rattle.te_trail.specs.States.{chosen, MovedEnds, members_met, path_state, HasState}
 use Rattle.te_trail.specs.Stores.{Holds, IsNext, with_move, with_moves, AreMade, IsStore}
 use Rattle.te_trail.specs.Trails.{FaceEachOther}
 use Rattle.te_trail.proofs.ClockLaws.{eq_same}
@@ -114,7 +114,7 @@ plant_grows g paths t m store at new = one_more g paths (planted t) store (λ h.
     no_meeting s r e = cc
 
 pub branch_grows : (g : List Member) (paths : List Path) (x : Path) (left : Bool) → IsStore g paths → Holds paths x → (¬ Holds paths (branched x left))
-    → ((m : Member) → state_of g x ≡ Some m → IsChoice m.term) → IsStore g (paths ++ (branched x left ∷ []))
+    → ((m : Member) → path_state g x ≡ Some m → IsChoice m.term) → IsStore g (paths ++ (branched x left ∷ []))
 branch_grows g paths x left store hx new at = one_more g paths (branched x left) store
     (grown_has paths [] x store.made hx, (λ h. new (made_before paths (branched x left) h))) new (store.sound x hx) there no_meeting
   where
@@ -138,7 +138,7 @@ branch_grows g paths x left store hx new at = one_more g paths (branched x left)
     )
 
 pub meet_grows : (g : List Member) (paths : List Path) (s r : Path) → IsStore g paths → Holds paths s → Holds paths r → (¬ Holds paths (sent s r)) → Agree s r
-    → ((a b : Member) → state_of g s ≡ Some a → state_of g r ≡ Some b → FaceEachOther a b) → IsStore g (paths ++ (sent s r ∷ (got s r ∷ [])))
+    → ((a b : Member) → path_state g s ≡ Some a → path_state g r ≡ Some b → FaceEachOther a b) → IsStore g (paths ++ (sent s r ∷ (got s r ∷ [])))
 meet_grows g paths s r store hs hr new agree stand = two_more g paths s r store hs hr new agree (settled ends.sender, both.0) (settled ends.receiver, both.1)
   where
     a : HasState g s
@@ -150,11 +150,11 @@ meet_grows g paths s r store hs hr new agree stand = two_more g paths s r store 
     face : FaceEachOther a.0 b.0
     face = stand a.0 b.0 a.1 b.1
 
-    ends : Ends
+    ends : MovedEnds
     ends = record { sender = at_term a.0 (with_head (giving []) a.0.term); receiver = at_term b.0 (with_head (giving face.message.value) b.0.term) }
 
-    meeting_is : met a.0 b.0 ≡ Some ends
+    meeting_is : members_met a.0 b.0 ≡ Some ends
     meeting_is = rw (face.sends, face.receives, eq_same face.message.channel) refl
 
-    both : (state_of g (sent s r) ≡ Some (settled ends.sender)) × (state_of g (got s r) ≡ Some (settled ends.receiver))
+    both : (path_state g (sent s r) ≡ Some (settled ends.sender)) × (path_state g (got s r) ≡ Some (settled ends.receiver))
     both = state_after g s r a.0 b.0 ends a.1 b.1 meeting_is

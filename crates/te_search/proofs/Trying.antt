@@ -9,16 +9,17 @@ use Rattle.te_terms.specs.Settling.{settled}
 use Rattle.te_terms.specs.Joint.{member_of}
 use Rattle.te_trail.specs.Paths.{Path, planted, branched, sent, got, thread_of, parent_of, depth_of, move_of, RestsOn, IsAbove, OnOneLine}
 use Rattle.te_trail.specs.Clocks.{deeper, clock_of}
-use Rattle.te_trail.specs.States.{chosen, Ends, met, state_of, HasState}
+use Rattle.te_trail.specs.States.{chosen, MovedEnds, members_met, path_state, HasState}
 use Rattle.te_trail.specs.Stores.{Holds, any_rests_on}
-use Rattle.te_trail.specs.Trails.{IsClock, TellsWhether, IsThread}
+use Rattle.te_trail.specs.Trails.{IsClock, TellsWhether, IsPathThread}
 use Rattle.te_trail.proofs.Lines.{above_depth, above_same, rests_move}
 use Rattle.te_trail.proofs.ClockLaws.{clock_in, clock_thread, clock_top, agree_by}
 use Rattle.te_trail.proofs.MovesChain.{mapped}
 use Rattle.te_trail.proofs.PastsChain.{pasts_true, then_some, parts_of}
 use Rattle.te_search.specs.Groups.{IsFinal}
-use Rattle.te_search.specs.Searching.{path_at, paths_by, AreUp, Fails}
-use Rattle.te_search.specs.Assemblies.{Tries, TriesBy, Numbers, Names, later_number, joint, IsTop, Crew, IsLined, Stand, AreNumbers}
+use Rattle.te_search.specs.Searching.{paths_by, AreUp, Fails}
+use Rattle.te_trail.specs.Records.{path_at}
+use Rattle.te_search.specs.Assemblies.{Tries, TriesBy, Numbers, NamesPaths, later_number, joint, IsTop, Crew, IsLined, AssemblyStand, AreNumbers}
 use Rattle.te_search.specs.Assemblies.{AreNone, TellsFinal, IsOpenAt, IsOfThreads, TellsLined, TakesIn, Reaches, takes, IsFound, Assembles, TriesOnly}
 use Rattle.te_search.proofs.FinalsTold.{HasAllOf}
 use Rattle.te_search.proofs.ListLaws.{holds_at, place_of}
@@ -128,11 +129,11 @@ member_place t (x ∷ g) m e = go (member_place t g m) (nat_eq x.thread t) refl 
 
 pub state_member : (g : List Member) (x : Path) → HasState g x → (m : Member) × (member_of (thread_of x) g ≡ Some m)
 state_member g (planted t) h = let a : (m : Member) × (member_of t g ≡ Some m) × (settled m ≡ h.0) = mapped settled (member_of t g) h.0 h.1 in (a.0, a.1)
-state_member g (branched p l) h = let b : (m : Member) × (state_of g p ≡ Some m) × (option_map settled (chosen l m) ≡ Some h.0) = then_some (λ m. option_map settled (chosen l m))
-    (state_of g p) h.0 h.1 in state_member g p (b.0, b.1)
-state_member g (sent s r) h = let b : (a : Member) × (b : Member) × (p : Ends) × (state_of g s ≡ Some a) × (state_of g r ≡ Some b) × (met a b ≡ Some p) = parts_of g s r
+state_member g (branched p l) h = let b : (m : Member) × (path_state g p ≡ Some m) × (option_map settled (chosen l m) ≡ Some h.0) = then_some (λ m. option_map settled (chosen l m))
+    (path_state g p) h.0 h.1 in state_member g p (b.0, b.1)
+state_member g (sent s r) h = let b : (a : Member) × (b : Member) × (p : MovedEnds) × (path_state g s ≡ Some a) × (path_state g r ≡ Some b) × (members_met a b ≡ Some p) = parts_of g s r
     (λ p. settled p.sender) h.0 h.1 in state_member g s (b.0, b.3)
-state_member g (got s r) h = let b : (a : Member) × (b : Member) × (p : Ends) × (state_of g s ≡ Some a) × (state_of g r ≡ Some b) × (met a b ≡ Some p) = parts_of g s r
+state_member g (got s r) h = let b : (a : Member) × (b : Member) × (p : MovedEnds) × (path_state g s ≡ Some a) × (path_state g r ≡ Some b) × (members_met a b ≡ Some p) = parts_of g s r
     (λ p. settled p.receiver) h.0 h.1 in state_member g r (b.1, b.4)
 
 -- ---- final or not, place by place
@@ -180,11 +181,11 @@ abbrev pub LinedTo : List ℕ → Path → (ℕ → Option Path) → ℕ → Typ
 LinedTo threads x J n = (i t : ℕ) (a c : Path) → i < n → slice_get threads i ≡ Some t → clock_of x t ≡ Some a → J t ≡ Some c → OnOneLine a c
 
 abbrev pub LinesTo : List Path → List ℕ → ℕ → List (Option ℕ) → ℕ → Type 0
-LinesTo paths threads p joined n = (x : Path) (J : ℕ → Option Path) → slice_get paths p ≡ Some x → Names paths threads J joined → LinedTo threads x J n
+LinesTo paths threads p joined n = (x : Path) (J : ℕ → Option Path) → slice_get paths p ≡ Some x → NamesPaths paths threads J joined → LinedTo threads x J n
 
 -- one more thread, if its paths are on a line
 lines_more : (paths : List Path) (threads : List ℕ) (p : ℕ) (joined : List (Option ℕ)) (n t : ℕ) → slice_get threads n ≡ Some t → LinesTo paths threads p joined n
-    → ((x : Path) (J : ℕ → Option Path) → slice_get paths p ≡ Some x → Names paths threads J joined → (a c : Path) → clock_of x t ≡ Some a → J t ≡ Some c → OnOneLine a c)
+    → ((x : Path) (J : ℕ → Option Path) → slice_get paths p ≡ Some x → NamesPaths paths threads J joined → (a c : Path) → clock_of x t ≡ Some a → J t ≡ Some c → OnOneLine a c)
     → LinesTo paths threads p joined (n + 1)
 lines_more paths threads p joined n t et lines one x J ex nm i s a c h es ea ec = elim (eq-or-lt_of_le (let k : i ≤ n = omega (arith, h) in k)) [
   | inl e ↦ (let same : t ≡ s = (let f : slice_get threads n ≡ Some s = subst (λ k. slice_get threads k ≡ Some s) e es in cc) in one x J ex nm a c
@@ -236,7 +237,7 @@ lines_all paths threads p joined lines x J ex nm of = (
 -- ---- taking in, thread by thread
 
 abbrev pub TakesTo : List Path → List ℕ → ℕ → List (Option ℕ) → List (Option ℕ) → ℕ → Type 0
-TakesTo paths threads p joined out n = (x : Path) (J : ℕ → Option Path) → slice_get paths p ≡ Some x → Names paths threads J joined → IsLined x J → (i t : ℕ) (o : Option ℕ)
+TakesTo paths threads p joined out n = (x : Path) (J : ℕ → Option Path) → slice_get paths p ≡ Some x → NamesPaths paths threads J joined → IsLined x J → (i t : ℕ) (o : Option ℕ)
     → i < n → slice_get threads i ≡ Some t → slice_get out i ≡ Some o → Numbers paths (deeper (clock_of x t) (J t)) o
 
 last_or_before : {A : Type 0} (xs : List A) (y : A) (i : ℕ) (o : A) → slice_get (xs ++ (y ∷ [])) i ≡ Some o → ((i ≡ length xs) × (y ≡ o)) ⊎ ((i < length xs) × (slice_get xs i ≡ Some o))
@@ -290,7 +291,7 @@ numbers_more paths p t out own there low cl ths nums i m e = elim (last_or_befor
 -- of these final paths the first n have been tried for the open thread
 abbrev pub TriedTo : List Member → List Path → List ℕ → List ℕ → List ℕ → List (Option ℕ) → ℕ → ℕ → ℕ → Type 0
 TriedTo g paths threads finals there joined t n count = (start : Path) (ps : List Path)
-    → Crew g (Holds paths) (IsFinal g) ps → Holds ps start → Names paths threads (joint ps) joined
+    → Crew g (Holds paths) (IsFinal g) ps → Holds ps start → NamesPaths paths threads (joint ps) joined
     → TriesBy g paths start ps (paths_by paths there) t n count
     × ((j p : ℕ) (x : Path) → j < n → slice_get there j ≡ Some p → slice_get paths p ≡ Some x → thread_of x ≡ t
     → IsLined x (joint ps) → Fails (Holds (paths_by paths finals)) (x ∷ ps))
@@ -302,7 +303,7 @@ tried_none g paths threads finals there joined t start ps crew hs nm =
 
 tried_next : (g : List Member) (paths : List Path) (threads finals there : List ℕ) (joined : List (Option ℕ)) (t n p count : ℕ) → slice_get there n ≡ Some p
     → TriedTo g paths threads finals there joined t n count
-    → ((ps : List Path) → Crew g (Holds paths) (IsFinal g) ps → Names paths threads (joint ps) joined → (x : Path) → slice_get paths p ≡ Some x → thread_of x ≡ t
+    → ((ps : List Path) → Crew g (Holds paths) (IsFinal g) ps → NamesPaths paths threads (joint ps) joined → (x : Path) → slice_get paths p ≡ Some x → thread_of x ≡ t
     → ¬ IsLined x (joint ps)) → TriedTo g paths threads finals there joined t (n + 1) count
 tried_next g paths threads finals there joined t n p count ep tried off start ps crew hs nm = let r : TriesBy g paths start ps (paths_by paths there) t n count ×
     ((j p : ℕ) (x : Path) → j < n → slice_get there j ≡ Some p → slice_get paths p ≡ Some x → thread_of x ≡ t → IsLined x (joint ps)
@@ -316,20 +317,20 @@ tried_next g paths threads finals there joined t n p count ep tried off start ps
     )
 
 pub tried_thread : (g : List Member) (paths : List Path) (threads finals there : List ℕ) (joined : List (Option ℕ)) (t n p s count : ℕ) → slice_get there n ≡ Some p
-    → IsThread paths p s → (¬ (s ≡ t)) → TriedTo g paths threads finals there joined t n count → TriedTo g paths threads finals there joined t (n + 1) count
+    → IsPathThread paths p s → (¬ (s ≡ t)) → TriedTo g paths threads finals there joined t n count → TriedTo g paths threads finals there joined t (n + 1) count
 tried_thread g paths threads finals there joined t n p s count ep th ne tried = tried_next g paths threads finals there
     joined t n p count ep tried (λ ps crew nm x ex tx line. ne (sym (th x ex) ∙ tx))
 
 -- ---- what a store has
 
-pub stands_made : (g : List Member) (paths : List Path) (threads finals : List ℕ) → Stand g paths threads finals → (y : Path) (t : ℕ) (c : Path) → Holds paths y → clock_of y t ≡ Some c → Holds paths c
+pub stands_made : (g : List Member) (paths : List Path) (threads finals : List ℕ) → AssemblyStand g paths threads finals → (y : Path) (t : ℕ) (c : Path) → Holds paths y → clock_of y t ≡ Some c → Holds paths c
 stands_made g paths threads finals st y t c h e = st.closed y c h (clock_in y t c (move_of c) e (rests_move c))
 
-pub stands_top : (g : List Member) (paths : List Path) (threads finals : List ℕ) → Stand g paths threads finals → (x : Path) → IsFinal g x → IsTop (Holds paths) x
+pub stands_top : (g : List Member) (paths : List Path) (threads finals : List ℕ) → AssemblyStand g paths threads finals → (x : Path) → IsFinal g x → IsTop (Holds paths) x
 stands_top g paths threads finals st x f z hz up = final_is_last g x z f (st.store.state z hz) up
 
 -- the thread of a path has an event
-pub joined_threads : (g : List Member) (paths : List Path) (threads finals : List ℕ) (ps : List Path) → Stand g paths threads finals → Crew g (Holds paths) (IsFinal g) ps
+pub joined_threads : (g : List Member) (paths : List Path) (threads finals : List ℕ) (ps : List Path) → AssemblyStand g paths threads finals → Crew g (Holds paths) (IsFinal g) ps
     → IsOfThreads threads (joint ps)
 joined_threads g paths threads finals ps st crew t c e =
     let y : (y : Path) × Holds ps y × (clock_of y t ≡ Some c) = joint_in ps t c e in
@@ -338,7 +339,7 @@ joined_threads g paths threads finals ps st crew t c e =
     let i : (i : ℕ) × (slice_get (map (λ m. m.thread) g) i ≡ Some (thread_of c)) = member_place (thread_of c) g m.0 m.1 in
     (i.0, ap (λ l. slice_get l i.0) st.threads_are ∙ i.1 ∙ ap Some (clock_thread y.0 t c y.2))
 
-pub tried_off : (g : List Member) (paths : List Path) (threads finals there : List ℕ) (joined : List (Option ℕ)) (t n p count : ℕ) → Stand g paths threads there
+pub tried_off : (g : List Member) (paths : List Path) (threads finals there : List ℕ) (joined : List (Option ℕ)) (t n p count : ℕ) → AssemblyStand g paths threads there
     → slice_get there n ≡ Some p → TellsLined paths threads p joined false → TriedTo g paths threads finals there joined t n count
     → TriedTo g paths threads finals there joined t (n + 1) count
 tried_off g paths threads finals there joined t n p count st ep lined tried = tried_next g paths threads finals there joined t n p count ep tried
@@ -346,7 +347,7 @@ tried_off g paths threads finals there joined t n p count st ep lined tried = tr
 
 -- the open thread's named path isn't final
 open_named : (g : List Member) (paths : List Path) (threads finals : List ℕ) (joined : List (Option ℕ)) (ps : List Path) (i t : ℕ) → slice_get threads i ≡ Some t
-    → Names paths threads (joint ps) joined → IsOpenAt g paths joined (Some i) → (x : Path) × (joint ps t ≡ Some x) × (¬ IsFinal g x)
+    → NamesPaths paths threads (joint ps) joined → IsOpenAt g paths joined (Some i) → (x : Path) × (joint ps t ≡ Some x) × (¬ IsFinal g x)
 open_named g paths threads finals joined ps i t et nm (m, e, f) = let o : (c : Path) × (slice_get paths m ≡ Some c) × (joint ps t ≡ Some c) = nm.each i t (Some m) et e in (o.0, o.2, f o.0 o.1)
 
 -- a path is planted, or goes on from one before
@@ -369,7 +370,7 @@ pub record Onward (g : List Member) (paths : List Path) (threads finals : List �
   pub adds : Adding g paths start ps (paths_by paths finals) t n x
 
 pub onward : (g : List Member) (paths : List Path) (threads finals : List ℕ) (joined : List (Option ℕ)) (start : Path) (ps : List Path) (i t n p : ℕ) (x : Path)
-    → Stand g paths threads finals → Crew g (Holds paths) (IsFinal g) ps → Holds ps start → Names paths threads (joint ps) joined
+    → AssemblyStand g paths threads finals → Crew g (Holds paths) (IsFinal g) ps → Holds ps start → NamesPaths paths threads (joint ps) joined
     → slice_get threads i ≡ Some t → IsOpenAt g paths joined (Some i) → slice_get finals n ≡ Some p → slice_get paths p ≡ Some x → thread_of x ≡ t → IsLined x (joint ps)
     → Onward g paths threads finals start ps n x t
 onward g paths threads finals joined start ps i t n p x st crew hs nm et op ep ex tx line = record {
@@ -450,8 +451,8 @@ open_low g paths threads joined i wide op = open_in g paths threads joined [] i 
 
 -- the final path is taken in, and from there nothing is found
 pub tried_fails : (g : List Member) (paths : List Path) (threads finals there : List ℕ) (joined out : List (Option ℕ))
-    (i t n p count more total : ℕ) → Stand g paths threads there
-    → slice_get threads i ≡ Some t → IsOpenAt g paths joined (Some i) → slice_get there n ≡ Some p → IsThread paths p t → TellsLined paths threads p joined true
+    (i t n p count more total : ℕ) → AssemblyStand g paths threads there
+    → slice_get threads i ≡ Some t → IsOpenAt g paths joined (Some i) → slice_get there n ≡ Some p → IsPathThread paths p t → TellsLined paths threads p joined true
     → TakesIn paths threads p joined out
     → Assembles g paths threads finals out more None → total ≡ count + suc more
     → TriedTo g paths threads finals there joined t n count
@@ -472,7 +473,7 @@ tried_fails g paths threads finals there joined out i t n p count more total st 
       ],
     )
 
-pub tried_all : (g : List Member) (paths : List Path) (threads finals there : List ℕ) (joined : List (Option ℕ)) (i t count : ℕ) → Stand g paths threads finals
+pub tried_all : (g : List Member) (paths : List Path) (threads finals there : List ℕ) (joined : List (Option ℕ)) (i t count : ℕ) → AssemblyStand g paths threads finals
     → slice_get threads i ≡ Some t → IsOpenAt g paths joined (Some i) → HasAllOf paths finals there t → TriedTo g paths threads finals there joined t (length there) count
     → Assembles g paths threads finals joined count None
 tried_all g paths threads finals there joined i t count st et op has tried start ps crew hs nm =
@@ -487,8 +488,8 @@ tried_all g paths threads finals there joined i t count st et op has tried start
     )
 
 -- what was tried so far and the one to be taken in now, where there is nothing left to spend
-pub tried_spent : (g : List Member) (paths : List Path) (threads finals there : List ℕ) (joined : List (Option ℕ)) (i t n p count total : ℕ) → Stand g paths threads there
-    → slice_get threads i ≡ Some t → IsOpenAt g paths joined (Some i) → slice_get there n ≡ Some p → IsThread paths p t → TellsLined paths threads p joined true
+pub tried_spent : (g : List Member) (paths : List Path) (threads finals there : List ℕ) (joined : List (Option ℕ)) (i t n p count total : ℕ) → AssemblyStand g paths threads there
+    → slice_get threads i ≡ Some t → IsOpenAt g paths joined (Some i) → slice_get there n ≡ Some p → IsPathThread paths p t → TellsLined paths threads p joined true
     → total ≡ count + 1 → TriedTo g paths threads finals there joined t n count → TriesOnly g paths threads joined total
 tried_spent g paths threads finals there joined i t n p count total st et op ep th lined is tried start ps crew hs nm =
     let x : (x : Path) × (slice_get paths p ≡ Some x) = get_some paths p (st.finals_low n p ep) in
@@ -499,8 +500,8 @@ tried_spent g paths threads finals there joined i t n p count total st et op ep 
 
 -- and beyond the last that was taken in
 pub tried_beyond : (g : List Member) (paths : List Path) (threads finals there : List ℕ) (joined out : List (Option ℕ))
-    (i t n p count more total : ℕ) → Stand g paths threads there
-    → slice_get threads i ≡ Some t → IsOpenAt g paths joined (Some i) → slice_get there n ≡ Some p → IsThread paths p t → TellsLined paths threads p joined true
+    (i t n p count more total : ℕ) → AssemblyStand g paths threads there
+    → slice_get threads i ≡ Some t → IsOpenAt g paths joined (Some i) → slice_get there n ≡ Some p → IsPathThread paths p t → TellsLined paths threads p joined true
     → TakesIn paths threads p joined out
     → TriesOnly g paths threads out more → total ≡ count + suc more → TriedTo g paths threads finals there joined t n count → TriesOnly g paths threads joined total
 tried_beyond g paths threads finals there joined out i t n p count more total st et op ep th lined taken tries is tried start ps crew hs nm =
@@ -514,7 +515,7 @@ tried_beyond g paths threads finals there joined out i t n p count more total st
 -- the final path is taken in, and from there a group is found
 pub tried_found : (g : List Member) (paths : List Path) (threads finals there : List ℕ) (joined out : List (Option ℕ))
     (i t n p count more total : ℕ) (v : Vec (Option ℕ) Global)
-    → Stand g paths threads there → slice_get threads i ≡ Some t → IsOpenAt g paths joined (Some i) → slice_get there n ≡ Some p → IsThread paths p t
+    → AssemblyStand g paths threads there → slice_get threads i ≡ Some t → IsOpenAt g paths joined (Some i) → slice_get there n ≡ Some p → IsPathThread paths p t
     → TellsLined paths threads p joined true → TakesIn paths threads p joined out
     → Assembles g paths threads finals out more (Some v) → total ≡ count + suc more
     → TriedTo g paths threads finals there joined t n count → Assembles g paths threads finals joined total (Some v)
@@ -533,7 +534,7 @@ pub found_here : (g : List Member) (paths : List Path) (threads finals : List �
     → IsOpenAt g paths joined None → v.items ≡ joined → Assembles g paths threads finals joined count (Some v)
 found_here g paths threads finals joined v count z all e start ps crew hs nm = (
   subst (Tries g paths start ps) (sym z) (tries_zero g paths start ps),
-  record { members = ps; crew = crew; names = subst (Names paths threads (joint ps)) (sym e) nm; reached = λ r. r; all = subst (λ j. IsOpenAt g paths j None) (sym e) all },
+  record { members = ps; crew = crew; names = subst (NamesPaths paths threads (joint ps)) (sym e) nm; reached = λ r. r; all = subst (λ j. IsOpenAt g paths j None) (sym e) all },
 )
 
 -- ---- one path alone
@@ -545,7 +546,7 @@ pub none_more : (joined : List (Option ℕ)) → AreNone joined → AreNone (joi
 none_more joined none i o e = elim (last_or_before joined None i o e) [ inl a ↦ sym a.1 | inr b ↦ none i o b.1 ]
 
 pub alone_named : (paths : List Path) (threads : List ℕ) (p : ℕ) (none out : List (Option ℕ)) → length none ≡ length threads → AreNone none → TakesIn paths threads p none out
-    → (x : Path) → slice_get paths p ≡ Some x → Names paths threads (joint (x ∷ [])) out
+    → (x : Path) → slice_get paths p ≡ Some x → NamesPaths paths threads (joint (x ∷ [])) out
 alone_named paths threads p none out wide are taken x ex = taken x (joint []) ex (record { wide = wide; each = λ i t o et eo. subst (Numbers paths None) (sym (are i o eo)) refl })
     (λ t a c ea ec. absurd (nothing c ec))
   where

@@ -8,16 +8,17 @@ use Rattle.te_terms.specs.Joint.{after_choice, sending, receiving}
 use Rattle.te_trail.specs.Paths.{Path, branched, sent, got, thread_of}
 use Rattle.te_trail.specs.Stores.{Holds, IsStore, labels_of_move}
 use Rattle.te_trail.specs.Clocks.{Agree}
-use Rattle.te_trail.specs.States.{chosen, Ends, met, state_of}
+use Rattle.te_trail.specs.States.{chosen, MovedEnds, members_met, path_state}
 use Rattle.te_trail.proofs.MovesChain.{mapped}
 use Rattle.te_trail.proofs.MembersMove.{Handing, handing}
-use Rattle.te_pair.specs.Ends.{path_of, paths_of}
+use Rattle.te_pair.specs.Ends.{path_of, paths_kept}
 use Rattle.te_search.specs.declared.work.Work.{Work}
 use Rattle.te_search.specs.Finals.{numbers_of, TellThreads}
 use Rattle.te_pair.specs.declared.end.End.{End}
 use Rattle.te_search.specs.Groups.{IsFinal}
-use Rattle.te_search.specs.Searching.{path_at, paths_by, AreUp, AllFail, IsSearch}
-use Rattle.te_search.specs.Works.{AreLow, AreEnds, told, pending_of, IsCounted, IsWork, IsWorkOn, met_paths, StandsAs, others_of, IsMeeting}
+use Rattle.te_search.specs.Searching.{paths_by, AreUp, AllFail, IsSearch}
+use Rattle.te_trail.specs.Records.{path_at}
+use Rattle.te_search.specs.Works.{AreLow, EndsStand, label_told, pending_of, IsCounted, IsWork, IsWorkOn, met_paths, WaitsOn, others_of, IsMeeting}
 use Rattle.te_search.proofs.ListLaws.{holds_left, holds_right, holds_which, holds_one, holds_at, once_by_places}
 use Rattle.te_search.proofs.FinalsTold.{told_more}
 use Rattle.te_search.proofs.WorkDone.{IsStep, step_done}
@@ -27,7 +28,7 @@ use Rattle.te_search.proofs.Meeting.{IsThere, end_of_other, other_of_end, number
 
 -- ---- what stands at a send or a receive does nothing else
 
-stands_alone : (g : List Member) (x : Path) (channel : ℕ) (sends : Bool) → (s : StandsAs g x channel sends) → Rests s.member s.member.term × ((left : Bool) → after_choice left s.member.term ≡ None)
+stands_alone : (g : List Member) (x : Path) (channel : ℕ) (sends : Bool) → (s : WaitsOn g x channel sends) → Rests s.member s.member.term × ((left : Bool) → after_choice left s.member.term ≡ None)
 stands_alone g x channel true s = let a = send_is_alone s.member s.member.term s.stands.0 s.stands.1 in (a.0, a.1)
 stands_alone g x channel false s = let a = receive_is_alone s.member s.member.term channel s.stands in (a.0, a.1)
 
@@ -37,36 +38,36 @@ same_member o a b e f = cc
 none_some : {A : Type 0} (o : Option A) (a : A) → o ≡ None → o ≡ Some a → ⊥
 none_some o a e f = cc
 
-waits_choose : (g : List Member) (x : Path) (channel : ℕ) (sends : Bool) → StandsAs g x channel sends → (l : Bool) (m u : Member) → state_of g x ≡ Some m → chosen l m ≡ Some u → ⊥
+waits_choose : (g : List Member) (x : Path) (channel : ℕ) (sends : Bool) → WaitsOn g x channel sends → (l : Bool) (m u : Member) → path_state g x ≡ Some m → chosen l m ≡ Some u → ⊥
 waits_choose g x channel sends s l m u st c =
     let a : (t : Term) × (after_choice l m.term ≡ Some t) × (at_term m t ≡ u) = mapped (at_term m) (after_choice l m.term) u c in
-    let one : s.member ≡ m = same_member (state_of g x) s.member m s.state st in
+    let one : s.member ≡ m = same_member (path_state g x) s.member m s.state st in
     none_some (after_choice l m.term) a.0 (ap (λ k. after_choice l k.term) (sym one) ∙ (stands_alone g x channel sends s).1 l) a.1
 
-waits_end : (g : List Member) (x : Path) (channel : ℕ) (sends : Bool) → StandsAs g x channel sends → ¬ IsFinal g x
+waits_end : (g : List Member) (x : Path) (channel : ℕ) (sends : Bool) → WaitsOn g x channel sends → ¬ IsFinal g x
 waits_end g x channel sends s f =
-    let one : s.member ≡ f.member = same_member (state_of g x) s.member f.member s.state f.state in
+    let one : s.member ≡ f.member = same_member (path_state g x) s.member f.member s.state f.state in
     none_some (outcome_of f.member.term) f.outcome (ap (λ k. outcome_of k.term) (sym one) ∙ (stands_alone g x channel sends s).0.1) f.ends
 
 -- which of two that meet is which
-sender_side : (g : List Member) (x : Path) (channel : ℕ) (sends : Bool) (a b : Member) (e : Ends) → StandsAs g x channel sends → state_of g x ≡ Some a → (h : Handing a b e)
+sender_side : (g : List Member) (x : Path) (channel : ℕ) (sends : Bool) (a b : Member) (e : MovedEnds) → WaitsOn g x channel sends → path_state g x ≡ Some a → (h : Handing a b e)
     → (sends ≡ true) × (h.message.channel ≡ channel)
 sender_side g x channel true a b e s st h =
-    let one : s.member ≡ a = same_member (state_of g x) s.member a s.state st in
+    let one : s.member ≡ a = same_member (path_state g x) s.member a s.state st in
     let m : Some s.stands.0 ≡ Some h.message = sym s.stands.1 ∙ ap (λ k. sending k.term) one ∙ h.sends in
     (refl, ap (λ k. k.channel) (let q : h.message ≡ s.stands.0 = cc in q) ∙ s.stands.2)
 sender_side g x channel false a b e s st h =
-    let one : s.member ≡ a = same_member (state_of g x) s.member a s.state st in
+    let one : s.member ≡ a = same_member (path_state g x) s.member a s.state st in
     absurd (none_some (sending a.term) h.message (ap (λ k. sending k.term) (sym one) ∙ (receive_is_alone s.member s.member.term channel s.stands).2) h.sends)
 
-receiver_side : (g : List Member) (x : Path) (channel : ℕ) (sends : Bool) (a b : Member) (e : Ends) → StandsAs g x channel sends → state_of g x ≡ Some b → (h : Handing a b e)
+receiver_side : (g : List Member) (x : Path) (channel : ℕ) (sends : Bool) (a b : Member) (e : MovedEnds) → WaitsOn g x channel sends → path_state g x ≡ Some b → (h : Handing a b e)
     → (sends ≡ false) × (h.channel ≡ channel)
 receiver_side g x channel false a b e s st h =
-    let one : s.member ≡ b = same_member (state_of g x) s.member b s.state st in
+    let one : s.member ≡ b = same_member (path_state g x) s.member b s.state st in
     let m : Some channel ≡ Some h.channel = sym s.stands ∙ ap (λ k. receiving k.term) one ∙ h.receives in
     (refl, (let q : h.channel ≡ channel = cc in q))
 receiver_side g x channel true a b e s st h =
-    let one : s.member ≡ b = same_member (state_of g x) s.member b s.state st in
+    let one : s.member ≡ b = same_member (path_state g x) s.member b s.state st in
     absurd (none_some (receiving b.term) h.channel (ap (λ k. receiving k.term) (sym one) ∙ (send_is_alone s.member s.member.term s.stands.0 s.stands.1).2) h.receives)
 
 pair_first : (s : Bool) (x y : Path) → s ≡ true → Holds (met_paths s x y) (sent x y) × Holds (met_paths s x y) (got x y)
@@ -93,7 +94,7 @@ pair_is false x y q r (inl e) = inr ((let a : q ≡ y = cc in a), (let b : r ≡
 pair_is false x y q r (inr (inl e)) = cc
 pair_is false x y q r (inr (inr n)) = absurd n
 
-end_of : (ends : List End) (i n : ℕ) → slice_get (paths_of ends) i ≡ Some n → (e : End) × (slice_get ends i ≡ Some e) × (e.path ≡ n)
+end_of : (ends : List End) (i n : ℕ) → slice_get (paths_kept ends) i ≡ Some n → (e : End) × (slice_get ends i ≡ Some e) × (e.path ≡ n)
 end_of [] i n e = cc
 end_of (d ∷ ends) zero n e = (d, refl, cc)
 end_of (d ∷ ends) (suc i) n e = end_of ends i n e
@@ -102,24 +103,24 @@ end_of (d ∷ ends) (suc i) n e = end_of ends i n e
 
 -- the work of which a path in hand has met all partners, with the path kept
 pub wait_done : (old mid new : Work) (p : ℕ) (x : Path) (channel : ℕ) (sends : Bool) → slice_get old.store.paths p ≡ Some x → IsWorkOn old p
-    → StandsAs old.store.events x channel sends → IsMeeting old mid x sends (others_of old channel sends) (length (others_of old channel sends))
+    → WaitsOn old.store.events x channel sends → IsMeeting old mid x sends (others_of old channel sends) (length (others_of old channel sends))
     → new.store ≡ mid.store → new.moves.items ≡ mid.moves.items → new.pending.items ≡ mid.pending.items → new.finals ≡ mid.finals → new.groups ≡ mid.groups
     → new.waiting ≡ mid.waiting ++ (record { path = p; channel = channel; sends = sends } ∷ []) → IsWork new
 wait_done old mid new p x channel sends ex w stands m st mo pe fi gr wa = record {
-  search = subst (λ e. IsSearch e new.store.paths (pending_of new) (paths_by new.store.paths (paths_of new.waiting)) (paths_by new.store.paths (numbers_of new.finals)))
+  search = subst (λ e. IsSearch e new.store.paths (pending_of new) (paths_by new.store.paths (paths_kept new.waiting)) (paths_by new.store.paths (numbers_of new.finals)))
       (sym events) (search_of (step_done old.store.events old.store.paths (pending_of old) waits finals x m.news (x ∷ []) [] before step));
   pending_low = subst (AreLow new.store.paths) (sym pe) (subst (λ t. AreLow t.paths mid.pending.items) (sym st) m.gains.pending_low);
-  waits_low = subst (λ q. AreLow q (paths_of new.waiting)) (sym paths)
+  waits_low = subst (λ q. AreLow q (paths_kept new.waiting)) (sym paths)
       (subst (AreLow (old.store.paths ++ m.news)) (sym numbers)
-      (low_both (old.store.paths ++ m.news) (paths_of old.waiting) (p ∷ []) (low_more old.store.paths m.news (paths_of old.waiting) w.waits_low) p_low));
+      (low_both (old.store.paths ++ m.news) (paths_kept old.waiting) (p ∷ []) (low_more old.store.paths m.news (paths_kept old.waiting) w.waits_low) p_low));
   finals_low = subst (λ k. AreLow new.store.paths (numbers_of k)) (sym (fi ∙ m.gains.finals))
       (subst (λ q. AreLow q (numbers_of old.finals)) (sym paths)
       (low_more old.store.paths m.news (numbers_of old.finals) w.finals_low));
   finals_told = subst (TellThreads new.store.paths) (sym (fi ∙ m.gains.finals))
       (subst (λ q. TellThreads q old.finals) (sym paths) (told_more old.store.paths m.news old.finals w.finals_low w.finals_told));
-  ends = subst (λ e. AreEnds e new.store.paths new.waiting) (sym events)
-      (subst (AreEnds old.store.events new.store.paths) (sym waiting) (subst (λ q. AreEnds old.store.events q (old.waiting ++ (own ∷ []))) (sym paths) ends_are));
-  told_are = ap (map told) mo ∙ m.gains.moves ∙ ap (λ k. k ++ map labels_of_move m.news) w.told_are ∙ sym (map_both labels_of_move old.store.paths m.news) ∙ ap (map labels_of_move) (sym paths);
+  ends = subst (λ e. EndsStand e new.store.paths new.waiting) (sym events)
+      (subst (EndsStand old.store.events new.store.paths) (sym waiting) (subst (λ q. EndsStand old.store.events q (old.waiting ++ (own ∷ []))) (sym paths) ends_are));
+  told_are = ap (map label_told) mo ∙ m.gains.moves ∙ ap (λ k. k ++ map labels_of_move m.news) w.told_are ∙ sym (map_both labels_of_move old.store.paths m.news) ∙ ap (map labels_of_move) (sym paths);
   counted = subst (λ e. IsCounted e new.store.paths (paths_by new.store.paths (numbers_of new.finals)) new.groups) (sym events)
       (subst (IsCounted old.store.events new.store.paths (paths_by new.store.paths (numbers_of new.finals))) (sym (gr ∙ m.gains.groups))
       (subst (λ f. IsCounted old.store.events new.store.paths f old.groups) (sym finals_same)
@@ -130,7 +131,7 @@ wait_done old mid new p x channel sends ex w stands m st mo pe fi gr wa = record
     own = record { path = p; channel = channel; sends = sends }
 
     waits : List Path
-    waits = paths_by old.store.paths (paths_of old.waiting)
+    waits = paths_by old.store.paths (paths_kept old.waiting)
 
     finals : List Path
     finals = paths_by old.store.paths (numbers_of old.finals)
@@ -144,8 +145,8 @@ wait_done old mid new p x channel sends ex w stands m st mo pe fi gr wa = record
     waiting : new.waiting ≡ old.waiting ++ (own ∷ [])
     waiting = wa ∙ ap (λ k. k ++ (own ∷ [])) m.gains.waiting
 
-    numbers : paths_of new.waiting ≡ paths_of old.waiting ++ (p ∷ [])
-    numbers = ap paths_of waiting ∙ map_both path_of old.waiting (own ∷ [])
+    numbers : paths_kept new.waiting ≡ paths_kept old.waiting ++ (p ∷ [])
+    numbers = ap paths_kept waiting ∙ map_both path_of old.waiting (own ∷ [])
 
     p_in : p < length old.store.paths
     p_in = get_low old.store.paths x p ex
@@ -157,9 +158,9 @@ wait_done old mid new p x channel sends ex w stands m st mo pe fi gr wa = record
     hx : Holds old.store.paths x
     hx = holds_at old.store.paths p x ex
 
-    waits_same : paths_by new.store.paths (paths_of new.waiting) ≡ waits ++ (x ∷ [])
-    waits_same = ap₂ paths_by paths numbers ∙ map_both (path_at (old.store.paths ++ m.news)) (paths_of old.waiting) (p ∷ [])
-        ∙ ap₂ (λ a b. a ++ (b ∷ [])) (by_more old.store.paths m.news (paths_of old.waiting) w.waits_low)
+    waits_same : paths_by new.store.paths (paths_kept new.waiting) ≡ waits ++ (x ∷ [])
+    waits_same = ap₂ paths_by paths numbers ∙ map_both (path_at (old.store.paths ++ m.news)) (paths_kept old.waiting) (p ∷ [])
+        ∙ ap₂ (λ a b. a ++ (b ∷ [])) (by_more old.store.paths m.news (paths_kept old.waiting) w.waits_low)
         (at_more old.store.paths m.news p p_in ∙ path_there old.store.paths p x ex)
 
     finals_same : paths_by new.store.paths (numbers_of new.finals) ≡ finals
@@ -168,12 +169,12 @@ wait_done old mid new p x channel sends ex w stands m st mo pe fi gr wa = record
     pending_same : pending_of new ≡ pending_of old ++ m.news
     pending_same = ap₂ paths_by (ap (λ t. t.paths) st) pe ∙ m.gains.pending
 
-    ends_are : AreEnds old.store.events (old.store.paths ++ m.news) (old.waiting ++ (own ∷ []))
+    ends_are : EndsStand old.store.events (old.store.paths ++ m.news) (old.waiting ++ (own ∷ []))
     ends_are i e y ei ey = elim (last_or_old old.waiting own i e ei) [
       | inl a ↦ (let at : slice_get (old.store.paths ++ m.news) p ≡ Some x = get_more old.store.paths m.news p x ex in let here : slice_get
           (old.store.paths ++ m.news) p ≡ Some y = ap (λ k. slice_get (old.store.paths ++ m.news) k.path) a.1
-          ∙ ey in let same : x ≡ y = (let k : Some x ≡ Some y = sym at ∙ here in cc) in subst (λ k. StandsAs old.store.events y k.channel k.sends) a.1
-          (subst (λ z. StandsAs old.store.events z channel sends) same stands))
+          ∙ ey in let same : x ≡ y = (let k : Some x ≡ Some y = sym at ∙ here in cc) in subst (λ k. WaitsOn old.store.events y k.channel k.sends) a.1
+          (subst (λ z. WaitsOn old.store.events z channel sends) same stands))
       | inr b ↦ ends_more old.store.events old.store.paths m.news old.waiting w.waits_low w.ends i e y b.1 ey
     ]
 
@@ -189,12 +190,12 @@ wait_done old mid new p x channel sends ex w stands m st mo pe fi gr wa = record
     -- a kept end with its number
     kept_end : (y : Path) → Holds waits y → (j : ℕ) × (e : End) × (slice_get old.waiting j ≡ Some e) × (slice_get old.store.paths e.path ≡ Some y)
     kept_end y h =
-        let l : (i : ℕ) × (n : ℕ) × (slice_get (paths_of old.waiting) i ≡ Some n) × (slice_get old.store.paths n ≡ Some y) = listed old.store.paths
-        (paths_of old.waiting) w.waits_low y h in
+        let l : (i : ℕ) × (n : ℕ) × (slice_get (paths_kept old.waiting) i ≡ Some n) × (slice_get old.store.paths n ≡ Some y) = listed old.store.paths
+        (paths_kept old.waiting) w.waits_low y h in
         let e : (e : End) × (slice_get old.waiting l.0 ≡ Some e) × (e.path ≡ l.1) = end_of old.waiting l.0 l.1 l.2 in
         (l.0, e.0, e.1, ap (slice_get old.store.paths) e.2 ∙ l.3)
 
-    partner : (y : Path) → Holds waits y → Agree x y → ((e : End) → StandsAs old.store.events y e.channel e.sends → (e.channel ≡ channel) × (e.sends ≡ not sends)) → (z : Path)
+    partner : (y : Path) → Holds waits y → Agree x y → ((e : End) → WaitsOn old.store.events y e.channel e.sends → (e.channel ≡ channel) × (e.sends ≡ not sends)) → (z : Path)
         → Holds (met_paths sends x y) z → Holds m.news z
     partner y h ag fits z hz =
         let k : (j : ℕ) × (e : End) × (slice_get old.waiting j ≡ Some e) × (slice_get old.store.paths e.path ≡ Some y) = kept_end y h in
@@ -202,15 +203,15 @@ wait_done old mid new p x channel sends ex w stands m st mo pe fi gr wa = record
         let o : (j : ℕ) × (slice_get (others_of old channel sends) j ≡ Some k.1.path) = other_of_end old.waiting channel (not sends) k.0 k.1 k.2 f.0 f.1 in
         m.made o.0 k.1.path y (get_low (others_of old channel sends) k.1.path o.0 o.1) o.1 k.3 ag z hz
 
-    meet_both : (q r : Path) (a b : Member) (e : Ends) → Holds waits q ⊎ Holds (x ∷ []) q → Holds waits r ⊎ Holds (x ∷ []) r → Agree q r → state_of old.store.events q ≡ Some a
-        → state_of old.store.events r ≡ Some b → met a b ≡ Some e → Holds (old.store.paths ++ m.news) (sent q r) × Holds (old.store.paths ++ m.news) (got q r)
+    meet_both : (q r : Path) (a b : Member) (e : MovedEnds) → Holds waits q ⊎ Holds (x ∷ []) q → Holds waits r ⊎ Holds (x ∷ []) r → Agree q r → path_state old.store.events q ≡ Some a
+        → path_state old.store.events r ≡ Some b → members_met a b ≡ Some e → Holds (old.store.paths ++ m.news) (sent q r) × Holds (old.store.paths ++ m.news) (got q r)
     meet_both q r a b e (inl hq) (inl hr) ag sa sb mt = let k : Holds old.store.paths (sent q r) × Holds old.store.paths (got q r) = before.meetings q r a b e hq hr ag sa sb mt in
         (holds_left old.store.paths m.news (sent q r) k.0, holds_left old.store.paths m.news (got q r) k.1)
     meet_both q r a b e (inr hq) (inr hr) ag sa sb mt = absurd (ag.apart (ap thread_of (holds_one q x hq ∙ sym (holds_one r x hr))))
     meet_both q r a b e (inr hq) (inl hr) ag sa sb mt =
         let one : q ≡ x = holds_one q x hq in
         let h : Handing a b e = handing a b e mt in
-        let s : (sends ≡ true) × (h.message.channel ≡ channel) = sender_side old.store.events x channel sends a b e stands (ap (state_of old.store.events) (sym one) ∙ sa) h in
+        let s : (sends ≡ true) × (h.message.channel ≡ channel) = sender_side old.store.events x channel sends a b e stands (ap (path_state old.store.events) (sym one) ∙ sa) h in
         let p2 : (z : Path) → Holds (met_paths sends x r) z → Holds m.news z = partner r hr (subst (λ k. Agree k r) one ag)
         (λ d sd. (let t : (d.sends ≡ false) × (h.channel ≡ d.channel) = receiver_side old.store.events r d.channel d.sends a b e sd sb h in
         (sym t.1 ∙ sym (eqb-true h.message.channel h.channel h.same) ∙ s.1, t.0 ∙ ap not (sym s.0)))) in
@@ -220,7 +221,7 @@ wait_done old mid new p x channel sends ex w stands m st mo pe fi gr wa = record
     meet_both q r a b e (inl hq) (inr hr) ag sa sb mt =
         let one : r ≡ x = holds_one r x hr in
         let h : Handing a b e = handing a b e mt in
-        let s : (sends ≡ false) × (h.channel ≡ channel) = receiver_side old.store.events x channel sends a b e stands (ap (state_of old.store.events) (sym one) ∙ sb) h in
+        let s : (sends ≡ false) × (h.channel ≡ channel) = receiver_side old.store.events x channel sends a b e stands (ap (path_state old.store.events) (sym one) ∙ sb) h in
         let hq2 : Holds old.store.paths q = before.waits_made q hq in
         let p2 : (z : Path) → Holds (met_paths sends x q) z
         → Holds m.news z = partner q hq (agree_flips q x (before.store.sound q hq2) (before.store.sound x hx) (subst (Agree q) one ag))
@@ -252,7 +253,7 @@ wait_done old mid new p x channel sends ex w stands m st mo pe fi gr wa = record
       where
         other_waits : (j q : ℕ) (y : Path) → slice_get (others_of old channel sends) j ≡ Some q → slice_get old.store.paths q ≡ Some y → Holds waits y
         other_waits j q y e ey = (let t : IsThere old.waiting channel (not sends) q = end_of_other old.waiting channel (not sends) j q e in
-            holds_at waits t.place y (paths_at old.store.paths (paths_of old.waiting) t.place t.end.path y (number_there old.waiting t.place t.end t.is)
+            holds_at waits t.place y (paths_at old.store.paths (paths_kept old.waiting) t.place t.end.path y (number_there old.waiting t.place t.end t.is)
             (ap (slice_get old.store.paths) t.path ∙ ey)))
 
         both_kept : (q r y : Path) → Holds waits y → ((q ≡ x) × (r ≡ y)) ⊎ ((q ≡ y) × (r ≡ x)) → Holds (waits ++ (x ∷ [])) q × Holds (waits ++ (x ∷ [])) r
@@ -260,12 +261,12 @@ wait_done old mid new p x channel sends ex w stands m st mo pe fi gr wa = record
         both_kept q r y hy (inr (a, b)) = (holds_left waits (x ∷ []) q (subst (Holds waits) (sym a) hy), holds_right waits (x ∷ []) r (inl b))
 
     search_of : IsSearch old.store.events (old.store.paths ++ m.news) (pending_of old ++ m.news) (waits ++ (x ∷ [])) (finals ++ [])
-        → IsSearch old.store.events new.store.paths (pending_of new) (paths_by new.store.paths (paths_of new.waiting)) (paths_by new.store.paths (numbers_of new.finals))
+        → IsSearch old.store.events new.store.paths (pending_of new) (paths_by new.store.paths (paths_kept new.waiting)) (paths_by new.store.paths (numbers_of new.finals))
     search_of s = subst (λ q. IsSearch old.store.events q (pending_of new)
-        (paths_by new.store.paths (paths_of new.waiting)) (paths_by new.store.paths (numbers_of new.finals)))
+        (paths_by new.store.paths (paths_kept new.waiting)) (paths_by new.store.paths (numbers_of new.finals)))
         (sym paths)
         (subst (λ d. IsSearch old.store.events (old.store.paths ++ m.news) d
-        (paths_by new.store.paths (paths_of new.waiting)) (paths_by new.store.paths (numbers_of new.finals)))
+        (paths_by new.store.paths (paths_kept new.waiting)) (paths_by new.store.paths (numbers_of new.finals)))
         (sym pending_same)
         (subst (λ a. IsSearch old.store.events (old.store.paths ++ m.news) (pending_of old ++ m.news) a
         (paths_by new.store.paths (numbers_of new.finals))) (sym waits_same)

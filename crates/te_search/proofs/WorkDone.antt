@@ -7,14 +7,14 @@ use Rattle.te_terms.specs.Joint.{after_choice, sending, receiving, member_of}
 use Rattle.te_terms.proofs.OneThing.{end_is_alone}
 use Rattle.te_trail.specs.Paths.{Path, planted, branched, sent, got, parent_of, IsAbove}
 use Rattle.te_trail.specs.Clocks.{Agree}
-use Rattle.te_trail.specs.States.{chosen, Ends, met, state_of, HasState}
+use Rattle.te_trail.specs.States.{chosen, MovedEnds, members_met, path_state, HasState}
 use Rattle.te_trail.specs.Stores.{Holds, IsStore, same_path}
 use Rattle.te_trail.proofs.ClockLaws.{agree_by}
 use Rattle.te_trail.proofs.MovesChain.{mapped}
 use Rattle.te_trail.proofs.PastsChain.{then_some, parts_of, same_true, same_self}
 use Rattle.te_trail.proofs.MembersMove.{Handing, handing}
 use Rattle.te_search.specs.Groups.{IsFinal}
-use Rattle.te_search.specs.Searching.{NoneTwice, AreUp, AllFail, MayMeet, IsSearch}
+use Rattle.te_search.specs.Searching.{NoPathTwice, AreUp, AllFail, MayMeet, IsSearch}
 use Rattle.te_search.proofs.EveryChainCovered.{Full}
 use Rattle.te_search.proofs.AssemblyFinds.{Commits, complete}
 use Rattle.te_search.proofs.ListLaws.{holds_left, holds_right, holds_which, holds_one, once_both, once_left, once_right, once_apart, holds_at, place_of}
@@ -47,7 +47,7 @@ same_or_not x y = go (same_path x y) refl
 
 -- what is known of a path once it is done
 pub record IsDone (g : List Member) (paths waits finals : List Path) (p : Path) : Type 0 where
-  pub chooses : (l : Bool) (m u : Member) → state_of g p ≡ Some m → chosen l m ≡ Some u → Holds paths (branched p l)
+  pub chooses : (l : Bool) (m u : Member) → path_state g p ≡ Some m → chosen l m ≡ Some u → Holds paths (branched p l)
   pub waits_there : MayMeet g p → Holds waits p
   pub final_there : IsFinal g p → Holds finals p
 
@@ -55,16 +55,16 @@ pub record IsDone (g : List Member) (paths waits finals : List Path) (p : Path) 
 pub record IsStep (g : List Member) (paths pending waits finals : List Path) (p : Path) (news kept ended : List Path) : Type 0 where
   pub store : IsStore g (paths ++ news)
   pub ups : AreUp (paths ++ news)
-  pub news_once : NoneTwice (paths ++ news)
+  pub news_once : NoPathTwice (paths ++ news)
   pub done : IsDone g (paths ++ news) (waits ++ kept) (finals ++ ended) p
   pub kept_is : (x : Path) → Holds kept x → x ≡ p
   pub ended_is : (x : Path) → Holds ended x → (x ≡ p) × IsFinal g x
-  pub kept_once : NoneTwice kept
-  pub ended_once : NoneTwice ended
+  pub kept_once : NoPathTwice kept
+  pub ended_once : NoPathTwice ended
   pub branched_of : (q : Path) (l : Bool) → Holds news (branched q l) → q ≡ p
   pub met_of : (q r : Path) → Holds news (sent q r) → Holds (waits ++ kept) q × Holds (waits ++ kept) r
-  pub meetings : (q r : Path) (a b : Member) (e : Ends) → Holds (waits ++ kept) q → Holds (waits ++ kept) r → Agree q r → state_of g q ≡ Some a → state_of g r ≡ Some b
-      → met a b ≡ Some e → Holds (paths ++ news) (sent q r) × Holds (paths ++ news) (got q r)
+  pub meetings : (q r : Path) (a b : Member) (e : MovedEnds) → Holds (waits ++ kept) q → Holds (waits ++ kept) r → Agree q r → path_state g q ≡ Some a → path_state g r ≡ Some b
+      → members_met a b ≡ Some e → Holds (paths ++ news) (sent q r) × Holds (paths ++ news) (got q r)
   pub failed : AllFail g (finals ++ ended)
 
 pub step_done : (g : List Member) (paths pending waits finals : List Path) (p : Path) (news kept ended : List Path) → IsSearch g paths (pending ++ (p ∷ [])) waits finals
@@ -133,8 +133,8 @@ step_done g paths pending waits finals p news kept ended w s = record {
             by (inl e) = inl e
             by (inr ne) = inr (old, λ k. elim (holds_which pending (p ∷ []) q k) [ inl a ↦ free a | inr b ↦ ne (holds_one q p b) ])
 
-    choose : (q : Path) (l : Bool) (m u : Member) → state_of g q ≡ Some m → chosen l m ≡ Some u → (q ≡ p) ⊎ (Holds paths q × (¬ Holds (pending ++ (p ∷ [])) q)) → Holds (paths ++ news) (branched q l)
-    choose q l m u st c (inl e) = subst (λ z. Holds (paths ++ news) (branched z l)) (sym e) (s.done.chooses l m u (ap (state_of g) (sym e) ∙ st) c)
+    choose : (q : Path) (l : Bool) (m u : Member) → path_state g q ≡ Some m → chosen l m ≡ Some u → (q ≡ p) ⊎ (Holds paths q × (¬ Holds (pending ++ (p ∷ [])) q)) → Holds (paths ++ news) (branched q l)
+    choose q l m u st c (inl e) = subst (λ z. Holds (paths ++ news) (branched z l)) (sym e) (s.done.chooses l m u (ap (path_state g) (sym e) ∙ st) c)
     choose q l m u st c (inr (h, shut)) = holds_left paths news (branched q l) (w.choices q l m u h shut st c)
 
     wait : (q : Path) → MayMeet g q → (q ≡ p) ⊎ (Holds paths q × (¬ Holds (pending ++ (p ∷ [])) q)) → Holds (waits ++ kept) q
@@ -162,14 +162,14 @@ step_done g paths pending waits finals p news kept ended w s = record {
 
 -- ---- what stands at an end does nothing more
 
-no_choice : (g : List Member) (x : Path) (m u : Member) (l : Bool) → IsFinal g x → state_of g x ≡ Some m → chosen l m ≡ Some u → ⊥
+no_choice : (g : List Member) (x : Path) (m u : Member) (l : Bool) → IsFinal g x → path_state g x ≡ Some m → chosen l m ≡ Some u → ⊥
 no_choice g x m u l f st c =
     let one : f.member ≡ m = (let e : Some f.member ≡ Some m = sym f.state ∙ st in cc) in
     let a : (t : _) × (after_choice l m.term ≡ Some t) × (at_term m t ≡ u) = mapped (at_term m) (after_choice l m.term) u c in
     let none : after_choice l m.term ≡ None = (end_is_alone m m.term f.outcome (ap (λ k. outcome_of k.term) (sym one) ∙ f.ends)).1 l in
     cc
 
-no_send : (g : List Member) (x : Path) (a b : Member) (e : Ends) → IsFinal g x → state_of g x ≡ Some a → met a b ≡ Some e → ⊥
+no_send : (g : List Member) (x : Path) (a b : Member) (e : MovedEnds) → IsFinal g x → path_state g x ≡ Some a → members_met a b ≡ Some e → ⊥
 no_send g x a b e f st m =
     let one : f.member ≡ a = (let k : Some f.member ≡ Some a = sym f.state ∙ st in cc) in
     let h : Handing a b e = handing a b e m in
@@ -177,7 +177,7 @@ no_send g x a b e f st m =
     let some : sending a.term ≡ Some h.message = h.sends in
     cc
 
-no_receive : (g : List Member) (x : Path) (a b : Member) (e : Ends) → IsFinal g x → state_of g x ≡ Some b → met a b ≡ Some e → ⊥
+no_receive : (g : List Member) (x : Path) (a b : Member) (e : MovedEnds) → IsFinal g x → path_state g x ≡ Some b → members_met a b ≡ Some e → ⊥
 no_receive g x a b e f st m =
     let one : f.member ≡ b = (let k : Some f.member ≡ Some b = sym f.state ∙ st in cc) in
     let h : Handing a b e = handing a b e m in
@@ -188,7 +188,7 @@ no_receive g x a b e f st m =
 pub final_cannot_meet : (g : List Member) (x : Path) → IsFinal g x → ¬ MayMeet g x
 final_cannot_meet g x f m = elim m.meets [ inl a ↦ no_send g x m.own m.other m.ends f m.state a | inr b ↦ no_receive g x m.other m.own m.ends f m.state b ]
 
-pub final_cannot_choose : (g : List Member) (x : Path) (l : Bool) (m u : Member) → IsFinal g x → state_of g x ≡ Some m → chosen l m ≡ Some u → ⊥
+pub final_cannot_choose : (g : List Member) (x : Path) (l : Bool) (m u : Member) → IsFinal g x → path_state g x ≡ Some m → chosen l m ≡ Some u → ⊥
 final_cannot_choose g x l m u f st c = no_choice g x m u l f st c
 
 -- nothing is made of a final path
@@ -196,17 +196,17 @@ pub final_is_last : (g : List Member) (x z : Path) → IsFinal g x → HasState 
 final_is_last g x (planted t) f h e = sym e
 final_is_last g x (branched p l) f h (inl e) = sym e
 final_is_last g x (branched p l) f h (inr up) =
-    let b : (m : Member) × (state_of g p ≡ Some m) × (option_map settled (chosen l m) ≡ Some h.0) = then_some (λ m. option_map settled (chosen l m)) (state_of g p) h.0 h.1 in
+    let b : (m : Member) × (path_state g p ≡ Some m) × (option_map settled (chosen l m) ≡ Some h.0) = then_some (λ m. option_map settled (chosen l m)) (path_state g p) h.0 h.1 in
     let u : (u : Member) × (chosen l b.0 ≡ Some u) × (settled u ≡ h.0) = mapped settled (chosen l b.0) h.0 b.2 in
     let one : p ≡ x = final_is_last g x p f (b.0, b.1) up in
-    absurd (no_choice g x b.0 u.0 l f (ap (state_of g) (sym one) ∙ b.1) u.1)
+    absurd (no_choice g x b.0 u.0 l f (ap (path_state g) (sym one) ∙ b.1) u.1)
 final_is_last g x (sent s r) f h (inl e) = sym e
 final_is_last g x (sent s r) f h (inr up) =
-    let m : (a : Member) × (b : Member) × (p : Ends) × (state_of g s ≡ Some a) × (state_of g r ≡ Some b) × (met a b ≡ Some p) = parts_of g s r (λ p. settled p.sender) h.0 h.1 in
+    let m : (a : Member) × (b : Member) × (p : MovedEnds) × (path_state g s ≡ Some a) × (path_state g r ≡ Some b) × (members_met a b ≡ Some p) = parts_of g s r (λ p. settled p.sender) h.0 h.1 in
     let one : s ≡ x = final_is_last g x s f (m.0, m.3) up in
-    absurd (no_send g x m.0 m.1 m.2 f (ap (state_of g) (sym one) ∙ m.3) m.5)
+    absurd (no_send g x m.0 m.1 m.2 f (ap (path_state g) (sym one) ∙ m.3) m.5)
 final_is_last g x (got s r) f h (inl e) = sym e
 final_is_last g x (got s r) f h (inr up) =
-    let m : (a : Member) × (b : Member) × (p : Ends) × (state_of g s ≡ Some a) × (state_of g r ≡ Some b) × (met a b ≡ Some p) = parts_of g s r (λ p. settled p.receiver) h.0 h.1 in
+    let m : (a : Member) × (b : Member) × (p : MovedEnds) × (path_state g s ≡ Some a) × (path_state g r ≡ Some b) × (members_met a b ≡ Some p) = parts_of g s r (λ p. settled p.receiver) h.0 h.1 in
     let one : r ≡ x = final_is_last g x r f (m.1, m.4) up in
-    absurd (no_receive g x m.0 m.1 m.2 f (ap (state_of g) (sym one) ∙ m.4) m.5)
+    absurd (no_receive g x m.0 m.1 m.2 f (ap (path_state g) (sym one) ∙ m.4) m.5)

@@ -5,10 +5,10 @@ use Rattle.te_trail.specs.Paths.{Path}
 use Rattle.te_pair.specs.declared.end.End.{End}
 use Rattle.te_search.specs.declared.work.Work.{Work}
 use Rattle.te_search.specs.declared.finals.Final.{Final}
-use Rattle.te_search.specs.Works.{Keeps}
+use Rattle.te_search.specs.Works.{WorkKeeps}
 
 -- nothing is new
-pub keeps_same : (old new : Work) → new.store ≡ old.store → new.moves.items ≡ old.moves.items → new.waiting ≡ old.waiting → new.finals ≡ old.finals → Keeps old new
+pub keeps_same : (old new : Work) → new.store ≡ old.store → new.moves.items ≡ old.moves.items → new.waiting ≡ old.waiting → new.finals ≡ old.finals → WorkKeeps old new
 keeps_same old new st mo wa fi = record {
   events = ap (λ t. t.events) st;
   marks = ap (λ t. t.marks) st;
@@ -22,13 +22,13 @@ keeps_same old new st mo wa fi = record {
   finals = fi ∙ sym (append-nil old.finals);
 }
 
-pub keeps_self : (old new : Work) → new ≡ old → Keeps old new
-keeps_self old new same = subst (Keeps old) (sym same) (keeps_same old old refl refl refl refl)
+pub keeps_self : (old new : Work) → new ≡ old → WorkKeeps old new
+keeps_self old new same = subst (WorkKeeps old) (sym same) (keeps_same old old refl refl refl refl)
 
 both_more : {A : Type 0} (a b c xs ys : List A) → b ≡ a ++ xs → c ≡ b ++ ys → c ≡ a ++ (xs ++ ys)
 both_more a b c xs ys e f = f ∙ ap (λ l. l ++ ys) e ∙ append_assoc a xs ys
 
-pub keeps_both : (a b c : Work) → Keeps a b → Keeps b c → Keeps a c
+pub keeps_both : (a b c : Work) → WorkKeeps a b → WorkKeeps b c → WorkKeeps a c
 keeps_both a b c k l = record {
   events = l.events ∙ k.events;
   marks = l.marks ∙ k.marks;
@@ -45,7 +45,7 @@ keeps_both a b c k l = record {
 -- new paths and their moves alone
 pub keeps_paths : (old new : Work) (xs : List Path) (ms : List (Option Move)) → new.store.events ≡ old.store.events → new.store.marks ≡ old.store.marks
     → new.store.paths ≡ old.store.paths ++ xs → new.moves.items ≡ old.moves.items ++ ms
-    → new.waiting ≡ old.waiting → new.finals ≡ old.finals → Keeps old new
+    → new.waiting ≡ old.waiting → new.finals ≡ old.finals → WorkKeeps old new
 keeps_paths old new xs ms ev mk ps mo wa fi = record {
   events = ev;
   marks = mk;
@@ -61,7 +61,7 @@ keeps_paths old new xs ms ev mk ps mo wa fi = record {
 
 -- one more final path, or waiting end
 pub keeps_final : (old new : Work) (f : Final) → new.store ≡ old.store → new.moves.items ≡ old.moves.items → new.waiting ≡ old.waiting
-    → new.finals ≡ old.finals ++ (f ∷ []) → Keeps old new
+    → new.finals ≡ old.finals ++ (f ∷ []) → WorkKeeps old new
 keeps_final old new f st mo wa fi = record {
   events = ap (λ t. t.events) st;
   marks = ap (λ t. t.marks) st;
@@ -76,7 +76,7 @@ keeps_final old new f st mo wa fi = record {
 }
 
 pub keeps_end : (old new : Work) (e : End) → new.store ≡ old.store → new.moves.items ≡ old.moves.items → new.waiting ≡ old.waiting ++ (e ∷ [])
-    → new.finals ≡ old.finals → Keeps old new
+    → new.finals ≡ old.finals → WorkKeeps old new
 keeps_end old new e st mo wa fi = record {
   events = ap (λ t. t.events) st;
   marks = ap (λ t. t.marks) st;

@@ -10,15 +10,16 @@ use Rattle.te_terms.specs.Joint.{after_choice, chosen_from, sending, receiving}
 use Rattle.te_trail.specs.Paths.{Path, branched, sent, got, parent_of}
 use Rattle.te_trail.specs.Stores.{Holds, IsStore, labels_of_move}
 use Rattle.te_trail.specs.Trails.{with_paths, IsAtChoice, IsUnmade}
-use Rattle.te_trail.specs.States.{chosen, state_of, HasState}
+use Rattle.te_trail.specs.States.{chosen, path_state, HasState}
 use Rattle.te_trail.proofs.MembersMove.{Handing, handing}
-use Rattle.te_pair.specs.Ends.{paths_of}
+use Rattle.te_pair.specs.Ends.{paths_kept}
 use Rattle.te_search.specs.declared.work.Work.{Work}
 use Rattle.te_search.specs.Finals.{numbers_of, TellThreads}
 use Rattle.te_pair.specs.declared.end.End.{End}
 use Rattle.te_search.specs.Groups.{IsFinal, Partial, IsPartial}
-use Rattle.te_search.specs.Searching.{path_at, paths_by, AreUp, NoneTwice, AllFail, MayMeet, IsSearch}
-use Rattle.te_search.specs.Works.{AreLow, AreEnds, told, pending_of, IsCounted, IsWork, IsWorkOn, Gains, IsShort, IsSpentAt}
+use Rattle.te_search.specs.Searching.{paths_by, AreUp, NoPathTwice, AllFail, MayMeet, IsSearch}
+use Rattle.te_trail.specs.Records.{path_at}
+use Rattle.te_search.specs.Works.{AreLow, EndsStand, label_told, pending_of, IsCounted, IsWork, IsWorkOn, Gains, RunsShort, IsSpentAt}
 use Rattle.te_search.proofs.ListLaws.{holds_left, holds_right, holds_which, holds_one, holds_at, place_of, once_by_places}
 use Rattle.te_search.proofs.FinalsTold.{told_more}
 use Rattle.te_search.proofs.WorkDone.{IsStep, step_done, final_cannot_choose}
@@ -63,7 +64,7 @@ at_end (y ∷ paths) x more = at_end paths x more
 -- ---- one branch, or both ends of a meeting
 
 pub gains_one : (old new : Work) (x : Path) → new.store ≡ with_paths old.store (x ∷ []) → IsStore new.store.events new.store.paths
-    → new.pending.items ≡ old.pending.items ++ (length old.store.paths ∷ []) → map told new.moves.items ≡ map told old.moves.items ++ (labels_of_move x ∷ [])
+    → new.pending.items ≡ old.pending.items ++ (length old.store.paths ∷ []) → map label_told new.moves.items ≡ map label_told old.moves.items ++ (labels_of_move x ∷ [])
     → new.waiting ≡ old.waiting → new.finals ≡ old.finals → new.groups ≡ old.groups → AreLow old.store.paths old.pending.items → Gains old new (x ∷ [])
 gains_one old new x is store pending moves waiting finals groups low = record {
   paths = ps;
@@ -92,7 +93,7 @@ two_same : (a b c d : Path) → a ≡ c → b ≡ d → (a ∷ (b ∷ [])) ≡ (
 two_same a b c d e f = ap₂ (λ u v. u ∷ (v ∷ [])) e f
 
 pub gains_two : (old new : Work) (x y : Path) → new.store ≡ with_paths old.store (x ∷ (y ∷ [])) → IsStore new.store.events new.store.paths
-    → new.pending.items ≡ old.pending.items ++ (length old.store.paths ∷ ((length old.store.paths + 1) ∷ [])) → map told new.moves.items ≡ map told old.moves.items ++
+    → new.pending.items ≡ old.pending.items ++ (length old.store.paths ∷ ((length old.store.paths + 1) ∷ [])) → map label_told new.moves.items ≡ map label_told old.moves.items ++
     (labels_of_move x ∷ (labels_of_move y ∷ []))
     → new.waiting ≡ old.waiting → new.finals ≡ old.finals → new.groups ≡ old.groups → AreLow old.store.paths old.pending.items → Gains old new (x ∷ (y ∷ []))
 gains_two old new x y is store pending moves waiting finals groups low = record {
@@ -134,8 +135,8 @@ gains_both a b c xs ys g h = record {
   store = h.store;
   pending = h.pending ∙ ap (λ p. p ++ ys) g.pending ∙ append_assoc (pending_of a) xs ys;
   pending_low = h.pending_low;
-  moves = h.moves ∙ ap (λ m. m ++ map labels_of_move ys) g.moves ∙ append_assoc (map told a.moves.items) (map labels_of_move xs) (map labels_of_move ys)
-      ∙ ap (λ r. map told a.moves.items ++ r) (sym (map_both labels_of_move xs ys));
+  moves = h.moves ∙ ap (λ m. m ++ map labels_of_move ys) g.moves ∙ append_assoc (map label_told a.moves.items) (map labels_of_move xs) (map labels_of_move ys)
+      ∙ ap (λ r. map label_told a.moves.items ++ r) (sym (map_both labels_of_move xs ys));
   waiting = h.waiting ∙ g.waiting;
   finals = h.finals ∙ g.finals;
   groups = h.groups ∙ g.groups;
@@ -159,7 +160,7 @@ counted_more g paths more finals n c = record {
 
 -- ---- the path in hand at a choice
 
-once_of : (g : List Member) (paths : List Path) → IsStore g paths → NoneTwice paths
+once_of : (g : List Member) (paths : List Path) → IsStore g paths → NoPathTwice paths
 once_of g paths store = once_by_places paths store.once
 
 pub last_or_old : {A : Type 0} (xs : List A) (y : A) (i : ℕ) (o : A) → slice_get (xs ++ (y ∷ [])) i ≡ Some o → ((i ≡ length xs) × (y ≡ o)) ⊎ ((i < length xs) × (slice_get xs i ≡ Some o))
@@ -177,10 +178,10 @@ ups_more paths x ups up k z y e f = elim (last_or_old paths x k z e) [
 ]
 
 -- another list of kept ends over more paths
-pub ends_more : (g : List Member) (paths more : List Path) (ends : List End) → AreLow paths (paths_of ends) → AreEnds g paths ends → AreEnds g (paths ++ more) ends
+pub ends_more : (g : List Member) (paths more : List Path) (ends : List End) → AreLow paths (paths_kept ends) → EndsStand g paths ends → EndsStand g (paths ++ more) ends
 ends_more g paths more ends low are i e x ee ex = are i e x ee (old (low i e.path (number_there ends i e ee)))
   where
-    number_there : (ends : List End) (i : ℕ) (e : End) → slice_get ends i ≡ Some e → slice_get (paths_of ends) i ≡ Some e.path
+    number_there : (ends : List End) (i : ℕ) (e : End) → slice_get ends i ≡ Some e → slice_get (paths_kept ends) i ≡ Some e.path
     number_there [] i e h = cc
     number_there (d ∷ ends) zero e h = (let one : d ≡ e = cc in ap (λ q. Some q.path) one)
     number_there (d ∷ ends) (suc i) e h = number_there ends i e h
@@ -191,23 +192,23 @@ ends_more g paths more ends low are i e x ee ex = are i e x ee (old (low i e.pat
 
 -- the work after a step that keeps no end and finds no final path
 pub work_gained : (old new : Work) (p : ℕ) (x : Path) (news : List Path) → slice_get old.store.paths p ≡ Some x → IsWorkOn old p → Gains old new news → AreUp new.store.paths
-    → ((l : Bool) (m u : Member) → state_of old.store.events x ≡ Some m → chosen l m ≡ Some u → Holds (old.store.paths ++ news) (branched x l)) → (¬ MayMeet old.store.events x)
+    → ((l : Bool) (m u : Member) → path_state old.store.events x ≡ Some m → chosen l m ≡ Some u → Holds (old.store.paths ++ news) (branched x l)) → (¬ MayMeet old.store.events x)
     → (¬ IsFinal old.store.events x)
     → ((q : Path) (l : Bool) → Holds news (branched q l) → q ≡ x) → ((q r : Path) → ¬ Holds news (sent q r)) → IsWork new
 work_gained old new p x news ex w g ups chooses meets_not final_not branches none_met = record {
-  search = subst (λ e. IsSearch e new.store.paths (pending_of new) (paths_by new.store.paths (paths_of new.waiting)) (paths_by new.store.paths (numbers_of new.finals)))
+  search = subst (λ e. IsSearch e new.store.paths (pending_of new) (paths_by new.store.paths (paths_kept new.waiting)) (paths_by new.store.paths (numbers_of new.finals)))
       (sym g.events) (search_of (step_done old.store.events old.store.paths (pending_of old) waits finals x news [] [] before step));
   pending_low = g.pending_low;
-  waits_low = subst (λ k. AreLow new.store.paths (paths_of k)) (sym g.waiting)
-      (subst (λ q. AreLow q (paths_of old.waiting)) (sym g.paths) (low_more old.store.paths news (paths_of old.waiting) w.waits_low));
+  waits_low = subst (λ k. AreLow new.store.paths (paths_kept k)) (sym g.waiting)
+      (subst (λ q. AreLow q (paths_kept old.waiting)) (sym g.paths) (low_more old.store.paths news (paths_kept old.waiting) w.waits_low));
   finals_low = subst (λ k. AreLow new.store.paths (numbers_of k)) (sym g.finals)
       (subst (λ q. AreLow q (numbers_of old.finals)) (sym g.paths)
       (low_more old.store.paths news (numbers_of old.finals) w.finals_low));
   finals_told = subst (TellThreads new.store.paths) (sym g.finals)
       (subst (λ q. TellThreads q old.finals) (sym g.paths) (told_more old.store.paths news old.finals w.finals_low w.finals_told));
-  ends = subst (λ e. AreEnds e new.store.paths new.waiting) (sym g.events)
-      (subst (AreEnds old.store.events new.store.paths) (sym g.waiting)
-      (subst (λ q. AreEnds old.store.events q old.waiting) (sym g.paths) (ends_more old.store.events old.store.paths news old.waiting w.waits_low w.ends)));
+  ends = subst (λ e. EndsStand e new.store.paths new.waiting) (sym g.events)
+      (subst (EndsStand old.store.events new.store.paths) (sym g.waiting)
+      (subst (λ q. EndsStand old.store.events q old.waiting) (sym g.paths) (ends_more old.store.events old.store.paths news old.waiting w.waits_low w.ends)));
   told_are = g.moves ∙ ap (λ m. m ++ map labels_of_move news) w.told_are ∙ sym (map_both labels_of_move old.store.paths news) ∙ ap (map labels_of_move) (sym g.paths);
   counted = subst (λ e. IsCounted e new.store.paths (paths_by new.store.paths (numbers_of new.finals)) new.groups) (sym g.events)
       (subst (IsCounted old.store.events new.store.paths (paths_by new.store.paths (numbers_of new.finals))) (sym g.groups)
@@ -216,13 +217,13 @@ work_gained old new p x news ex w g ups chooses meets_not final_not branches non
 }
   where
     waits : List Path
-    waits = paths_by old.store.paths (paths_of old.waiting)
+    waits = paths_by old.store.paths (paths_kept old.waiting)
 
     finals : List Path
     finals = paths_by old.store.paths (numbers_of old.finals)
 
-    waits_same : paths_by new.store.paths (paths_of new.waiting) ≡ waits
-    waits_same = ap₂ (λ q k. paths_by q (paths_of k)) g.paths g.waiting ∙ by_more old.store.paths news (paths_of old.waiting) w.waits_low
+    waits_same : paths_by new.store.paths (paths_kept new.waiting) ≡ waits
+    waits_same = ap₂ (λ q k. paths_by q (paths_kept k)) g.paths g.waiting ∙ by_more old.store.paths news (paths_kept old.waiting) w.waits_low
 
     finals_same : paths_by new.store.paths (numbers_of new.finals) ≡ finals
     finals_same = ap₂ (λ q k. paths_by q (numbers_of k)) g.paths g.finals ∙ by_more old.store.paths news (numbers_of old.finals) w.finals_low
@@ -255,12 +256,12 @@ work_gained old new p x news ex w g ups chooses meets_not final_not branches non
     }
 
     search_of : IsSearch old.store.events (old.store.paths ++ news) (pending_of old ++ news) (waits ++ []) (finals ++ [])
-        → IsSearch old.store.events new.store.paths (pending_of new) (paths_by new.store.paths (paths_of new.waiting)) (paths_by new.store.paths (numbers_of new.finals))
+        → IsSearch old.store.events new.store.paths (pending_of new) (paths_by new.store.paths (paths_kept new.waiting)) (paths_by new.store.paths (numbers_of new.finals))
     search_of s = subst (λ q. IsSearch old.store.events q (pending_of new)
-        (paths_by new.store.paths (paths_of new.waiting)) (paths_by new.store.paths (numbers_of new.finals)))
+        (paths_by new.store.paths (paths_kept new.waiting)) (paths_by new.store.paths (numbers_of new.finals)))
         (sym g.paths)
         (subst (λ d. IsSearch old.store.events (old.store.paths ++ news) d
-        (paths_by new.store.paths (paths_of new.waiting)) (paths_by new.store.paths (numbers_of new.finals)))
+        (paths_by new.store.paths (paths_kept new.waiting)) (paths_by new.store.paths (numbers_of new.finals)))
         (sym g.pending)
         (subst (λ a. IsSearch old.store.events (old.store.paths ++ news) (pending_of old ++ news) a
         (paths_by new.store.paths (numbers_of new.finals))) (append-nil waits ∙ sym waits_same)
@@ -349,11 +350,11 @@ choice_stays old mid p news low at a x m ex st =
     let y : (y : Path) × (slice_get old.store.paths p ≡ Some y) = get_some old.store.paths p low in
     let there : slice_get mid.store.paths p ≡ Some y.0 = subst (λ q. slice_get q p ≡ Some y.0) (sym a.paths) (get_more old.store.paths news p y.0 y.1) in
     let same : y.0 ≡ x = (let k : Some y.0 ≡ Some x = sym there ∙ ex in cc) in
-    at x m (y.1 ∙ ap Some same) (ap (λ e. state_of e x) (sym a.events) ∙ st)
+    at x m (y.1 ∙ ap Some same) (ap (λ e. path_state e x) (sym a.events) ∙ st)
 
 -- spent, where the budget is short for the next paths
 spent_short : (w : Work) (events : List Member) (finals : List Path) (budget : ℕ) → w.store.events ≡ events → IsStore events w.store.paths → IsCounted events w.store.paths finals w.groups
-    → IsShort w budget → IsSpentAt w events budget
+    → RunsShort w budget → IsSpentAt w events budget
 spent_short w events finals budget same store c s = record {
   same = same;
   store = store;
@@ -373,14 +374,14 @@ spent_short w events finals budget same store c s = record {
     more = counted_more events w.store.paths s.more finals w.groups c
 
 -- spent after a gain
-pub spent_gained : (old mid : Work) (p : ℕ) (news : List Path) (budget : ℕ) → IsWorkOn old p → Gains old mid news → IsShort mid budget → IsSpentAt mid old.store.events budget
+pub spent_gained : (old mid : Work) (p : ℕ) (news : List Path) (budget : ℕ) → IsWorkOn old p → Gains old mid news → RunsShort mid budget → IsSpentAt mid old.store.events budget
 spent_gained old mid p news budget w a s = spent_short mid old.store.events (paths_by old.store.paths (numbers_of old.finals)) budget a.events
     (subst (λ e. IsStore e mid.store.paths) a.events a.store)
     (subst (IsCounted old.store.events mid.store.paths (paths_by old.store.paths (numbers_of old.finals))) (sym a.groups)
     (subst (λ q. IsCounted old.store.events q (paths_by old.store.paths (numbers_of old.finals)) old.groups) (sym a.paths)
     (counted_more old.store.events old.store.paths news (paths_by old.store.paths (numbers_of old.finals)) old.groups w.counted))) s
 
-pub spent_here : (old : Work) (p : ℕ) (budget : ℕ) → IsWorkOn old p → IsShort old budget → IsSpentAt old old.store.events budget
+pub spent_here : (old : Work) (p : ℕ) (budget : ℕ) → IsWorkOn old p → RunsShort old budget → IsSpentAt old old.store.events budget
 spent_here old p budget w s = spent_short old old.store.events (paths_by old.store.paths (numbers_of old.finals)) budget refl w.search.store w.counted s
 
 pub on_ok : {A E : Type 0} (P Q : Type 0) (r : Result A E) → (P → Q) → OnOk r P → OnOk r Q

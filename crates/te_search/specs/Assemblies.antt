@@ -7,8 +7,8 @@ use Rattle.te_trail.specs.Paths.{Path, thread_of, parent_of, move_of, RestsOn, I
 use Rattle.te_trail.specs.Clocks.{deeper, clock_of}
 use Rattle.te_trail.specs.Stores.{Holds, IsStore, any_rests_on}
 use Rattle.te_trail.proofs.PastsChain.{Agreeing}
-use Rattle.te_search.specs.Groups.{IsFinal, Partial, IsPartial, AreApart}
-use Rattle.te_search.specs.Searching.{Fails, AreUp, NoneTwice, paths_by}
+use Rattle.te_search.specs.Groups.{IsFinal, Partial, IsPartial, NoneIsAnother}
+use Rattle.te_search.specs.Searching.{Fails, AreUp, NoPathTwice, paths_by}
 
 -- ---- what is tried
 
@@ -28,7 +28,7 @@ pub record Tries (g : List Member) (paths : List Path) (start : Path) (ps : List
   pub more : List Partial
   pub count_is : length more ≡ count
   pub are : AllByRecursion (IsMore g paths start ps) more
-  pub once : AreApart more
+  pub once : NoneIsAnother more
 
 -- the partial group has the final path of a thread
 pub record IsThrough (finals : List Path) (t n : ℕ) (q : Partial) : Type 0 where
@@ -45,7 +45,7 @@ pub record TriesBy (g : List Member) (paths : List Path) (start : Path) (ps fina
   pub count_is : length more ≡ count
   pub are : AllByRecursion (IsMore g paths start ps) more
   pub through : AllByRecursion (IsThrough finals t n) more
-  pub once : AreApart more
+  pub once : NoneIsAnother more
 
 -- ---- the joined past by threads
 
@@ -59,7 +59,7 @@ later_number (Some a) None = Some a
 later_number (Some a) (Some b) = cond (ltb a b) (Some b) (Some a)
 
 -- for each of the threads the number of its path
-pub record Names (paths : List Path) (threads : List ℕ) (J : ℕ → Option Path) (joined : List (Option ℕ)) : Type 0 where
+pub record NamesPaths (paths : List Path) (threads : List ℕ) (J : ℕ → Option Path) (joined : List (Option ℕ)) : Type 0 where
   pub wide : length joined ≡ length threads
   pub each : (i t : ℕ) (o : Option ℕ) → slice_get threads i ≡ Some t → slice_get joined i ≡ Some o → Numbers paths (J t) o
 
@@ -87,13 +87,13 @@ IsLined f J = (t : ℕ) (a x : Path) → clock_of f t ≡ Some a → J t ≡ Som
 -- ---- where assembly stands
 
 -- what a store, its threads and its final paths are for assembly
-pub record Stand (g : List Member) (paths : List Path) (threads finals : List ℕ) : Type 0 where
+pub record AssemblyStand (g : List Member) (paths : List Path) (threads finals : List ℕ) : Type 0 where
   pub store : IsStore g paths
   pub ups : AreUp paths
   pub closed : (y z : Path) → Holds paths y → RestsOn (move_of z) y → Holds paths z
   pub finals_low : (i n : ℕ) → slice_get finals i ≡ Some n → n < length paths
   pub finals_final : (x : Path) → Holds (paths_by paths finals) x → IsFinal g x
-  pub finals_once : NoneTwice (paths_by paths finals)
+  pub finals_once : NoPathTwice (paths_by paths finals)
   pub threads_are : threads ≡ map (λ m. m.thread) g
 
 -- the answer tells whether path p is final
@@ -116,11 +116,11 @@ abbrev pub IsOfThreads : List ℕ → (ℕ → Option Path) → Type 0
 IsOfThreads threads J = (t : ℕ) (c : Path) → J t ≡ Some c → (i : ℕ) × (slice_get threads i ≡ Some t)
 
 abbrev pub TellsLined : List Path → List ℕ → ℕ → List (Option ℕ) → Bool → Type 0
-TellsLined paths threads p joined answer = (x : Path) (J : ℕ → Option Path) → slice_get paths p ≡ Some x → Names paths threads J joined → IsOfThreads threads J → (IsTrue answer ↔ IsLined x J)
+TellsLined paths threads p joined answer = (x : Path) (J : ℕ → Option Path) → slice_get paths p ≡ Some x → NamesPaths paths threads J joined → IsOfThreads threads J → (IsTrue answer ↔ IsLined x J)
 
 abbrev pub TakesIn : List Path → List ℕ → ℕ → List (Option ℕ) → List (Option ℕ) → Type 0
-TakesIn paths threads p joined out = (x : Path) (J : ℕ → Option Path) → slice_get paths p ≡ Some x → Names paths threads J joined → IsLined x J
-    → Names paths threads (λ t. deeper (clock_of x t) (J t)) out
+TakesIn paths threads p joined out = (x : Path) (J : ℕ → Option Path) → slice_get paths p ≡ Some x → NamesPaths paths threads J joined → IsLined x J
+    → NamesPaths paths threads (λ t. deeper (clock_of x t) (J t)) out
 
 -- how assembly comes to these paths: a path is taken whose thread the joined past has
 pub data Reaches : Path → List Path → Type 0 where
@@ -131,14 +131,14 @@ pub data Reaches : Path → List Path → Type 0 where
 pub record IsFound (g : List Member) (paths : List Path) (threads : List ℕ) (start : Path) (ps : List Path) (out : List (Option ℕ)) : Type 0 where
   pub members : List Path
   pub crew : Crew g (Holds paths) (IsFinal g) members
-  pub names : Names paths threads (joint members) out
+  pub names : NamesPaths paths threads (joint members) out
   pub reached : Reaches start ps → Reaches start members
   pub all : IsOpenAt g paths out None
 
 -- what is tried from these paths, and what is found
 abbrev pub Assembles : List Member → List Path → List ℕ → List ℕ → List (Option ℕ) → ℕ → Option (Vec (Option ℕ) Global) → Type 0
-Assembles g paths threads finals joined count result = (start : Path) (ps : List Path) → Crew g (Holds paths) (IsFinal g) ps → Holds ps start → Names paths threads (joint ps) joined
+Assembles g paths threads finals joined count result = (start : Path) (ps : List Path) → Crew g (Holds paths) (IsFinal g) ps → Holds ps start → NamesPaths paths threads (joint ps) joined
     → Tries g paths start ps count × MatchOption result (Fails (Holds (paths_by paths finals)) ps) (λ v. IsFound g paths threads start ps v.items)
 
 abbrev pub TriesOnly : List Member → List Path → List ℕ → List (Option ℕ) → ℕ → Type 0
-TriesOnly g paths threads joined count = (start : Path) (ps : List Path) → Crew g (Holds paths) (IsFinal g) ps → Holds ps start → Names paths threads (joint ps) joined → Tries g paths start ps count
+TriesOnly g paths threads joined count = (start : Path) (ps : List Path) → Crew g (Holds paths) (IsFinal g) ps → Holds ps start → NamesPaths paths threads (joint ps) joined → Tries g paths start ps count

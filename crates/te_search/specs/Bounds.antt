@@ -7,9 +7,9 @@ use Rattle.te_terms.specs.Steps.{Member}
 use Rattle.te_trail.specs.Views.{Name}
 
 -- no name comes twice
-abbrev pub AreDistinct : List Name → Type 0
-AreDistinct [] = Unit {0}
-AreDistinct (n ∷ ns) = AllByRecursion (λ m. n ≢ m) ns × AreDistinct ns
+abbrev pub NoNameTwice : List Name → Type 0
+NoNameTwice [] = Unit {0}
+NoNameTwice (n ∷ ns) = AllByRecursion (λ m. n ≢ m) ns × NoNameTwice ns
 
 -- the nodes of all members together, by one count of a term's nodes
 abbrev pub over_all : (Term → ℕ) → List Member → ℕ

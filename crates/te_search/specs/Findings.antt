@@ -10,7 +10,7 @@ use Rattle.te_cert.specs.Certificates.{Certificate}
 use Rattle.te_cert.specs.Certs.{IsTight}
 use Rattle.te_cert.specs.Checks.{ThreadsRise, Gives}
 use Rattle.te_trail.specs.Views.{Name, IsPathName, IsGroupName}
-use Rattle.te_search.specs.Bounds.{AreDistinct, enough_for}
+use Rattle.te_search.specs.Bounds.{NoNameTwice, enough_for}
 
 -- ---- a group
 
@@ -37,23 +37,23 @@ pub record IsGroupOf (parked : List Parked) (cert : Certificate) (outcomes : Lis
 -- ---- a budget that is used up
 
 -- there are so many path names of the list and so many group names of it, none twice
-pub record HasNames (parked : List Parked) (paths groups : ℕ) : Type 0 where
+pub record CountsNames (parked : List Parked) (paths groups : ℕ) : Type 0 where
   pub path_names : List Name
   pub are_of_paths : AllByRecursion (IsPathName (as_group parked)) path_names
-  pub paths_distinct : AreDistinct path_names
+  pub paths_distinct : NoNameTwice path_names
   pub paths_are : length path_names ≡ paths
   pub group_names : List Name
   pub are_of_groups : AllByRecursion (IsGroupName (as_group parked)) group_names
-  pub groups_distinct : AreDistinct group_names
+  pub groups_distinct : NoNameTwice group_names
   pub groups_are : length group_names ≡ groups
 
 -- so many path names and group names are together the budget or one less, the list has more than the budget, and the budget is less than what is enough for the list
 pub record IsUsedUp (parked : List Parked) (budget paths groups : ℕ) : Type 0 where
-  pub names : HasNames parked paths groups
+  pub names : CountsNames parked paths groups
   pub sum : (paths + groups ≡ budget) ⊎ (paths + groups + 1 ≡ budget)
   pub more_paths : ℕ
   pub more_groups : ℕ
-  pub more : HasNames parked more_paths more_groups
+  pub more : CountsNames parked more_paths more_groups
   pub beyond : budget < more_paths + more_groups
   pub short : budget < enough_for (as_group parked)
 

@@ -5,14 +5,14 @@ use Rattle.te_terms.specs.declared.event.Outcome.{Outcome}
 use Rattle.te_terms.specs.Steps.{Member, outcome_of}
 use Rattle.te_trail.specs.Paths.{Path, parent_of, move_of}
 use Rattle.te_trail.specs.Clocks.{Agree}
-use Rattle.te_trail.specs.States.{state_of}
+use Rattle.te_trail.specs.States.{path_state}
 use Rattle.te_trail.specs.Stores.{Holds, any_rests_on}
 
 -- the member at which the path stands is final
 pub record IsFinal (g : List Member) (x : Path) : Type 0 where
   pub member : Member
   pub outcome : Outcome
-  pub state : state_of g x ≡ Some member
+  pub state : path_state g x ≡ Some member
   pub ends : outcome_of member.term ≡ Some outcome
 
 -- ---- partial groups
@@ -35,11 +35,11 @@ pub record AreOne (p q : Partial) : Type 0 where
   pub past : (x y : Path) → parent_of x ≡ Some y → any_rests_on p.members (move_of x) ≡ any_rests_on q.members (move_of x)
 
 -- none of them is another
-abbrev pub AreApart : List Partial → Type 0
-AreApart [] = Unit {0}
-AreApart (p ∷ ps) = AllByRecursion (λ q. ¬ AreOne p q) ps × AreApart ps
+abbrev pub NoneIsAnother : List Partial → Type 0
+NoneIsAnother [] = Unit {0}
+NoneIsAnother (p ∷ ps) = AllByRecursion (λ q. ¬ AreOne p q) ps × NoneIsAnother ps
 
 -- partial groups of the store, none twice
 pub record AreTried (g : List Member) (paths : List Path) (tried : List Partial) : Type 0 where
   pub partial : AllByRecursion (IsPartial g paths) tried
-  pub once : AreApart tried
+  pub once : NoneIsAnother tried

@@ -11,11 +11,11 @@ use Rattle.te_cert.specs.Certs.{letters_of, place_of, meetings_of}
 use Rattle.te_trail.specs.declared.moves.Move.{Move}
 use Rattle.te_trail.specs.Trails.{label_of}
 use Rattle.te_trail.specs.Paths.{Path, move_of}
-use Rattle.te_trail.specs.States.{state_of}
+use Rattle.te_trail.specs.States.{path_state}
 use Rattle.te_trail.specs.Stores.{Holds, IsStore, labels_of, any_rests_on}
 use Rattle.te_search.specs.Groups.{IsFinal}
 use Rattle.te_search.specs.Searching.{AreUp}
-use Rattle.te_search.specs.Assemblies.{joint, Names, Numbers, IsOfThreads, Crew, Reaches}
+use Rattle.te_search.specs.Assemblies.{joint, NamesPaths, Numbers, IsOfThreads, Crew, Reaches}
 use Rattle.te_search.specs.declared.certifying.Gathered.{Gathered}
 use Rattle.te_search.specs.Works.{threads_of}
 use Rattle.te_search.specs.Plantings.{has_number}
@@ -25,7 +25,7 @@ pub record Picks (g : List steps.Member) (paths : List Path) (threads : List ℕ
   pub store : IsStore g paths
   pub ups : AreUp paths
   pub crew : Crew g (Holds paths) (IsFinal g) ps
-  pub names : Names paths threads (joint ps) joined
+  pub names : NamesPaths paths threads (joint ps) joined
   pub listed : IsOfThreads threads (joint ps)
   pub all : (t : ℕ) (x : Path) → joint ps t ≡ Some x → Holds ps x
   pub start : Path
@@ -39,7 +39,7 @@ touched ps t = is_some (joint ps t)
 
 -- the number that is named for the thread
 abbrev pub TellsNamed : List ℕ → List (Option ℕ) → ℕ → Option ℕ → Type 0
-TellsNamed threads joined t answer = (paths ps : List Path) → Names paths threads (joint ps) joined → IsOfThreads threads (joint ps) → Numbers paths (joint ps t) answer
+TellsNamed threads joined t answer = (paths ps : List Path) → NamesPaths paths threads (joint ps) joined → IsOfThreads threads (joint ps) → Numbers paths (joint ps t) answer
 
 abbrev pub IsAmongNumbers : List (Option ℕ) → Option ℕ → Type 0
 IsAmongNumbers joined answer = (m : ℕ) → answer ≡ Some m → (i : ℕ) × (slice_get joined i ≡ Some (Some m))
@@ -71,7 +71,7 @@ pub record EndsAt (g : List steps.Member) (ps : List Path) (t : ℕ) (o : Outcom
   pub path : Path
   pub named : joint ps t ≡ Some path
   pub member : steps.Member
-  pub state : state_of g path ≡ Some member
+  pub state : path_state g path ≡ Some member
   pub ends : outcome_of member.term ≡ Some o
 
 abbrev pub EndSo : List steps.Member → List Path → List ℕ → List Outcome → Type 0

@@ -3,26 +3,24 @@ use Rattle.std.specs.Prelude.{◌≡◌, ◌⊎◌, ◌<◌, ℕ, List, [], ◌�
 use Rattle.te_terms.specs.Steps.{Member}
 use Rattle.te_trail.specs.Paths.{Path, planted, branched, sent, got, thread_of, parent_of, move_of}
 use Rattle.te_trail.specs.Clocks.{Agree}
-use Rattle.te_trail.specs.States.{chosen, Ends, met, state_of}
+use Rattle.te_trail.specs.States.{chosen, MovedEnds, members_met, path_state}
 use Rattle.te_trail.specs.Stores.{Holds, IsStore, any_rests_on}
 use Rattle.te_search.specs.Groups.{IsFinal}
+use Rattle.te_trail.specs.Records.{path_at}
 
 -- ---- lists of paths
-
-abbrev pub path_at : List Path → ℕ → Path
-path_at paths n = get_or paths n (planted 0)
 
 -- the paths of these numbers
 abbrev pub paths_by : List Path → List ℕ → List Path
 paths_by paths ns = map (path_at paths) ns
 
-abbrev pub AreLow : List Path → List ℕ → Type 0
-AreLow paths ns = (i n : ℕ) → slice_get ns i ≡ Some n → (x : Path) × (slice_get paths n ≡ Some x)
+abbrev pub AreNumbersOf : List Path → List ℕ → Type 0
+AreNumbersOf paths ns = (i n : ℕ) → slice_get ns i ≡ Some n → (x : Path) × (slice_get paths n ≡ Some x)
 
 -- no path comes twice
-abbrev pub NoneTwice : List Path → Type 0
-NoneTwice [] = Unit {0}
-NoneTwice (x ∷ xs) = (¬ Holds xs x) × NoneTwice xs
+abbrev pub NoPathTwice : List Path → Type 0
+NoPathTwice [] = Unit {0}
+NoPathTwice (x ∷ xs) = (¬ Holds xs x) × NoPathTwice xs
 
 -- the path before the last move of each stands earlier
 abbrev pub AreUp : List Path → Type 0
@@ -45,17 +43,17 @@ AllFail g finals = (front : List Path) (start : Path) (rest : List Path) → fin
 pub record MayMeet (g : List Member) (p : Path) : Type 0 where
   pub own : Member
   pub other : Member
-  pub ends : Ends
-  pub state : state_of g p ≡ Some own
-  pub meets : (met own other ≡ Some ends) ⊎ (met other own ≡ Some ends)
+  pub ends : MovedEnds
+  pub state : path_state g p ≡ Some own
+  pub meets : (members_met own other ≡ Some ends) ⊎ (members_met other own ≡ Some ends)
 
 -- paths made, of which the pending ones are still to be worked on; waiting ends; and final paths in the order of assembling
 pub record IsSearch (g : List Member) (paths pending waits finals : List Path) : Type 0 where
   pub store : IsStore g paths
   pub ups : AreUp paths
-  pub choices : (p : Path) (l : Bool) (m u : Member) → Holds paths p → (¬ Holds pending p) → state_of g p ≡ Some m → chosen l m ≡ Some u → Holds paths (branched p l)
+  pub choices : (p : Path) (l : Bool) (m u : Member) → Holds paths p → (¬ Holds pending p) → path_state g p ≡ Some m → chosen l m ≡ Some u → Holds paths (branched p l)
   pub waiting : (p : Path) → Holds paths p → (¬ Holds pending p) → MayMeet g p → Holds waits p
-  pub meetings : (p q : Path) (a b : Member) (e : Ends) → Holds waits p → Holds waits q → Agree p q → state_of g p ≡ Some a → state_of g q ≡ Some b → met a b ≡ Some e
+  pub meetings : (p q : Path) (a b : Member) (e : MovedEnds) → Holds waits p → Holds waits q → Agree p q → path_state g p ≡ Some a → path_state g q ≡ Some b → members_met a b ≡ Some e
       → Holds paths (sent p q) × Holds paths (got p q)
   pub final : (p : Path) → Holds paths p → (¬ Holds pending p) → IsFinal g p → Holds finals p
   pub failed : AllFail g finals
@@ -66,6 +64,6 @@ pub record IsSearch (g : List Member) (paths pending waits finals : List Path) :
   pub finals_made : (p : Path) → Holds finals p → Holds paths p
   pub finals_final : (p : Path) → Holds finals p → IsFinal g p
   pub pending_apart : (p : Path) → Holds pending p → (¬ Holds waits p) × (¬ Holds finals p)
-  pub pending_once : NoneTwice pending
-  pub waits_once : NoneTwice waits
-  pub finals_once : NoneTwice finals
+  pub pending_once : NoPathTwice pending
+  pub waits_once : NoPathTwice waits
+  pub finals_once : NoPathTwice finals

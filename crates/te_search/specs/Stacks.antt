@@ -8,7 +8,7 @@ use Rattle.te_trail.specs.Trails.{Mark}
 use Rattle.te_trail.specs.Paths.{Path, planted}
 use Rattle.te_trail.specs.Stores.{Holds, labels_of_move}
 use Rattle.te_pair.specs.declared.end.End.{End}
-use Rattle.te_pair.specs.Ends.{paths_of}
+use Rattle.te_pair.specs.Ends.{paths_kept}
 use Rattle.te_search.specs.declared.work.Work.{Work}
 use Rattle.te_search.specs.declared.finals.Final.{Final}
 use Rattle.te_search.specs.Finals.{numbers_of, TellThreads}
@@ -16,7 +16,7 @@ use Rattle.te_search.specs.declared.stack.Level.{Level}
 use Rattle.te_search.specs.declared.stack.Stack.{Stack}
 use Rattle.te_search.specs.Searching.{paths_by, IsSearch}
 use Rattle.te_search.specs.Plantings.{has_number}
-use Rattle.te_search.specs.Works.{AreLow, AreEnds, told, IsCounted, IsWork, threads_of}
+use Rattle.te_search.specs.Works.{AreLow, EndsStand, label_told, IsCounted, IsWork, threads_of}
 
 -- ---- the lists of a search
 
@@ -31,13 +31,13 @@ abbrev pub lists_of : Work → Lists
 lists_of w = record { events = w.store.events; paths = w.store.paths; moves = w.moves.items; waiting = w.waiting; finals = w.finals }
 
 -- a search with nothing left to do, every event planted
-pub record IsWhole (l : Lists) (groups : ℕ) : Type 0 where
-  pub search : IsSearch l.events l.paths [] (paths_by l.paths (paths_of l.waiting)) (paths_by l.paths (numbers_of l.finals))
-  pub waits_low : AreLow l.paths (paths_of l.waiting)
+pub record SearchIsWhole (l : Lists) (groups : ℕ) : Type 0 where
+  pub search : IsSearch l.events l.paths [] (paths_by l.paths (paths_kept l.waiting)) (paths_by l.paths (numbers_of l.finals))
+  pub waits_low : AreLow l.paths (paths_kept l.waiting)
   pub finals_low : AreLow l.paths (numbers_of l.finals)
   pub finals_told : TellThreads l.paths l.finals
-  pub ends : AreEnds l.events l.paths l.waiting
-  pub told_are : map told l.moves ≡ map labels_of_move l.paths
+  pub ends : EndsStand l.events l.paths l.waiting
+  pub told_are : map label_told l.moves ≡ map labels_of_move l.paths
   pub counted : IsCounted l.events l.paths (paths_by l.paths (numbers_of l.finals)) groups
   pub planted_all : (t : ℕ) (e : Member) → member_of t l.events ≡ Some e → Holds l.paths (planted t)
 
@@ -76,7 +76,7 @@ pub record IsLevel (now : Lists) (i : ℕ) (l : Level) (m : Mark) : Type 0 where
   pub events_are : m.events ≡ i
   pub before : IsBefore (extent_at l m) (extent_of now)
   pub fewer : i ≤ m.paths
-  pub whole : IsWhole (back_to (extent_at l m) now) l.groups
+  pub whole : SearchIsWhole (back_to (extent_at l m) now) l.groups
 
 -- each level is a whole search, and none is longer than a later one
 pub record AreLevels (now : Lists) (levels : List Level) (marks : List Mark) : Type 0 where
@@ -86,8 +86,8 @@ pub record AreLevels (now : Lists) (levels : List Level) (marks : List Mark) : T
       → IsBefore (extent_at l m) (extent_at k n)
 
 -- the events of the one group are among those of the other
-abbrev pub IsAmong : List Member → List Member → Type 0
-IsAmong g h = (t : ℕ) (e : Member) → member_of t g ≡ Some e → member_of t h ≡ Some e
+abbrev pub EventsAreAmong : List Member → List Member → Type 0
+EventsAreAmong g h = (t : ℕ) (e : Member) → member_of t g ≡ Some e → member_of t h ≡ Some e
 
 -- threads below 64
 abbrev pub AreFew : List Parked → Type 0
@@ -97,7 +97,7 @@ AreFew parked = (i : ℕ) (p : Parked) → slice_get parked i ≡ Some p → p.t
 pub record HasLevels (s : Stack) : Type 0 where
   pub rise : IsGroup (as_group s.parked)
   pub threads_are : s.threads ≡ threads_of s.work.store.events
-  pub among : IsAmong s.work.store.events (as_group s.parked)
+  pub among : EventsAreAmong s.work.store.events (as_group s.parked)
   pub levels : AreLevels (lists_of s.work) s.levels.items s.work.store.marks
 
 -- and nothing is left to do on those that are planted
@@ -105,7 +105,7 @@ pub record IsStack (s : Stack) : Type 0 where
   pub levels : HasLevels s
   pub as_many : length s.levels.items ≡ length s.threads
   pub fewer : length s.threads ≤ length s.work.store.paths
-  pub whole : IsWhole (lists_of s.work) s.work.groups
+  pub whole : SearchIsWhole (lists_of s.work) s.work.groups
   pub idle : s.work.pending.items ≡ []
 
 -- ---- what is planted
@@ -116,9 +116,9 @@ count_left threads [] = 0
 count_left threads (p ∷ ps) = cond (has_number threads p.thread) (count_left threads ps) (suc (count_left threads ps))
 
 -- a place whose event isn't planted
-abbrev pub IsLeft : List ℕ → List Parked → Option ℕ → Type 0
-IsLeft threads parked None = (i : ℕ) (p : Parked) → slice_get parked i ≡ Some p → has_number threads p.thread ≡ true
-IsLeft threads parked (Some i) = (p : Parked) × (slice_get parked i ≡ Some p) × (has_number threads p.thread ≡ false)
+abbrev pub AwaitsPlanting : List ℕ → List Parked → Option ℕ → Type 0
+AwaitsPlanting threads parked None = (i : ℕ) (p : Parked) → slice_get parked i ≡ Some p → has_number threads p.thread ≡ true
+AwaitsPlanting threads parked (Some i) = (p : Parked) × (slice_get parked i ≡ Some p) × (has_number threads p.thread ≡ false)
 
 -- the answer tells whether the event at a place is to be planted before the best so far: it isn't planted, and where it isn't better there is a best one or it is planted
 abbrev pub TellsBetter : List ℕ → List Parked → ℕ → Option ℕ → Bool → Type 0
@@ -126,15 +126,15 @@ TellsBetter threads parked i best true = (p : Parked) × (slice_get parked i ≡
 TellsBetter threads parked i None false = (p : Parked) → slice_get parked i ≡ Some p → has_number threads p.thread ≡ true
 TellsBetter threads parked i (Some b) false = Unit {0}
 
-abbrev pub IsLow : List Parked → Option ℕ → Type 0
-IsLow parked best = MatchOption best (Unit {0}) (λ b. b < length parked)
+abbrev pub PlaceIsLow : List Parked → Option ℕ → Type 0
+PlaceIsLow parked best = MatchOption best (Unit {0}) (λ b. b < length parked)
 
 -- a level has begun, and its event isn't put yet
 pub record IsReady (s : Stack) : Type 0 where
   pub levels : HasLevels s
   pub one_more : length s.levels.items ≡ length s.threads + 1
   pub fewer : length s.threads ≤ length s.work.store.paths
-  pub whole : IsWhole (lists_of s.work) s.work.groups
+  pub whole : SearchIsWhole (lists_of s.work) s.work.groups
   pub idle : s.work.pending.items ≡ []
 
 -- a level more, and nothing else is new
@@ -179,8 +179,8 @@ abbrev pub parked_of : Option Stack → List Parked
 parked_of None = []
 parked_of (Some s) = s.parked
 
-abbrev pub IsKept : Option Stack → Type 0
-IsKept stack = MatchOption stack (Unit {0}) IsStack
+abbrev pub StackIsKept : Option Stack → Type 0
+StackIsKept stack = MatchOption stack (Unit {0}) IsStack
 
 -- among the first n there is none that isn't planted, or there is this one
 abbrev pub IsBest : List ℕ → List Parked → ℕ → Option ℕ → Type 0

@@ -9,34 +9,35 @@ use Rattle.te_trail.specs.Trails.{Trail, label_of, AreAgreeing, AreUnmet}
 use Rattle.te_trail.specs.Trails as trails
 use Rattle.te_trail.specs.Paths.{Path, sent, got}
 use Rattle.te_trail.specs.Clocks.{Agree}
-use Rattle.te_trail.specs.States.{state_of}
+use Rattle.te_trail.specs.States.{path_state}
 use Rattle.te_trail.specs.Stores.{Holds, IsStore, labels_of_move}
 use Rattle.te_pair.specs.declared.end.End.{End}
-use Rattle.te_pair.specs.Ends.{paths_of, paths_at}
+use Rattle.te_pair.specs.Ends.{paths_kept, paths_at}
 use Rattle.te_search.specs.declared.work.Work.{Work}
 use Rattle.te_search.specs.declared.finals.Final.{Final}
 use Rattle.te_search.specs.Finals.{numbers_of, TellThreads}
 use Rattle.te_search.specs.Groups.{IsFinal, Partial, AreTried}
-use Rattle.te_search.specs.Assemblies.{Stand, IsFound}
-use Rattle.te_search.specs.Searching.{path_at, paths_by, AreUp, IsSearch}
+use Rattle.te_search.specs.Assemblies.{AssemblyStand, IsFound}
+use Rattle.te_search.specs.Searching.{paths_by, AreUp, IsSearch}
+use Rattle.te_trail.specs.Records.{path_at}
 
 -- the numbers are those of paths
 abbrev pub AreLow : List Path → List ℕ → Type 0
 AreLow paths ns = (i n : ℕ) → slice_get ns i ≡ Some n → n < length paths
 
 -- the path stands at a send or a receive on the channel
-pub record StandsAs (g : List Member) (x : Path) (channel : ℕ) (sends : Bool) : Type 0 where
+pub record WaitsOn (g : List Member) (x : Path) (channel : ℕ) (sends : Bool) : Type 0 where
   pub member : Member
-  pub state : state_of g x ≡ Some member
+  pub state : path_state g x ≡ Some member
   pub stands : MatchBool sends ((m : Message) × (sending member.term ≡ Some m) × (m.channel ≡ channel)) (receiving member.term ≡ Some channel)
 
-abbrev pub AreEnds : List Member → List Path → List End → Type 0
-AreEnds g paths ends = (i : ℕ) (e : End) (x : Path) → slice_get ends i ≡ Some e → slice_get paths e.path ≡ Some x → StandsAs g x e.channel e.sends
+abbrev pub EndsStand : List Member → List Path → List End → Type 0
+EndsStand g paths ends = (i : ℕ) (e : End) (x : Path) → slice_get ends i ≡ Some e → slice_get paths e.path ≡ Some x → WaitsOn g x e.channel e.sends
 
 -- what a move is labelled with, told once for both ends of a meeting
-abbrev pub told : Option Move → List Label
-told None = []
-told (Some m) = label_of m ∷ []
+abbrev pub label_told : Option Move → List Label
+label_told None = []
+label_told (Some m) = label_of m ∷ []
 
 -- the partial groups that were tried: so many, each of a start among the final paths
 pub record IsCounted (g : List Member) (paths finals : List Path) (count : ℕ) : Type 0 where
@@ -47,13 +48,13 @@ pub record IsCounted (g : List Member) (paths finals : List Path) (count : ℕ) 
 
 -- the paths that are still to be worked on are these, and perhaps others in hand
 pub record IsWorkOf (w : Work) (pending : List Path) : Type 0 where
-  pub search : IsSearch w.store.events w.store.paths pending (paths_by w.store.paths (paths_of w.waiting)) (paths_by w.store.paths (numbers_of w.finals))
+  pub search : IsSearch w.store.events w.store.paths pending (paths_by w.store.paths (paths_kept w.waiting)) (paths_by w.store.paths (numbers_of w.finals))
   pub pending_low : AreLow w.store.paths w.pending.items
-  pub waits_low : AreLow w.store.paths (paths_of w.waiting)
+  pub waits_low : AreLow w.store.paths (paths_kept w.waiting)
   pub finals_low : AreLow w.store.paths (numbers_of w.finals)
   pub finals_told : TellThreads w.store.paths w.finals
-  pub ends : AreEnds w.store.events w.store.paths w.waiting
-  pub told_are : map told w.moves.items ≡ map labels_of_move w.store.paths
+  pub ends : EndsStand w.store.events w.store.paths w.waiting
+  pub told_are : map label_told w.moves.items ≡ map labels_of_move w.store.paths
   pub counted : IsCounted w.store.events w.store.paths (paths_by w.store.paths (numbers_of w.finals)) w.groups
 
 abbrev pub pending_of : Work → List Path
@@ -73,14 +74,14 @@ pub record Gains (old new : Work) (news : List Path) : Type 0 where
   pub store : IsStore new.store.events new.store.paths
   pub pending : pending_of new ≡ pending_of old ++ news
   pub pending_low : AreLow new.store.paths new.pending.items
-  pub moves : map told new.moves.items ≡ map told old.moves.items ++ map labels_of_move news
+  pub moves : map label_told new.moves.items ≡ map label_told old.moves.items ++ map labels_of_move news
   pub waiting : new.waiting ≡ old.waiting
   pub finals : new.finals ≡ old.finals
   pub groups : new.groups ≡ old.groups
 
 -- as many paths more are still to be worked on as were made
-abbrev pub Grows : Work → Work → Type 0
-Grows old new = (length new.pending.items + length old.store.paths ≡ length old.pending.items + length new.store.paths) × (length old.store.paths ≤ length new.store.paths)
+abbrev pub WorkGrows : Work → Work → Type 0
+WorkGrows old new = (length new.pending.items + length old.store.paths ≡ length old.pending.items + length new.store.paths) × (length old.store.paths ≤ length new.store.paths)
 
 -- the pair of paths that a meeting makes
 abbrev pub met_paths : Bool → Path → Path → List Path
@@ -89,7 +90,7 @@ met_paths false x y = sent y x ∷ (got y x ∷ [])
 
 -- a sender's and a receiver's path can meet
 pub record CanMeet (store : Trail) (p q : ℕ) : Type 0 where
-  pub stand : trails.AreEnds store p q
+  pub stand : trails.AreMeetingEnds store p q
   pub agree : AreAgreeing store p q
   pub unmet : AreUnmet store p q
 
@@ -119,8 +120,8 @@ abbrev pub HasMet : Work → Work → Path → ℕ → Bool → Type 0
 HasMet old new x channel sends = IsMeeting old new x sends (others_of old channel sends) (length (others_of old channel sends))
 
 -- paths and partial groups are at most the budget
-abbrev pub IsWithin : Work → ℕ → Type 0
-IsWithin w budget = length w.store.paths + w.groups ≤ budget
+abbrev pub IsWithinBudget : Work → ℕ → Type 0
+IsWithinBudget w budget = length w.store.paths + w.groups ≤ budget
 
 -- all of the budget is used, or all but one
 abbrev pub IsNear : ℕ → ℕ → Type 0
@@ -135,7 +136,7 @@ pub record IsPassed (g : List Member) (budget : ℕ) : Type 0 where
   pub beyond : budget < length made + length tried
 
 -- the budget is used, or all but one, and the store with these paths more would pass it
-pub record IsShort (w : Work) (budget : ℕ) : Type 0 where
+pub record RunsShort (w : Work) (budget : ℕ) : Type 0 where
   pub near : IsNear (length w.store.paths + w.groups) budget
   pub more : List Path
   pub store : IsStore w.store.events (w.store.paths ++ more)
@@ -152,16 +153,16 @@ pub record IsSpentAt (w : Work) (events : List Member) (budget : ℕ) : Type 0 w
 
 -- a group was found: final paths that agree, whose joined past names only final paths
 pub record IsHit (w : Work) (threads : List ℕ) (out : List (Option ℕ)) : Type 0 where
-  pub stand : Stand w.store.events w.store.paths threads (numbers_of w.finals)
+  pub stand : AssemblyStand w.store.events w.store.paths threads (numbers_of w.finals)
   pub start : Path
   pub final : IsFinal w.store.events start
   pub made : Holds w.store.paths start
   pub found : IsFound w.store.events w.store.paths threads start (start ∷ []) out
-  pub told_are : map told w.moves.items ≡ map labels_of_move w.store.paths
+  pub told_are : map label_told w.moves.items ≡ map labels_of_move w.store.paths
 
 -- the path in hand is done, or a group was found
-abbrev pub EndsSo : Work → List ℕ → Option (Vec (Option ℕ) Global) → Type 0
-EndsSo new threads found = MatchOption found (IsWork new) (λ v. IsHit new threads v.items)
+abbrev pub StepEndsSo : Work → List ℕ → Option (Vec (Option ℕ) Global) → Type 0
+StepEndsSo new threads found = MatchOption found (IsWork new) (λ v. IsHit new threads v.items)
 
 abbrev pub threads_of : List Member → List ℕ
 threads_of g = map (λ m. m.thread) g
@@ -173,7 +174,7 @@ SettlesSo new threads found = MatchOption found (IsWork new × (new.pending.item
 -- ---- what stays
 
 -- what there was stands where it stood: new paths, moves, waiting ends and final paths stand behind
-pub record Keeps (old new : Work) : Type 0 where
+pub record WorkKeeps (old new : Work) : Type 0 where
   pub events : new.store.events ≡ old.store.events
   pub marks : new.store.marks ≡ old.store.marks
   pub more_paths : List Path

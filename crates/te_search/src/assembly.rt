@@ -1,7 +1,7 @@
 // From a final path to a group.
 
 ghost use Rattle.std.specs.Prelude.{◌≡◌, ◌≤◌, ◌<◌, ◌+◌, ◌-◌, length, ◌∷◌, [], slice_get, Some, Err, IfOk};
-ghost use Rattle.te_search.specs.Assemblies.{Stand, TellsFinal, AreNumbers, IsOpenAt, TellsLined, TakesIn, Assembles, TriesOnly, Names, joint, AreNone, later_number};
+ghost use Rattle.te_search.specs.Assemblies.{AssemblyStand, TellsFinal, AreNumbers, IsOpenAt, TellsLined, TakesIn, Assembles, TriesOnly, NamesPaths, joint, AreNone, later_number};
 ghost use Rattle.te_search.specs.Finals.{numbers_of, TellThreads};
 ghost use Rattle.te_trail.specs.Paths.{Path};
 ghost use Rattle.te_search.specs.Searching.{AreUp};
@@ -135,7 +135,7 @@ pub(crate) fn past_of(
     requires ups { AreUp store.now.paths }
     ensures wide { IfOk result (λ v. length v.items ≡ length threads.now) }
     ensures numbers { IfOk result (λ v. AreNumbers store.now.paths v.items) }
-    ensures names { IfOk result (λ v. (x : Path) → slice_get store.now.paths p ≡ Some x → Names store.now.paths threads.now (joint (x ∷ [])) v.items) }
+    ensures names { IfOk result (λ v. (x : Path) → slice_get store.now.paths p ≡ Some x → NamesPaths store.now.paths threads.now (joint (x ∷ [])) v.items) }
 {
     let none = nothing_joined(alloc, threads.len())?;
     take_in(alloc, store, threads, p, &none)
@@ -152,7 +152,7 @@ pub(crate) fn assemble(
     joined: &[Option<u32>],
     left: &mut u64,
 ) -> Result<Option<Vec<Option<u32>>>, Refused>
-    requires stand { Stand store.now.events store.now.paths threads.now (numbers_of finals.now) }
+    requires stand { AssemblyStand store.now.events store.now.paths threads.now (numbers_of finals.now) }
     requires told { TellThreads store.now.paths finals.now }
     requires wide { length joined.now ≡ length threads.now }
     requires numbers { AreNumbers store.now.paths joined.now }

@@ -6,7 +6,7 @@ ghost use Rattle.te_terms.specs.Measures.{choice_count, send_count, receive_coun
 ghost use Rattle.te_terms.specs.Steps.{Member};
 ghost use Rattle.te_terms.specs.Joint.{IsGroup, as_group};
 ghost use Rattle.te_trail.specs.Views.{Name, IsPathName, IsGroupName};
-ghost use Rattle.te_search.specs.Bounds.{AreDistinct, over_all, paths_most, enough_for};
+ghost use Rattle.te_search.specs.Bounds.{NoNameTwice, over_all, paths_most, enough_for};
 
 use te_terms::Parked;
 
@@ -14,8 +14,8 @@ use te_terms::Parked;
 /// goes left or goes right, and each send node is not met or met by one receive node.
 #[doc(hidden)]
 pub fn names_are_few()
-    ensures paths { (g : List Member) (names : List Name) → IsGroup g → AreDistinct names → AllByRecursion (IsPathName g) names → length names ≤ paths_most g }
-    ensures groups { (g : List Member) (names : List Name) → IsGroup g → AreDistinct names → AllByRecursion (IsGroupName g) names → length names ≤ paths_most g }
+    ensures paths { (g : List Member) (names : List Name) → IsGroup g → NoNameTwice names → AllByRecursion (IsPathName g) names → length names ≤ paths_most g }
+    ensures groups { (g : List Member) (names : List Name) → IsGroup g → NoNameTwice names → AllByRecursion (IsGroupName g) names → length names ≤ paths_most g }
 {}
 
 // The number times a factor, so often, or 1,000,001 where that is more.
@@ -71,7 +71,7 @@ pub fn enough(parked: &[Parked]) -> Option<u64>
     requires { IsGroup (as_group parked.now) }
     ensures some { IfSome result (λ n. n ≡ enough_for (as_group parked.now)) }
     ensures none { (result ≡ None) ↔ (1000000 < enough_for (as_group parked.now)) }
-    ensures names { (paths groups : List Name) → AreDistinct paths → AllByRecursion (IsPathName (as_group parked.now)) paths → AreDistinct groups → AllByRecursion (IsGroupName (as_group parked.now)) groups → length paths + length groups ≤ enough_for (as_group parked.now) }
+    ensures names { (paths groups : List Name) → NoNameTwice paths → AllByRecursion (IsPathName (as_group parked.now)) paths → NoNameTwice groups → AllByRecursion (IsGroupName (as_group parked.now)) groups → length paths + length groups ≤ enough_for (as_group parked.now) }
 {
     let paths = paths_in(parked);
     if paths <= 500_000 {

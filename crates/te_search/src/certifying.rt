@@ -7,12 +7,12 @@ ghost use Rattle.te_terms.specs.Joint.{IsGroup, as_group};
 ghost use Rattle.te_cert.specs.Certs.{letters_of};
 ghost use Rattle.te_trail.specs.Paths.{Path};
 ghost use Rattle.te_trail.specs.Stores.{labels_of_move};
-ghost use Rattle.te_trail.specs.States.{state_of};
+ghost use Rattle.te_trail.specs.States.{path_state};
 ghost use Rattle.te_trail.specs.Trails.{label_of};
 ghost use Rattle.te_search.specs.Groups.{IsFinal};
 ghost use Rattle.te_search.specs.Assemblies.{AreNumbers, IsOpenAt};
-ghost use Rattle.te_search.specs.Works.{told, IsHit};
-ghost use Rattle.te_search.specs.Stacks.{IsAmong};
+ghost use Rattle.te_search.specs.Works.{label_told, IsHit};
+ghost use Rattle.te_search.specs.Stacks.{EventsAreAmong};
 ghost use Rattle.te_search.specs.Plantings.{has_number};
 ghost use Rattle.te_search.specs.Picks.{TellsNamed, IsAmongNumbers, TellsHad, IsJointTrail, AreMeetingsOf, TakesMember, AreGathered, NumbersRise, IsPlaceAmong, AreMeets, TellsLetter, TellsMeeting};
 ghost use Rattle.te_search.specs.Findings.{IsGroupOf};
@@ -66,7 +66,7 @@ fn joint_trail(
     threads: &PlantedThreads,
     joined: &[Option<u32>],
 ) -> Result<Vec<Move>, NoMemory>
-    requires told { map told moves.now ≡ map labels_of_move store.now.paths }
+    requires told { map label_told moves.now ≡ map labels_of_move store.now.paths }
     requires wide { length joined.now ≡ length threads.now }
     requires numbers { AreNumbers store.now.paths joined.now }
     ensures trail { IfOk result (λ word. IsJointTrail store.now.events store.now.paths threads.now joined.now word.items) }
@@ -160,7 +160,7 @@ fn meetings(alloc: Global, names: &[u32], word: &[Move]) -> Result<Rows<Meeting>
 fn outcome(store: &TrailStore, p: u32) -> Outcome
     requires path { p < length store.now.paths }
     requires at_end { (x : Path) → slice_get store.now.paths p ≡ Some x → IsFinal store.now.events x }
-    ensures { (x : Path) (m : steps.Member) → slice_get store.now.paths p ≡ Some x → state_of store.now.events x ≡ Some m → outcome_of m.term ≡ Some result }
+    ensures { (x : Path) (m : steps.Member) → slice_get store.now.paths p ≡ Some x → path_state store.now.events x ≡ Some m → outcome_of m.term ≡ Some result }
 {
     match store.stop(p) {
         Stop::Done(value) => Outcome::Gives(value),
@@ -249,7 +249,7 @@ pub(crate) fn certify(
     joined: &[Option<u32>],
 ) -> Result<Group, NoMemory>
     requires hit { IsHit work.now threads.now joined.now }
-    requires among { IsAmong work.now.store.events (as_group parked.now) }
+    requires among { EventsAreAmong work.now.store.events (as_group parked.now) }
     requires rise { IsGroup (as_group parked.now) }
     ensures { IfOk result (λ group. IsGroupOf parked.now group.cert group.outcomes) }
 {

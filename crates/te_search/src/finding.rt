@@ -5,8 +5,8 @@ ghost use Rattle.te_cert.specs.Certificates.{Certificate};
 ghost use Rattle.te_terms.specs.Joint.{IsGroup, as_group, CanCommit};
 ghost use Rattle.te_search.specs.Bounds.{enough_for};
 ghost use Rattle.te_search.specs.Findings.{IsGroupOf, IsUsedUp, IsBudget};
-ghost use Rattle.te_search.specs.Stacks.{HasLevels, IsStack, IsLeft, IsOpened, IsExploring, count_left};
-ghost use Rattle.te_search.specs.Works.{IsWithin, IsHit};
+ghost use Rattle.te_search.specs.Stacks.{HasLevels, IsStack, AwaitsPlanting, IsOpened, IsExploring, count_left};
+ghost use Rattle.te_search.specs.Works.{IsWithinBudget, IsHit};
 ghost use Rattle.te_search.specs.declared.finding.SearchFault.TheVariants as faults;
 ghost use Rattle.te_search.specs.declared.finding.Found.TheVariants as answers;
 
@@ -41,7 +41,7 @@ pub enum SearchFault {
 impl Work {
     // Whether paths and partial groups are at most the budget.
     fn is_within(&self, budget: u64) -> bool
-        ensures { IsTrue result ↔ IsWithin self.now budget }
+        ensures { IsTrue result ↔ IsWithinBudget self.now budget }
     {
         self.groups <= budget && self.store.len() as u64 <= budget - self.groups
     }
@@ -62,7 +62,7 @@ impl Stack {
     fn cut_within(&mut self, budget: u64)
         requires { IsStack self.old }
         ensures stack { IsStack self.new }
-        ensures within { IsWithin self.new.work budget }
+        ensures within { IsWithinBudget self.new.work budget }
         ensures parked { self.new.parked ≡ self.old.parked }
     {
         'levels: while !self.work.is_within(budget) {
@@ -102,11 +102,11 @@ impl Stack {
     // refusal, its level is gone.
     fn explore(&mut self, alloc: Global, budget: u64) -> Result<Option<Group>, SearchFault>
         requires exploring { IsExploring self.old }
-        requires within { IsWithin self.old.work budget }
+        requires within { IsWithinBudget self.old.work budget }
         requires budget { IsBudget budget }
         ensures stack { IsStack self.new }
         ensures parked { self.new.parked ≡ self.old.parked }
-        ensures none { result ≡ Ok None → (self.new.threads ≡ self.old.threads) × IsWithin self.new.work budget }
+        ensures none { result ≡ Ok None → (self.new.threads ≡ self.old.threads) × IsWithinBudget self.new.work budget }
         ensures group { IfOk result (λ found. IfSome found (λ group. IsGroupOf self.old.parked group.cert group.outcomes)) }
         ensures spent { (paths groups : ℕ) → result ≡ Err (faults.Spent paths groups) → IsUsedUp self.old.parked budget paths groups }
     {
@@ -134,12 +134,12 @@ impl Stack {
         budget: u64,
     ) -> Result<Option<Group>, SearchFault>
         requires stack { IsStack self.old }
-        requires left { IsLeft self.old.threads self.old.parked (Some place) }
-        requires within { IsWithin self.old.work budget }
+        requires left { AwaitsPlanting self.old.threads self.old.parked (Some place) }
+        requires within { IsWithinBudget self.old.work budget }
         requires budget { IsBudget budget }
         ensures stack { IsStack self.new }
         ensures parked { self.new.parked ≡ self.old.parked }
-        ensures none { result ≡ Ok None → (count_left self.new.threads self.new.parked < count_left self.old.threads self.old.parked) × IsWithin self.new.work budget }
+        ensures none { result ≡ Ok None → (count_left self.new.threads self.new.parked < count_left self.old.threads self.old.parked) × IsWithinBudget self.new.work budget }
         ensures group { IfOk result (λ found. IfSome found (λ group. IsGroupOf self.old.parked group.cert group.outcomes)) }
         ensures spent { (paths groups : ℕ) → result ≡ Err (faults.Spent paths groups) → IsUsedUp self.old.parked budget paths groups }
     {

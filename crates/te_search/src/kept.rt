@@ -179,11 +179,11 @@ impl Model for KeptSearch {
 
     ghost coded = { coded_list row.the_row.coded };
 
-    ghost use Rattle.te_search.specs.Stacks.{parked_of, IsKept};
+    ghost use Rattle.te_search.specs.Stacks.{parked_of, StackIsKept};
 
     ghost view = { λ k. parked_of k.stack };
 
-    ghost invariant = { λ k. IsKept k.stack };
+    ghost invariant = { λ k. StackIsKept k.stack };
 }
 
 impl KeptSearch {

@@ -2,8 +2,8 @@
 
 ghost use Rattle.std.specs.Prelude.{◌≡◌, ◌≤◌, ◌<◌, ◌+◌, ◌↔◌, length, take, suc, ◌++◌, ◌∷◌, [], slice_get, Some, OnOk, OnErr, IfOk, IsTrue, false};
 ghost use Rattle.te_terms.specs.declared.event.Parked.{Parked};
-ghost use Rattle.te_search.specs.Stacks.{HasLevels, IsStack, IsLeft, TellsBetter, IsReady, IsBegun, IsOpened, IsLow};
-ghost use Rattle.te_search.specs.Works.{IsWithin};
+ghost use Rattle.te_search.specs.Stacks.{HasLevels, IsStack, AwaitsPlanting, TellsBetter, IsReady, IsBegun, IsOpened, PlaceIsLow};
+ghost use Rattle.te_search.specs.Works.{IsWithinBudget};
 
 use crate::listed::ParkedList;
 use crate::planted::PlantedThreads;
@@ -54,7 +54,7 @@ impl Stack {
     /// A place whose event isn't planted, of those the one with the lowest ticket: who has been parked for long is
     /// mostly left alone by what commits, and so stands on a low level.
     pub(crate) fn next(&self) -> Option<usize>
-        ensures { IsLeft self.now.threads self.now.parked result }
+        ensures { AwaitsPlanting self.now.threads self.now.parked result }
     {
         let mut best: Option<usize> = None;
         'places: for i in 0..self.parked.len() {
@@ -68,7 +68,7 @@ impl Stack {
     // Whether the event at a place isn't planted, and has a lower ticket than the best so far.
     fn is_better(&self, i: usize, best: Option<usize>) -> bool
         requires place { i < length self.now.parked }
-        requires best { IsLow self.now.parked best }
+        requires best { PlaceIsLow self.now.parked best }
         ensures { TellsBetter self.now.threads self.now.parked i best result }
     {
         let parked = self.parked.at(i);
@@ -100,7 +100,7 @@ impl Stack {
     // Puts and plants the event at a place, where a level has just begun.
     fn plant(&mut self, place: usize) -> Result<(), NoMemory>
         requires begun { IsReady self.old }
-        requires left { IsLeft self.old.threads self.old.parked (Some place) }
+        requires left { AwaitsPlanting self.old.threads self.old.parked (Some place) }
         requires room { length self.old.work.store.paths < 2147483648 }
         ensures ok { OnOk result (IsOpened self.old self.new) }
         ensures err { OnErr result (HasLevels self.new) }
@@ -127,7 +127,7 @@ impl Stack {
     /// Plants the event at a place on a level of its own. After a refusal, for want of memory, nothing is left to do.
     pub(crate) fn open(&mut self, place: usize) -> Result<(), NoMemory>
         requires stack { IsStack self.old }
-        requires left { IsLeft self.old.threads self.old.parked (Some place) }
+        requires left { AwaitsPlanting self.old.threads self.old.parked (Some place) }
         requires room { length self.old.work.store.paths < 2147483648 }
         ensures ok { OnOk result (IsOpened self.old self.new) }
         ensures err { OnErr result (IsStack self.new) }

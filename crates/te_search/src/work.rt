@@ -3,11 +3,11 @@
 ghost use Rattle.std.specs.Prelude.{◌≡◌, ◌≤◌, ◌<◌, ◌+◌, length, ◌∷◌, [], Err, OnOk, slice_get, Some, MatchBool, IfOk, IsOk};
 ghost use Rattle.te_trail.specs.Paths.{Path, branched, sent, got};
 ghost use Rattle.te_search.specs.declared.assembly.Refused.TheVariants as refusals;
-ghost use Rattle.te_search.specs.Works.{AreLow, IsWork, IsWorkOn, IsWithin, IsShort, IsSpentAt};
-ghost use Rattle.te_search.specs.Works.{Gains, CanMeet, met_paths, StandsAs, IsReadyFor, MeetsOne, HasMet, EndsSo, threads_of, Grows, SettlesSo, Keeps};
+ghost use Rattle.te_search.specs.Works.{AreLow, IsWork, IsWorkOn, IsWithinBudget, RunsShort, IsSpentAt};
+ghost use Rattle.te_search.specs.Works.{Gains, CanMeet, met_paths, WaitsOn, IsReadyFor, MeetsOne, HasMet, StepEndsSo, threads_of, WorkGrows, SettlesSo, WorkKeeps};
 ghost use Rattle.te_search.specs.Groups.{IsFinal};
 ghost use Rattle.te_trail.specs.Stores.{IsStore};
-ghost use Rattle.te_trail.specs.Trails.{IsAtChoice, IsUnmade, AreEnds, AreAgreeing, AreUnmet};
+ghost use Rattle.te_trail.specs.Trails.{IsAtChoice, IsUnmade, AreMeetingEnds, AreAgreeing, AreUnmet};
 
 use crate::assembly::{Refused, assemble, past_of};
 use crate::finals::Finals;
@@ -32,7 +32,7 @@ pub(crate) struct Work {
 impl Work {
     // What is left of the budget.
     pub(crate) fn left(&self, budget: u64) -> u64
-        requires { IsWithin self.now budget }
+        requires { IsWithinBudget self.now budget }
         ensures left { result + (length self.now.store.paths + self.now.groups) ≡ budget }
         ensures store { IsStore self.now.store.events self.now.store.paths }
     {
@@ -41,16 +41,16 @@ impl Work {
 
     // Makes one branch of a path, the left part for `true`.
     fn branch_one(&mut self, p: u32, left: bool, budget: u64) -> Result<(), Refused>
-        requires within { IsWithin self.old budget }
+        requires within { IsWithinBudget self.old budget }
         requires few { budget ≤ 1000000 }
         requires path { p < length self.old.store.paths }
         requires stands { IsAtChoice self.old.store p }
         requires unmade { IsUnmade self.old.store p left }
         requires low { AreLow self.old.store.paths self.old.pending.items }
-        ensures keeps { Keeps self.old self.new }
+        ensures keeps { WorkKeeps self.old self.new }
         ensures ok { OnOk result ((x : Path) → slice_get self.old.store.paths p ≡ Some x → Gains self.old self.new (branched x left ∷ [])) }
-        ensures within { OnOk result (IsWithin self.new budget) }
-        ensures spent { result ≡ Err refusals.Spent → (self.new ≡ self.old) × IsShort self.old budget }
+        ensures within { OnOk result (IsWithinBudget self.new budget) }
+        ensures spent { result ≡ Err refusals.Spent → (self.new ≡ self.old) × RunsShort self.old budget }
     {
         if self.left(budget) == 0 {
             return Err(Refused::Spent);
@@ -75,15 +75,15 @@ impl Work {
     // Makes both branches of the path in hand.
     fn branch(&mut self, p: u32, budget: u64) -> Result<(), Refused>
         requires work { IsWorkOn self.old p }
-        requires within { IsWithin self.old budget }
+        requires within { IsWithinBudget self.old budget }
         requires few { budget ≤ 1000000 }
         requires path { p < length self.old.store.paths }
         requires stands { IsAtChoice self.old.store p }
-        ensures keeps { Keeps self.old self.new }
+        ensures keeps { WorkKeeps self.old self.new }
         ensures ok { OnOk result (IsWork self.new) }
         ensures events { OnOk result (self.new.store.events ≡ self.old.store.events) }
-        ensures grows { OnOk result (Grows self.old self.new) }
-        ensures within { OnOk result (IsWithin self.new budget) }
+        ensures grows { OnOk result (WorkGrows self.old self.new) }
+        ensures within { OnOk result (IsWithinBudget self.new budget) }
         ensures spent { result ≡ Err refusals.Spent → IsSpentAt self.new self.old.store.events budget }
     {
         self.branch_one(p, true, budget)?;
@@ -92,18 +92,18 @@ impl Work {
 
     // Makes both paths of a meeting of the path in hand, which sends or receives, and a kept end.
     fn meet_one(&mut self, p: u32, q: u32, budget: u64) -> Result<(), Refused>
-        requires within { IsWithin self.old budget }
+        requires within { IsWithinBudget self.old budget }
         requires few { budget ≤ 1000000 }
         requires sender { p < length self.old.store.paths }
         requires receiver { q < length self.old.store.paths }
-        requires stand { AreEnds self.old.store p q }
+        requires stand { AreMeetingEnds self.old.store p q }
         requires agree { AreAgreeing self.old.store p q }
         requires unmet { AreUnmet self.old.store p q }
         requires low { AreLow self.old.store.paths self.old.pending.items }
-        ensures keeps { Keeps self.old self.new }
+        ensures keeps { WorkKeeps self.old self.new }
         ensures ok { OnOk result ((x y : Path) → slice_get self.old.store.paths p ≡ Some x → slice_get self.old.store.paths q ≡ Some y → Gains self.old self.new (sent x y ∷ (got x y ∷ []))) }
-        ensures within { OnOk result (IsWithin self.new budget) }
-        ensures spent { result ≡ Err refusals.Spent → (self.new ≡ self.old) × IsShort self.old budget }
+        ensures within { OnOk result (IsWithinBudget self.new budget) }
+        ensures spent { result ≡ Err refusals.Spent → (self.new ≡ self.old) × RunsShort self.old budget }
     {
         if self.left(budget) < 2 {
             return Err(Refused::Spent);
@@ -130,16 +130,16 @@ impl Work {
 
     // Makes both paths of a meeting of the path in hand, which sends or receives, and a kept end.
     fn meet_with(&mut self, p: u32, q: u32, sends: bool, budget: u64) -> Result<(), Refused>
-        requires within { IsWithin self.old budget }
+        requires within { IsWithinBudget self.old budget }
         requires few { budget ≤ 1000000 }
         requires own { p < length self.old.store.paths }
         requires other { q < length self.old.store.paths }
         requires ready { MatchBool sends (CanMeet self.old.store p q) (CanMeet self.old.store q p) }
         requires low { AreLow self.old.store.paths self.old.pending.items }
-        ensures keeps { Keeps self.old self.new }
+        ensures keeps { WorkKeeps self.old self.new }
         ensures ok { OnOk result ((x y : Path) → slice_get self.old.store.paths p ≡ Some x → slice_get self.old.store.paths q ≡ Some y → Gains self.old self.new (met_paths sends x y)) }
-        ensures within { OnOk result (IsWithin self.new budget) }
-        ensures spent { result ≡ Err refusals.Spent → (self.new ≡ self.old) × IsShort self.old budget }
+        ensures within { OnOk result (IsWithinBudget self.new budget) }
+        ensures spent { result ≡ Err refusals.Spent → (self.new ≡ self.old) × RunsShort self.old budget }
     {
         if sends {
             self.meet_one(p, q, budget)
@@ -150,16 +150,16 @@ impl Work {
 
     // Meets a kept path that stands on the other side of the channel, where it agrees with the path in hand.
     fn meet_other(&mut self, p: u32, q: u32, sends: bool, budget: u64) -> Result<(), Refused>
-        requires within { IsWithin self.old budget }
+        requires within { IsWithinBudget self.old budget }
         requires few { budget ≤ 1000000 }
         requires own { p < length self.old.store.paths }
         requires other { q < length self.old.store.paths }
         requires ready { IsReadyFor self.old p q sends }
         requires low { AreLow self.old.store.paths self.old.pending.items }
-        ensures keeps { Keeps self.old self.new }
+        ensures keeps { WorkKeeps self.old self.new }
         ensures ok { OnOk result ((x y : Path) → slice_get self.old.store.paths p ≡ Some x → slice_get self.old.store.paths q ≡ Some y → MeetsOne self.old self.new x y sends) }
-        ensures within { OnOk result (IsWithin self.new budget) }
-        ensures spent { result ≡ Err refusals.Spent → (self.new ≡ self.old) × IsShort self.old budget }
+        ensures within { OnOk result (IsWithinBudget self.new budget) }
+        ensures spent { result ≡ Err refusals.Spent → (self.new ≡ self.old) × RunsShort self.old budget }
     {
         if !self.store.agree(p, q) {
             return Ok(());
@@ -178,13 +178,13 @@ impl Work {
         budget: u64,
     ) -> Result<(), Refused>
         requires work { IsWorkOn self.old p }
-        requires within { IsWithin self.old budget }
+        requires within { IsWithinBudget self.old budget }
         requires few { budget ≤ 1000000 }
         requires path { p < length self.old.store.paths }
-        requires stands { (x : Path) → slice_get self.old.store.paths p ≡ Some x → StandsAs self.old.store.events x channel sends }
-        ensures keeps { Keeps self.old self.new }
+        requires stands { (x : Path) → slice_get self.old.store.paths p ≡ Some x → WaitsOn self.old.store.events x channel sends }
+        ensures keeps { WorkKeeps self.old self.new }
         ensures ok { OnOk result ((x : Path) → slice_get self.old.store.paths p ≡ Some x → HasMet self.old self.new x channel sends) }
-        ensures within { OnOk result (IsWithin self.new budget) }
+        ensures within { OnOk result (IsWithinBudget self.new budget) }
         ensures spent { result ≡ Err refusals.Spent → IsSpentAt self.new self.old.store.events budget }
     {
         let Ok(others) = Vec::from_slice(alloc, self.waiting.ends(channel, !sends)) else {
@@ -209,15 +209,15 @@ impl Work {
         budget: u64,
     ) -> Result<(), Refused>
         requires work { IsWorkOn self.old p }
-        requires within { IsWithin self.old budget }
+        requires within { IsWithinBudget self.old budget }
         requires few { budget ≤ 1000000 }
         requires path { p < length self.old.store.paths }
-        requires stands { (x : Path) → slice_get self.old.store.paths p ≡ Some x → StandsAs self.old.store.events x channel sends }
-        ensures keeps { Keeps self.old self.new }
+        requires stands { (x : Path) → slice_get self.old.store.paths p ≡ Some x → WaitsOn self.old.store.events x channel sends }
+        ensures keeps { WorkKeeps self.old self.new }
         ensures ok { OnOk result (IsWork self.new) }
         ensures events { OnOk result (self.new.store.events ≡ self.old.store.events) }
-        ensures grows { OnOk result (Grows self.old self.new) }
-        ensures within { OnOk result (IsWithin self.new budget) }
+        ensures grows { OnOk result (WorkGrows self.old self.new) }
+        ensures within { OnOk result (IsWithinBudget self.new budget) }
         ensures spent { result ≡ Err refusals.Spent → IsSpentAt self.new self.old.store.events budget }
     {
         if let Err(refused) = self.meet_all(alloc, p, channel, sends, budget) {
@@ -238,15 +238,15 @@ impl Work {
         budget: u64,
     ) -> Result<Option<Vec<Option<u32>>>, Refused>
         requires work { IsWorkOn self.old p }
-        requires within { IsWithin self.old budget }
+        requires within { IsWithinBudget self.old budget }
         requires path { p < length self.old.store.paths }
         requires at_end { (x : Path) → slice_get self.old.store.paths p ≡ Some x → IsFinal self.old.store.events x }
         requires threads { threads.now ≡ threads_of self.old.store.events }
-        ensures keeps { Keeps self.old self.new }
-        ensures ok { IfOk result (λ found. EndsSo self.new threads.now found) }
+        ensures keeps { WorkKeeps self.old self.new }
+        ensures ok { IfOk result (λ found. StepEndsSo self.new threads.now found) }
         ensures events { IsOk result → self.new.store.events ≡ self.old.store.events }
-        ensures grows { IsOk result → Grows self.old self.new }
-        ensures within { IsOk result → IsWithin self.new budget }
+        ensures grows { IsOk result → WorkGrows self.old self.new }
+        ensures within { IsOk result → IsWithinBudget self.new budget }
         ensures spent { result ≡ Err refusals.Spent → IsSpentAt self.new self.old.store.events budget }
     {
         let mut left = self.left(budget);
@@ -282,15 +282,15 @@ impl Work {
         budget: u64,
     ) -> Result<Option<Vec<Option<u32>>>, Refused>
         requires work { IsWorkOn self.old p }
-        requires within { IsWithin self.old budget }
+        requires within { IsWithinBudget self.old budget }
         requires few { budget ≤ 1000000 }
         requires path { p < length self.old.store.paths }
         requires threads { threads.now ≡ threads_of self.old.store.events }
-        ensures keeps { Keeps self.old self.new }
-        ensures ok { IfOk result (λ found. EndsSo self.new threads.now found) }
+        ensures keeps { WorkKeeps self.old self.new }
+        ensures ok { IfOk result (λ found. StepEndsSo self.new threads.now found) }
         ensures events { IsOk result → self.new.store.events ≡ self.old.store.events }
-        ensures grows { IsOk result → Grows self.old self.new }
-        ensures within { IsOk result → IsWithin self.new budget }
+        ensures grows { IsOk result → WorkGrows self.old self.new }
+        ensures within { IsOk result → IsWithinBudget self.new budget }
         ensures spent { result ≡ Err refusals.Spent → IsSpentAt self.new self.old.store.events budget }
     {
         match self.store.stop(p) {
@@ -320,13 +320,13 @@ impl Work {
         budget: u64,
     ) -> Result<Option<Vec<Option<u32>>>, Refused>
         requires work { IsWork self.old }
-        requires within { IsWithin self.old budget }
+        requires within { IsWithinBudget self.old budget }
         requires few { budget ≤ 1000000 }
         requires threads { threads.now ≡ threads_of self.old.store.events }
-        ensures keeps { Keeps self.old self.new }
+        ensures keeps { WorkKeeps self.old self.new }
         ensures ok { IfOk result (λ found. SettlesSo self.new threads.now found) }
         ensures events { IsOk result → self.new.store.events ≡ self.old.store.events }
-        ensures within { IsOk result → IsWithin self.new budget }
+        ensures within { IsOk result → IsWithinBudget self.new budget }
         ensures spent { result ≡ Err refusals.Spent → IsSpentAt self.new self.old.store.events budget }
     {
         'work: while let Some(p) = self.pending.pop() {

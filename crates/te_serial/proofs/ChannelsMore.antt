@@ -11,7 +11,7 @@ use Rattle.te_history.specs.declared.status.How.{How}
 use Rattle.te_history.specs.declared.status.How.TheVariants as ways
 use Rattle.te_history.specs.declared.entry.Entry.{Entry}
 use Rattle.te_history.specs.declared.entry.Entry.TheVariants as entries
-use Rattle.te_report.specs.Fitting.{AtomFits, ValueFits, VariableFits, PrimitiveFits, CalculationFits, ExpressionFits, TermFits, OutcomeFits, HowFits, EntryFits}
+use Rattle.te_report.specs.Fitting.{AtomFits, ValueFits, VariableFits, PrimitiveFits, CalculationFits, ExpressionFits, TermFits, OutcomeFits, HowFits, EntryIsSpelled}
 
 module _ (P Q : ℕ → Type 0) (more : (c : ℕ) → P c → Q c) where
   atom_more : (a : Atom) → AtomFits P a → AtomFits Q a
@@ -73,7 +73,7 @@ module _ (P Q : ℕ → Type 0) (more : (c : ℕ) → P c → Q c) where
   how_more (ways.Raised value) h = value_more value h
   how_more ways.Stuck h = tt
 
-  pub entry_more : (e : Entry) → EntryFits P e → EntryFits Q e
+  pub entry_more : (e : Entry) → EntryIsSpelled P e → EntryIsSpelled Q e
   entry_more (entries.Post by ticket event) h = term_more event h
   entry_more (entries.Commit by cert outcomes) h = outcomes_more outcomes h
   entry_more (entries.Withdraw by ticket) h = tt
@@ -82,6 +82,6 @@ module _ (P Q : ℕ → Type 0) (more : (c : ℕ) → P c → Q c) where
   entry_more (entries.Stuck by) h = tt
   entry_more (entries.End by how) h = how_more how h
 
-  pub entries_more : (es : List Entry) → AllByRecursion (EntryFits P) es → AllByRecursion (EntryFits Q) es
+  pub entries_more : (es : List Entry) → AllByRecursion (EntryIsSpelled P) es → AllByRecursion (EntryIsSpelled Q) es
   entries_more [] h = tt
   entries_more (e ∷ es) h = (entry_more e h.0, entries_more es h.1)

@@ -17,7 +17,7 @@ use Rattle.te_history.specs.declared.entry.Entry.{Entry}
 use Rattle.te_history.specs.declared.entry.Entry.TheVariants as entries
 use Rattle.te_history.specs.State.{State, parked, state}
 use Rattle.te_history.specs.Follows.{Stands, AreEvents, IsLoose, IsLegal}
-use Rattle.te_history.specs.Givings.{names, item_if, given_among, given_by, givings}
+use Rattle.te_history.specs.Givings.{names, item_if, given_among, givings_of, givings}
 use Rattle.te_history.proofs.AfterEntry.{length-state}
 use Rattle.te_history.proofs.GivenOnce.{none_yet}
 use Rattle.te_history.proofs.Growing.{legal_is_loose}
@@ -84,10 +84,10 @@ giving_some : (h : List Entry) (place by : ℕ) (cert : Cert) (outcomes : List O
 giving_some [] place by cert outcomes i m is there = absurd cc
 giving_some (e ∷ es) zero by cert outcomes i m is there =
     let same : entries.Commit by cert outcomes ≡ e = cc in
-    subst (λ (x : Entry). given_by m.thread m.ticket x ++ givings m.thread m.ticket es ≢ []) same
+    subst (λ (x : Entry). givings_of m.thread m.ticket x ++ givings m.thread m.ticket es ≢ []) same
     (front_some (given_among m.thread m.ticket cert.members outcomes) (givings m.thread m.ticket es) (among_some cert.members outcomes i m there))
 giving_some (e ∷ es) (suc place) by cert outcomes i m is there =
-    back_some (given_by m.thread m.ticket e) (givings m.thread m.ticket es) (giving_some es place by cert outcomes i m is there)
+    back_some (givings_of m.thread m.ticket e) (givings m.thread m.ticket es) (giving_some es place by cert outcomes i m is there)
 
 get_take : {A : Type 0} (xs : List A) (n i : ℕ) (x : A) → i < n → slice_get xs i ≡ Some x → slice_get (take n xs) i ≡ Some x
 get_take [] n i x lt is = absurd cc

@@ -20,12 +20,12 @@ use Rattle.te_history.proofs.GivenOnce.{ticket_below}
 use Rattle.te_history.proofs.Growing.{legal_is_loose}
 use Rattle.te_history.proofs.Places.{all_by_places, by_place}
 use Rattle.te_report.specs.OfScript.{taken, WishedBy, WishedFrom, IsOfScript}
-use Rattle.te_report.specs.Fitting.{EntryFits}
+use Rattle.te_report.specs.Fitting.{EntryIsSpelled}
 use Rattle.te_report.proofs.Growing.{grows_wished, AtPlace, at_place}
 use Rattle.te_report.proofs.FittingHas.{entry_has}
 use Rattle.te_report.proofs.ChannelsStepped.{Makes}
 use Rattle.te_report.proofs.ChannelsOfScript.{StandingHas, SoFar, MembersMake, goes_on, first}
-use Rattle.te_serial.specs.FreshChannels.{HasMemberAt, IsMadeBy, AreMade}
+use Rattle.te_serial.specs.FreshChannels.{HasMemberAt, IsMadeByMember, ChannelsAreMade}
 use Rattle.te_serial.proofs.ChannelsMore.{term_more, outcome_more, outcomes_more, entry_more, entries_more}
 use Rattle.te_serial.proofs.GroupsGiven.{last_there}
 use Rattle.te_serial.proofs.TakesSoFar.{get_grown}
@@ -115,7 +115,7 @@ module _ (channels : ℕ) (threads : List Thread) (each : AllByRecursion (IsThre
 
   record Holds (h : List Entry) : Type 0 where
     so : So h h
-    places : (place : ℕ) (e : Entry) → slice_get h place ≡ Some e → EntryFits (Known (take (suc place) h)) e
+    places : (place : ℕ) (e : Entry) → slice_get h place ≡ Some e → EntryIsSpelled (Known (take (suc place) h)) e
 
   holds_next : (h : List Entry) (e : Entry) → LooselyFollows (length threads) h e → WishedBy (slice_get threads (caller_of e)) (taken (caller_of e) h) e → Holds h → Holds (h ++ e ∷ [])
   holds_next h e follows w holds = record { so = next; places = λ place x is. at place x is (cases_lt place (length h)) }
@@ -123,13 +123,13 @@ module _ (channels : ℕ) (threads : List Thread) (each : AllByRecursion (IsThre
       next : So (h ++ e ∷ []) (h ++ e ∷ [])
       next = goes_on (Known (h ++ e ∷ [])) channels threads (low (h ++ e ∷ [])) each h e follows w (so_more h (e ∷ []) holds.so) (makes h e)
 
-      at : (place : ℕ) (x : Entry) → slice_get (h ++ e ∷ []) place ≡ Some x → (place < length h) ⊎ (length h ≤ place) → EntryFits (Known (take (suc place) (h ++ e ∷ []))) x
+      at : (place : ℕ) (x : Entry) → slice_get (h ++ e ∷ []) place ≡ Some x → (place < length h) ⊎ (length h ≤ place) → EntryIsSpelled (Known (take (suc place) (h ++ e ∷ []))) x
       at place x is (inl lt) =
           let was = holds.places place x (sym (get_front h (e ∷ []) place lt) ∙ is) in
-          subst (λ (k : List Entry). EntryFits (Known k) x) (sym (take_front h (e ∷ []) (suc place) (omega arith))) was
+          subst (λ (k : List Entry). EntryIsSpelled (Known k) x) (sym (take_front h (e ∷ []) (suc place) (omega arith))) was
       at place x is (inr le) =
           let whole = take-past (h ++ e ∷ []) (suc place) (let n = length-append h (e ∷ []) in omega arith) in
-          subst (λ (k : List Entry). EntryFits (Known k) x) (sym whole) (by_place (EntryFits (Known (h ++ e ∷ []))) (h ++ e ∷ []) place x next.entries_so is)
+          subst (λ (k : List Entry). EntryIsSpelled (Known k) x) (sym whole) (by_place (EntryIsSpelled (Known (h ++ e ∷ []))) (h ++ e ∷ []) place x next.entries_so is)
 
   holds_all : (history : List Entry) → IsLoose (length threads) history → WishedFrom threads [] history → Holds history
   holds_all history loose wished =
@@ -149,16 +149,16 @@ member_low callers h (x ∷ xs) (g ∷ gs) zero m loose events is =
     subst (λ (y : Member). (y.thread < callers) × (y.ticket < length h)) same (within, below)
 member_low callers h (x ∷ xs) (g ∷ gs) (suc i) m loose events is = member_low callers h xs gs i m loose events.2 is
 
-pub are_made : (script : Program) (history : List Entry) → IsProgram script → IsLegal (length script.threads) history → IsOfScript script history → length history ≤ 200000 → AreMade history
+pub are_made : (script : Program) (history : List Entry) → IsProgram script → IsLegal (length script.threads) history → IsOfScript script history → length history ≤ 200000 → ChannelsAreMade history
 are_made script history is legal wished short = λ place e at.
-    entry_has (λ c. 2 ^ 30 ≤ c → IsMadeBy history place c) e
-    (entry_more (Known (length script.channels) script.threads is.each (take (suc place) history)) (λ c. 2 ^ 30 ≤ c → IsMadeBy history place c) (by_channel place) e
+    entry_has (λ c. 2 ^ 30 ≤ c → IsMadeByMember history place c) e
+    (entry_more (Known (length script.channels) script.threads is.each (take (suc place) history)) (λ c. 2 ^ 30 ≤ c → IsMadeByMember history place c) (by_channel place) e
     ((holds_all (length script.channels) script.threads is.each history loose wished).places place e at))
   where
     loose : IsLoose (length script.threads) history
     loose = legal_is_loose (length script.threads) history legal
 
-    by_channel : (place c : ℕ) → Known (length script.channels) script.threads is.each (take (suc place) history) c → 2 ^ 30 ≤ c → IsMadeBy history place c
+    by_channel : (place c : ℕ) → Known (length script.channels) script.threads is.each (take (suc place) history) c → 2 ^ 30 ≤ c → IsMadeByMember history place c
     by_channel place c (inl lt) high = let few = is.channels in absurd (omega arith)
     by_channel place c (inr made) high =
         let found = get_taken history (suc place) made.at (entries.Commit made.has.0 made.has.1 made.has.2) made.has.4 in

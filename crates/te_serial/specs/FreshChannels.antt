@@ -22,7 +22,7 @@ HasMemberAt history place m =
     (by : ℕ) × (cert : Cert) × (outcomes : List Outcome) × (i : ℕ) × (slice_get history place ≡ Some (entries.Commit by cert outcomes)) × (slice_get cert.members i ≡ Some m)
 
 -- the channel is a fresh one of a member of a commit at or before the place: the number names its thread and its ticket
-pub record IsMadeBy (history : List Entry) (place c : ℕ) : Type 0 where
+pub record IsMadeByMember (history : List Entry) (place c : ℕ) : Type 0 where
   pub at : ℕ
   pub early : at ≤ place
   pub member : Member
@@ -34,8 +34,8 @@ pub record IsMadeBy (history : List Entry) (place c : ℕ) : Type 0 where
   pub number : c ≡ fresh_channel member.thread member.ticket count
 
 -- each fresh channel in an entry is so; fresh channels are numbered from 2^30 on
-abbrev pub AreMade : List Entry → Type 0
-AreMade history = (place : ℕ) (e : Entry) → slice_get history place ≡ Some e → EntryHas (λ c. 2 ^ 30 ≤ c → IsMadeBy history place c) e
+abbrev pub ChannelsAreMade : List Entry → Type 0
+ChannelsAreMade history = (place : ℕ) (e : Entry) → slice_get history place ≡ Some e → EntryHas (λ c. 2 ^ 30 ≤ c → IsMadeByMember history place c) e
 
 -- ---- the steps that make channels
 

@@ -187,8 +187,8 @@ pub record HasEndedAll (old new : BoardLog) : Type 0 where
   pub whole : IsWhole new.callers new.entries
 
 -- either all have ended, or another round can be run
-abbrev pub GoesOn : BoardLog → Type 0
-GoesOn board = IsWhole board.callers board.entries ⊎ IsRunning (state_of board) × NoneGiven (state_of board)
+abbrev pub RunGoesOn : BoardLog → Type 0
+RunGoesOn board = IsWhole board.callers board.entries ⊎ IsRunning (state_of board) × NoneGiven (state_of board)
 
 -- the board is stuck and all have ended where that is due, else nothing is done
 pub record HasClosed (old new : BoardLog) : Type 0 where

@@ -5,7 +5,7 @@ ghost use Rattle.te_terms.specs.Limits.{most_threads};
 ghost use Rattle.te_terms.specs.Terms.{Term};
 ghost use Rattle.te_history.specs.declared.entry.Entry.TheVariants as entries;
 ghost use Rattle.te_history.specs.State.{idle, parked};
-ghost use Rattle.te_history.specs.Follows.{IsRunning, Stands, Ends};
+ghost use Rattle.te_history.specs.Follows.{IsRunning, Stands, MayEndAs};
 ghost use Rattle.te_board.specs.Boards.{state_of};
 ghost use Rattle.te_search.specs.Findings.{HasThread, put_in};
 ghost use Rattle.te_serial.specs.Houses.{IsHouse, Continues, grown, texts_of};
@@ -38,7 +38,7 @@ pub(crate) fn keep(board: &Board, kept: &mut KeptSearch, t: u32) -> Result<(), N
 
 // The caller ends.
 pub(crate) fn end(board: &mut Board, by: u32, how: How)
-    requires ends { Ends (state_of board.old) by how }
+    requires ends { MayEndAs (state_of board.old) by how }
     requires caller { by < board.old.callers }
     ensures { board.new ≡ grown board.old (entries.End by how ∷ []) }
 {

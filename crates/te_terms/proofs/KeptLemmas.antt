@@ -15,7 +15,7 @@ use Rattle.te_terms.specs.Codes.{term_under}
 use Rattle.te_terms.specs.Measures.{height, choice_count, send_count, receive_count, node_count, fresh_count}
 use Rattle.te_terms.specs.Limits.{most_nodes, greatest_height, most_fresh}
 use Rattle.te_terms.specs.Shape.{children, times_in, times_named, one_if_fresh, fresh_nodes, NamesEarlier, IsForest, HasFreeChildren, term_over}
-use Rattle.te_terms.specs.Kept.{Tells, TellsNew, IsLow, own_weighing, IsKept, IsFree, open_count, nodes_of, fresh_of, as_child, adopted}
+use Rattle.te_terms.specs.Kept.{MarkTells, TellsNew, IsLow, own_weighing, IsKept, IsFree, open_count, nodes_under, fresh_of, as_child, adopted}
 use Rattle.te_terms.proofs.TermLemmas.{IsEarlier, slice_get_front, slice_get_seam, term_at-append, term_at_new}
 use Rattle.te_terms.proofs.ChildLemmas.{times_named_push, no_or_two_children, two_differ, first_free, second_free}
 use Rattle.te_terms.proofs.AdoptLemmas.{length-adopted, kept-adopted, is_child-adopted, open_two_less, adopted_front}
@@ -193,12 +193,12 @@ open_more code marks node mark fresh of size own same kept free new sized leaf t
     ]
 
 more_nodes : (code : List Node) (marks : List Mark) (node : Node) (mark : Mark) (fresh : ℕ) → IsKept code marks fresh → HasFreeChildren code node → TellsNew code node mark →
-    sum_by (open_count nodes_of) (adopted (children node) (marks ++ mark ∷ [])) ≡ length code + 1
+    sum_by (open_count nodes_under) (adopted (children node) (marks ++ mark ∷ [])) ≡ length code + 1
 more_nodes code marks node mark fresh kept free new =
     omega (
       arith,
       kept.all_nodes,
-      open_more code marks node mark fresh nodes_of node_count 1 (λ m. refl) kept free new.no_parent (λ i d h. (kept.tells i d h).nodes_are)
+      open_more code marks node mark fresh nodes_under node_count 1 (λ m. refl) kept free new.no_parent (λ i d h. (kept.tells i d h).nodes_are)
           (λ none. new.nodes_are ∙ (leaf_sizes code node none).nodes_are) (λ a b is. new.nodes_are ∙ (two_sizes code node a b is).nodes_are),
     )
 
@@ -224,7 +224,7 @@ kept_more code marks fresh node mark kept free fits new =
     let nodes = more_nodes code marks node mark fresh kept free new in
     let news = more_fresh code marks node mark fresh kept free new in
     let earlier : AllByRecursion (λ c. c < length marks) (children node) = below_from (length marks) (children node) (λ c some. omega (arith, (free c some).0, kept.as_many)) in
-    let few : node_count (term_over code node) ≤ length code + 1 = omega (arith, nodes, new.nodes_are, counted_whole nodes_of (children node) marks mark (λ m. refl) earlier new.no_parent) in
+    let few : node_count (term_over code node) ≤ length code + 1 = omega (arith, nodes, new.nodes_are, counted_whole nodes_under (children node) marks mark (λ m. refl) earlier new.no_parent) in
     let few_news : fresh_count (term_over code node) ≤ fresh_nodes code + one_if_fresh node =
     omega (arith, news, new.fresh_are, counted_whole fresh_of (children node) marks mark (λ m. refl) earlier new.no_parent) in
     record {
@@ -254,7 +254,7 @@ kept_more code marks fresh node mark kept free fits new =
 
 -- ---- one mark
 
-pub low_mark : (code : List Node) (i : ℕ) (mark : Mark) → IsForest code → i < length code → Tells code i mark → IsLow mark
+pub low_mark : (code : List Node) (i : ℕ) (mark : Mark) → IsForest code → i < length code → MarkTells code i mark → IsLow mark
 low_mark code i mark forest h tells = record {
   few = omega (arith, tells.nodes_are, forest.few_under i h, forest.few);
   few_choices = omega (arith, tells.choices_are, weights_are_nodes 1 0 0 (omega arith) (omega arith) (omega arith) (term_under code i), forest.few_under i h, forest.few);
@@ -264,7 +264,7 @@ low_mark code i mark forest h tells = record {
   few_fresh = omega (arith, tells.fresh_are, forest.fresh_under i h, forest.few_fresh);
 }
 
-pub new_over : (code : List Node) (node : Node) (a b : ℕ) (first second : Mark) (choices sends receives news top : ℕ) → children node ≡ a ∷ b ∷ [] → Tells code a first → Tells code b second →
+pub new_over : (code : List Node) (node : Node) (a b : ℕ) (first second : Mark) (choices sends receives news top : ℕ) → children node ≡ a ∷ b ∷ [] → MarkTells code a first → MarkTells code b second →
     choices ≡ own_weighing 1 0 0 node → sends ≡ own_weighing 0 1 0 node → receives ≡ own_weighing 0 0 1 node → news ≡ one_if_fresh node → top ≡ max first.height second.height →
     TellsNew code node (record {
       nodes = 1 + (first.nodes + second.nodes);

@@ -9,7 +9,7 @@ use Rattle.te_terms.specs.Expressions.{Primitive, Expression, value_of, channel_
 use Rattle.te_terms.specs.Terms.{Term, always, never, fresh, throw, send, recv, and_then, choose, catch, when}
 use Rattle.te_terms.specs.Steps.{Member, at_term, IsSettled, quiet_step, outcome_of, given_by, raised_by, thrown, send_trap, recv_trap, goes_on, is_caught, head, with_head}
 use Rattle.te_terms.specs.Joint.{chosen_from, after_choice, Message, message, channel_at, sent_from, received_on, sending, receiving}
-use Rattle.te_terms.specs.Settling.{Stands, at_end, at_choice, at_send, at_receive, at_never}
+use Rattle.te_terms.specs.Settling.{TermStands, at_end, at_choice, at_send, at_receive, at_never}
 
 -- no quiet step and no ending
 abbrev pub Rests : Member → Term → Type 0
@@ -149,14 +149,14 @@ caught_rests to (Some (Raises v)) step n f p = absurd cc
 caught_rests to None (Some e) n f p = absurd cc
 
 -- a term whose head is that of its first part, which isn't final
-outer : (e t : Term) → head t ≡ head e → outcome_of e ≡ None → Stands e → Stands t
+outer : (e t : Term) → head t ≡ head e → outcome_of e ≡ None → TermStands e → TermStands t
 outer e t h not_so (at_end _ o p) = let both : None ≡ Some o = sym not_so ∙ p in absurd cc
 outer e t h not_so (at_choice _ a b p) = at_choice t a b (h ∙ p)
 outer e t h not_so (at_send _ s p) = at_send t s (ap sent_from h ∙ p)
 outer e t h not_so (at_receive _ c p) = at_receive t c (ap received_on h ∙ p)
 outer e t h not_so (at_never _ p) = at_never t (h ∙ p)
 
-pub stands : (m : Member) (t : Term) → IsSettled (at_term m t) → Stands t
+pub stands : (m : Member) (t : Term) → IsSettled (at_term m t) → TermStands t
 stands m (always e) p = let value = ended (at_term m) (value_of e) p in at_end (always e) (Gives value.0) (ap given_by value.1)
 stands m never p = at_never never refl
 stands m fresh p = absurd cc

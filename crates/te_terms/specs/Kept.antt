@@ -12,7 +12,7 @@ use Rattle.te_terms.specs.Limits.{most_nodes, greatest_height, most_fresh}
 use Rattle.te_terms.specs.Shape.{times_named, fresh_nodes, IsForest, term_over}
 
 -- the mark of node i
-pub record Tells (code : List Node) (i : ℕ) (mark : Mark) : Type 0 where
+pub record MarkTells (code : List Node) (i : ℕ) (mark : Mark) : Type 0 where
   pub nodes_are : mark.nodes ≡ node_count (term_under code i)
   pub choices_are : mark.choices ≡ choice_count (term_under code i)
   pub sends_are : mark.sends ≡ send_count (term_under code i)
@@ -25,8 +25,8 @@ pub record Tells (code : List Node) (i : ℕ) (mark : Mark) : Type 0 where
 abbrev pub open_count : (Mark → ℕ) → Mark → ℕ
 open_count of m = cond m.is_child 0 (of m)
 
-abbrev pub nodes_of : Mark → ℕ
-nodes_of m = m.nodes
+abbrev pub nodes_under : Mark → ℕ
+nodes_under m = m.nodes
 
 abbrev pub fresh_of : Mark → ℕ
 fresh_of m = m.fresh
@@ -34,8 +34,8 @@ fresh_of m = m.fresh
 pub record IsKept (code : List Node) (marks : List Mark) (fresh : ℕ) : Type 0 where
   pub forest : IsForest code
   pub as_many : length marks ≡ length code
-  pub tells : (i : ℕ) (other : Mark) → i < length code → Tells code i (slice_index_or marks i other)
-  pub all_nodes : sum_by (open_count nodes_of) marks ≡ length code
+  pub tells : (i : ℕ) (other : Mark) → i < length code → MarkTells code i (slice_index_or marks i other)
+  pub all_nodes : sum_by (open_count nodes_under) marks ≡ length code
   pub all_fresh : sum_by (open_count fresh_of) marks ≡ fresh_nodes code
   pub fresh_are : fresh ≡ fresh_nodes code
 

@@ -49,12 +49,12 @@ catch_settled None n h m = under_catch n h m
 
 -- ---- where a settled term stands
 
-pub data Stands : Term → Type 0 where
-  at_end : (t : Term) (o : Outcome) → outcome_of t ≡ Some o → Stands t
-  at_choice : (t e f : Term) → head t ≡ choose e f → Stands t
-  at_send : (t : Term) (s : Message) → sending t ≡ Some s → Stands t
-  at_receive : (t : Term) (channel : ℕ) → receiving t ≡ Some channel → Stands t
-  at_never : (t : Term) → head t ≡ never → Stands t
+pub data TermStands : Term → Type 0 where
+  at_end : (t : Term) (o : Outcome) → outcome_of t ≡ Some o → TermStands t
+  at_choice : (t e f : Term) → head t ≡ choose e f → TermStands t
+  at_send : (t : Term) (s : Message) → sending t ≡ Some s → TermStands t
+  at_receive : (t : Term) (channel : ℕ) → receiving t ≡ Some channel → TermStands t
+  at_never : (t : Term) → head t ≡ never → TermStands t
 
 -- ---- doing one thing
 

@@ -8,7 +8,7 @@ ghost use Rattle.te_terms.specs.Measures.{height, counts_of};
 ghost use Rattle.te_terms.specs.Limits.{most_nodes, greatest_height, most_fresh, IsWithinLimits};
 ghost use Rattle.te_terms.specs.Shape.{children, times_named, one_if_fresh, fresh_nodes, NamesEarlier, IsForest, HasFreeChildren, term_over};
 ghost use Rattle.te_terms.specs.Views.{node_seen, IsShortNode};
-ghost use Rattle.te_terms.specs.Kept.{Tells, TellsNew, IsLow, IsKept, IsFree, listed, own_weighing, adopted};
+ghost use Rattle.te_terms.specs.Kept.{MarkTells, TellsNew, IsLow, IsKept, IsFree, listed, own_weighing, adopted};
 
 use crate::expr::{Calc, Cond, Expr, Operand};
 use crate::lent::NodeView;
@@ -258,7 +258,7 @@ impl EventCode {
 
     fn mark(&self, i: u32) -> Mark
         requires { i < length self.now }
-        ensures tells { Tells self.now i result }
+        ensures tells { MarkTells self.now i result }
         ensures low { IsLow result }
     {
         self.marks[i as usize]

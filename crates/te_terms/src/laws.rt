@@ -8,7 +8,7 @@ ghost use Rattle.te_terms.specs.Terms.{Term, never, and_then, catch, replaced, c
 ghost use Rattle.te_terms.specs.Measures.{fresh_count};
 ghost use Rattle.te_terms.specs.Steps.{Member, quiet_step, IsSettled, giving, under_then, under_catch, outcome_of, head, with_head};
 ghost use Rattle.te_terms.specs.Joint.{Message, after_choice, sending, receiving};
-ghost use Rattle.te_terms.specs.Settling.{Falls, steps_most, Quietly, settled, Stands, CannotChoose, IsOpen, then_settled, catch_settled};
+ghost use Rattle.te_terms.specs.Settling.{Falls, steps_most, Quietly, settled, TermStands, CannotChoose, IsOpen, then_settled, catch_settled};
 
 /// Quiet steps end: each leaves fewer nodes, or as many nodes and one more final one. A member has at
 /// most one, since `quiet_step` is a function.
@@ -55,7 +55,7 @@ pub fn members_do_one_thing()
 
 /// A settled member is final, or stands at a choice, a send, a receive or never.
 pub fn settled_members_stand()
-    ensures { (m : Member) → IsSettled m → Stands m.term }
+    ensures { (m : Member) → IsSettled m → TermStands m.term }
 {}
 
 /// A step of the first part of `then` or `catch` is one of the whole, in its place, and the whole settles

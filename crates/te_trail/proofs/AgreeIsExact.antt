@@ -6,7 +6,7 @@ use Rattle.te_terms.specs.Settling.{settled}
 use Rattle.te_terms.specs.Joint.{Label, choice, meeting, labels, member_of}
 use Rattle.te_trail.specs.Paths.{Path, planted, branched, sent, got, thread_of, depth_of, own_labels, IsAbove, OnOneLine, move_of, RestsOn}
 use Rattle.te_trail.specs.Clocks.{deeper, clock_of, Passes, Agree, IsSound}
-use Rattle.te_trail.specs.States.{chosen, met, Ends, state_of, HasState}
+use Rattle.te_trail.specs.States.{chosen, members_met, MovedEnds, path_state, HasState}
 use Rattle.te_trail.specs.Stores.{Holds, IsNext, with_move, with_moves, AreMade, IsStore, labels_of_move, labels_of, same_side, same_path, rests_on, any_rests_on, trail_of, joint_trail}
 use Rattle.te_trail.specs.Views.{Chain, touches, view_of, Begins, HasPast, LeavesAt, ChainOfBoth}
 use Rattle.te_trail.proofs.Lines.{above_self, above_depth, above_thread, above_trans, above_same, above_both, above_line, line_flip, line_depth, ancestor, rests_move, rests_trans, above_rests, rests_made}
@@ -107,8 +107,8 @@ agree_together g store good p q hp hq a =
     let tp : Holds (with_moves [] store) (move_of p) = grown_has store [] p good.made hp in
     let tq : Holds (with_moves [] store) (move_of q) = grown_has store [] q good.made hq in
     let c : PastsAre g store (p ∷ q ∷ []) = one_chain g store (p ∷ q ∷ []) good.made team (λ x h. elim h [ inl e ↦ subst (λ z. Holds (with_moves [] store) (move_of z)) (sym e) tp | inr k ↦ elim k [ inl e ↦ subst (λ z. Holds (with_moves [] store) (move_of z)) (sym e) tq | inr n ↦ absurd n ] ]) in
-    let lp : (member_of (thread_of p) c.chain.end ≡ state_of g p) × (view_of (thread_of p) (joint_trail store (p ∷ q ∷ [])) ≡ own_labels p) = c.leaves p (true_pasts (p ∷ q ∷ []) p (move_of p) (inl refl) (rests_move p)) (λ z hz tz. team_low g (p ∷ q ∷ []) team p (inl refl) z hz tz) in
-    let lq : (member_of (thread_of q) c.chain.end ≡ state_of g q) × (view_of (thread_of q) (joint_trail store (p ∷ q ∷ [])) ≡ own_labels q) = c.leaves q (true_pasts (p ∷ q ∷ []) q (move_of q) (inr (inl refl)) (rests_move q)) (λ z hz tz. team_low g (p ∷ q ∷ []) team q (inr (inl refl)) z hz tz) in
+    let lp : (member_of (thread_of p) c.chain.end ≡ path_state g p) × (view_of (thread_of p) (joint_trail store (p ∷ q ∷ [])) ≡ own_labels p) = c.leaves p (true_pasts (p ∷ q ∷ []) p (move_of p) (inl refl) (rests_move p)) (λ z hz tz. team_low g (p ∷ q ∷ []) team p (inl refl) z hz tz) in
+    let lq : (member_of (thread_of q) c.chain.end ≡ path_state g q) × (view_of (thread_of q) (joint_trail store (p ∷ q ∷ [])) ≡ own_labels q) = c.leaves q (true_pasts (p ∷ q ∷ []) q (move_of q) (inr (inl refl)) (rests_move q)) (λ z hz tz. team_low g (p ∷ q ∷ []) team q (inr (inl refl)) z hz tz) in
     record {
       word = joint_trail store (p ∷ q ∷ []);
       chain = c.chain;
@@ -208,9 +208,9 @@ names_apart g store good p q hp hq e same =
     (sym (own_trail g store p good.made sp fp tp) ∙ same (thread_of p) ∙ ap (λ n. view_of n (trail_of store q)) e ∙ own_trail g store q good.made sq fq tq)
 
 -- a path's trail is a chain that leaves its thread at its state
-pub path_played : (g : List Member) (store : List Path) → IsStore g store → (p : Path) → Holds store p → (chain : Chain g (trail_of store p)) × (member_of (thread_of p) chain.end ≡ state_of g p)
+pub path_played : (g : List Member) (store : List Path) → IsStore g store → (p : Path) → Holds store p → (chain : Chain g (trail_of store p)) × (member_of (thread_of p) chain.end ≡ path_state g p)
 path_played g store good p hp =
     let there : Holds (with_moves [] store) (move_of p) = grown_has store [] p good.made hp in
     let c : PastsAre g store (p ∷ []) = alone g store p good.made (good.sound p hp) (good.state p hp) there in
-    let left : (member_of (thread_of p) c.chain.end ≡ state_of g p) × (view_of (thread_of p) (joint_trail store (p ∷ [])) ≡ own_labels p) = c.leaves p (true_pasts (p ∷ []) p (move_of p) (inl refl) (rests_move p)) (λ z hz tz. team_low g (p ∷ []) (one_team g p (good.sound p hp) (good.state p hp)) p (inl refl) z hz tz) in
+    let left : (member_of (thread_of p) c.chain.end ≡ path_state g p) × (view_of (thread_of p) (joint_trail store (p ∷ [])) ≡ own_labels p) = c.leaves p (true_pasts (p ∷ []) p (move_of p) (inl refl) (rests_move p)) (λ z hz tz. team_low g (p ∷ []) (one_team g p (good.sound p hp) (good.state p hp)) p (inl refl) z hz tz) in
     (record { actions = c.chain.actions; end = c.chain.end; reaches = c.chain.reaches; labels_are = c.chain.labels_are ∙ trail_alone store p }, left.0)

@@ -10,9 +10,9 @@ use Rattle.te_trail.specs.declared.store.Last.{Last}
 use Rattle.te_trail.specs.declared.store.Last.TheVariants.{Root, Left, Right, Sender, Receiver}
 use Rattle.te_trail.specs.Paths.{Path, planted, branched, sent, got, thread_of, depth_of, parent_of, IsAbove, OnOneLine}
 use Rattle.te_trail.specs.Clocks.{deeper, clock_of, Agree, IsSound}
-use Rattle.te_trail.specs.Ticks.{named, between, ticks_of, IsWithin, AreBeyond, AreRising, later, beside, merged, marked, Joins, Raises}
-use Rattle.te_trail.specs.Trails.{TellsWhether, IsThread, ClockAt, IsClock}
-use Rattle.te_trail.specs.Walks.{TellsParent, FitAt, AllFit, FittingFor, Misfit, AreLow, TellsFit}
+use Rattle.te_trail.specs.Ticks.{named, between, ticks_of, StretchIsWithin, AreBeyond, AreRising, later, beside, merged, marked, Joins, Raises}
+use Rattle.te_trail.specs.Trails.{TellsWhether, IsPathThread, ClockAt, IsClock}
+use Rattle.te_trail.specs.Walks.{TellsParent, FitAt, AllFit, FittingFor, Misfit, TicksAreLow, TellsFit}
 use Rattle.te_trail.specs.Records.{path_at, last_of, other_end, path_by, mate_of, paths_from, paths_of, is_sender, EndsAfter, EndsWhole, parent_number, HasParent, Fits, FitsAll}
 use Rattle.te_trail.proofs.Lines.{above_self, above_depth, above_thread, above_trans, above_same, above_both, above_line, line_flip, line_depth, ancestor, rests_move, rests_trans, above_rests, rests_made}
 use Rattle.te_trail.proofs.ClockLaws.{eq_same, eq_apart, differ, deeper_left, deeper_right, deeper_either, clock_thread, clock_in, clock_self, Agrees, agrees_by, agree_by, made_planted, made_branched, made_met, clock_top, past_line, agree_line}
@@ -170,7 +170,7 @@ agree_to paths x y ks js cx cy ag t m n e f a b ea eb = ((λ w. make), (λ w. re
 pub record IsKnown (records : List PathRecord) (ticks : List Tick) (paths : List Path) (p : ℕ) (n : PathRecord) : Type 0 where
   pub clocked : (x : Path) → slice_get paths p ≡ Some x → IsClocked paths x (ticks_of ticks n.clock)
   pub thread : (x : Path) → slice_get paths p ≡ Some x → thread_of x ≡ n.thread
-  pub within : IsWithin ticks n.clock
+  pub within : StretchIsWithin ticks n.clock
   pub rising : AreRising (ticks_of ticks n.clock)
   pub named_low : (t m : ℕ) → named t (ticks_of ticks n.clock) ≡ Some m → m < length paths
 
@@ -197,7 +197,7 @@ known records ticks paths kept view p n h e = subst (λ q. IsKnown records ticks
     low (z ∷ xs) zero y e = omega arith
     low (z ∷ xs) (suc k) y e = omega (arith, low xs k y e)
 
-pub agree_same : (paths : List Path) (p q s t : ℕ) → IsThread paths p s → IsThread paths q t → s ≡ t → TellsWhether paths p q Agrees false
+pub agree_same : (paths : List Path) (p q s t : ℕ) → IsPathThread paths p s → IsPathThread paths q t → s ≡ t → TellsWhether paths p q Agrees false
 agree_same paths p q s t hp hq e x y ex ey = ((λ w. absurd (true≢false (sym w))), (λ a. clash a))
   where
     clash : Agrees x y → false ≡ true
@@ -220,7 +220,7 @@ agree_true records ticks paths p q a b ka kb ne all x y ex ey = ((λ w. agree_fr
     off true e = absurd (ne (sym (ka.thread x ex) ∙ eqb-true (thread_of x) (thread_of y) e ∙ kb.thread y ey))
     off false e = e
 
-pub tick_low : (paths : List Path) (ks : List Tick) (i : ℕ) (d : Tick) → AreRising ks → AreLow paths ks → i < length ks → (get_or ks i d).path < length paths
+pub tick_low : (paths : List Path) (ks : List Tick) (i : ℕ) (d : Tick) → AreRising ks → TicksAreLow paths ks → i < length ks → (get_or ks i d).path < length paths
 tick_low paths ks i d r low h = low (get_or ks i d).thread (get_or ks i d).path (named_at ks i d r h)
 
 pub misfit : (paths : List Path) (s r : ℕ) (ks js : List Tick) (i j : ℕ) (d : Tick) → AreRising ks → AreRising js → i < length ks → j < length js → (get_or ks i d).thread ≡ (get_or js j d).thread → (o v b : Bool) → o ≡ nat_eq (get_or ks i d).thread s → v ≡ nat_eq (get_or ks i d).thread r → b ≡ false → TellsWhether paths (get_or ks i d).path (get_or js j d).path (FitAt o v) b → Misfit paths s r ks js

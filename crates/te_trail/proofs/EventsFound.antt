@@ -9,21 +9,21 @@ use Rattle.te_terms.specs.Settling.{settled}
 use Rattle.te_trail.specs.declared.planned.Planned.{Planned}
 use Rattle.te_trail.specs.Paths.{Path, planted, branched, sent, got}
 use Rattle.te_trail.specs.Trails.{Trail, unplanted}
-use Rattle.te_trail.specs.States.{chosen, Ends, met, state_of, HasState}
-use Rattle.te_trail.specs.Records.{origin_at, member_of_event, members_of, AreEvents}
+use Rattle.te_trail.specs.States.{chosen, MovedEnds, members_met, path_state, HasState}
+use Rattle.te_trail.specs.Records.{origin_at, member_of_event, members_of, ArePlannedEvents}
 use Rattle.te_trail.proofs.ClockLaws.{eq_same}
 use Rattle.te_trail.proofs.RecordsRead.{get_old, get_low, get_which, take_get}
 use Rattle.te_trail.proofs.PastsChain.{then_some, parts_of}
 use Rattle.te_trail.proofs.MovesChain.{mapped}
 
-events_rest : (x : Planned) (xs : List Planned) → AreEvents (x ∷ xs) → AreEvents xs
+events_rest : (x : Planned) (xs : List Planned) → ArePlannedEvents (x ∷ xs) → ArePlannedEvents xs
 events_rest x xs are = record {
   rooted = λ i e at. are.rooted (suc i) e at;
   once = λ i j e f ei fj same. (let s : suc i ≡ suc j = are.once (suc i) (suc j) e f ei fj same in cc);
 }
 
 -- an event is found by its thread
-pub event_found : (events : List Planned) → AreEvents events → (i : ℕ) (e : Planned) → slice_get events i ≡ Some e → member_of e.thread (members_of events) ≡ Some (member_of_event e)
+pub event_found : (events : List Planned) → ArePlannedEvents events → (i : ℕ) (e : Planned) → slice_get events i ≡ Some e → member_of e.thread (members_of events) ≡ Some (member_of_event e)
 event_found [] are i e at = cc
 event_found (x ∷ xs) are zero e at = let one : x ≡ e = cc in subst (λ y. member_of e.thread (member_of_event y ∷ members_of xs) ≡ Some (member_of_event e)) (sym one) (rw (eq_same e.thread) refl)
 event_found (x ∷ xs) are (suc i) e at = go (event_found xs (events_rest x xs are) i e at) (nat_eq x.thread e.thread) refl
@@ -42,7 +42,7 @@ event_absent (x ∷ xs) t none i e at same = go (λ n k a. event_absent xs t n k
     go ih zero at false w none = let one : x ≡ e = cc in let z : nat_eq x.thread t ≡ true = eq-eqb x.thread t (ap (λ y. y.thread) one ∙ same) in cc
     go ih (suc i) at false w none = ih none i at
 
-pub events_put : (events : List Planned) (new : Planned) → AreEvents events → new.root < length new.code.value → member_of new.thread (members_of events) ≡ None → AreEvents (events ++ (new ∷ []))
+pub events_put : (events : List Planned) (new : Planned) → ArePlannedEvents events → new.root < length new.code.value → member_of new.thread (members_of events) ≡ None → ArePlannedEvents (events ++ (new ∷ []))
 events_put events new are low none = record {
   rooted = λ i e at. root e i (get_which events (new ∷ []) e i at);
   once = λ i j e f ei fj same. one i j e f same (get_which events (new ∷ []) e i ei) (get_which events (new ∷ []) f j fj);
@@ -76,24 +76,24 @@ member_more (x ∷ g) more t m e = go (member_more g more t m) (nat_eq x.thread 
     go ih false e = ih e
 
 -- a state stays while events are put behind the others
-pub state_more : (g more : List Member) (x : Path) (m : Member) → state_of g x ≡ Some m → state_of (g ++ more) x ≡ Some m
+pub state_more : (g more : List Member) (x : Path) (m : Member) → path_state g x ≡ Some m → path_state (g ++ more) x ≡ Some m
 state_more g more (planted t) m e =
     let a : (n : Member) × (member_of t g ≡ Some n) × (settled n ≡ m) = mapped settled (member_of t g) m e in
     ap (option_map settled) (member_more g more t a.0 a.1) ∙ ap Some a.2
 state_more g more (branched p left) m e =
-    let a : (n : Member) × (state_of g p ≡ Some n) × (option_map settled (chosen left n) ≡ Some m) = then_some (λ n. option_map settled (chosen left n)) (state_of g p) m e in
+    let a : (n : Member) × (path_state g p ≡ Some n) × (option_map settled (chosen left n) ≡ Some m) = then_some (λ n. option_map settled (chosen left n)) (path_state g p) m e in
     ap (option_and_then (λ n. option_map settled (chosen left n))) (state_more g more p a.0 a.1) ∙ a.2
 state_more g more (sent s r) m e =
-    let a : (n : Member) × (state_of g s ≡ Some n) × (option_and_then (λ b. option_map (λ z. settled z.sender) (met n b)) (state_of g r) ≡ Some m) = then_some (λ n. option_and_then (λ b. option_map (λ z. settled z.sender) (met n b)) (state_of g r)) (state_of g s) m e in
-    let b : (n : Member) × (state_of g r ≡ Some n) × (option_map (λ z. settled z.sender) (met a.0 n) ≡ Some m) = then_some (λ n. option_map (λ z. settled z.sender) (met a.0 n)) (state_of g r) m a.2 in
-    let sa : state_of (g ++ more) s ≡ Some a.0 = state_more g more s a.0 a.1 in
-    let rb : state_of (g ++ more) r ≡ Some b.0 = state_more g more r b.0 b.1 in
+    let a : (n : Member) × (path_state g s ≡ Some n) × (option_and_then (λ b. option_map (λ z. settled z.sender) (members_met n b)) (path_state g r) ≡ Some m) = then_some (λ n. option_and_then (λ b. option_map (λ z. settled z.sender) (members_met n b)) (path_state g r)) (path_state g s) m e in
+    let b : (n : Member) × (path_state g r ≡ Some n) × (option_map (λ z. settled z.sender) (members_met a.0 n) ≡ Some m) = then_some (λ n. option_map (λ z. settled z.sender) (members_met a.0 n)) (path_state g r) m a.2 in
+    let sa : path_state (g ++ more) s ≡ Some a.0 = state_more g more s a.0 a.1 in
+    let rb : path_state (g ++ more) r ≡ Some b.0 = state_more g more r b.0 b.1 in
     rw (sa, rb) b.2
 state_more g more (got s r) m e =
-    let a : (n : Member) × (state_of g s ≡ Some n) × (option_and_then (λ b. option_map (λ z. settled z.receiver) (met n b)) (state_of g r) ≡ Some m) = then_some (λ n. option_and_then (λ b. option_map (λ z. settled z.receiver) (met n b)) (state_of g r)) (state_of g s) m e in
-    let b : (n : Member) × (state_of g r ≡ Some n) × (option_map (λ z. settled z.receiver) (met a.0 n) ≡ Some m) = then_some (λ n. option_map (λ z. settled z.receiver) (met a.0 n)) (state_of g r) m a.2 in
-    let sa : state_of (g ++ more) s ≡ Some a.0 = state_more g more s a.0 a.1 in
-    let rb : state_of (g ++ more) r ≡ Some b.0 = state_more g more r b.0 b.1 in
+    let a : (n : Member) × (path_state g s ≡ Some n) × (option_and_then (λ b. option_map (λ z. settled z.receiver) (members_met n b)) (path_state g r) ≡ Some m) = then_some (λ n. option_and_then (λ b. option_map (λ z. settled z.receiver) (members_met n b)) (path_state g r)) (path_state g s) m e in
+    let b : (n : Member) × (path_state g r ≡ Some n) × (option_map (λ z. settled z.receiver) (members_met a.0 n) ≡ Some m) = then_some (λ n. option_map (λ z. settled z.receiver) (members_met a.0 n)) (path_state g r) m a.2 in
+    let sa : path_state (g ++ more) s ≡ Some a.0 = state_more g more s a.0 a.1 in
+    let rb : path_state (g ++ more) r ≡ Some b.0 = state_more g more r b.0 b.1 in
     rw (sa, rb) b.2
 
 -- ---- the events of a list in which threads rise

@@ -7,7 +7,7 @@ use Rattle.te_terms.specs.Steps.{Member, at_term, giving, quiet_step, with_head}
 use Rattle.te_terms.specs.Joint.{Label, choice, meeting, Action, quiet, labelled, Message, after_choice, sending, receiving, member_of, with_member, with_term, handed, meeting_of, joint_step, after, labels}
 use Rattle.te_terms.specs.Settling.{Quietly, here, after_one, settled}
 use Rattle.te_terms.proofs.Settles.{settled_is_reached, quietly_thread, settled_thread}
-use Rattle.te_trail.specs.States.{chosen, Ends, met_by, met}
+use Rattle.te_trail.specs.States.{chosen, MovedEnds, members_met_by, members_met}
 use Rattle.te_trail.specs.Views.{Chain, touches, view_of}
 use Rattle.te_trail.proofs.ClockLaws.{eq_same, eq_apart}
 
@@ -127,7 +127,7 @@ pub record Meets (g : List Member) (i j : ℕ) (u v : Member) : Type 0 where
   pub others : (k : ℕ) → nat_eq k i ≡ false → nat_eq k j ≡ false → member_of k chain.end ≡ member_of k g
 
 -- what the meeting leaves of both
-pub record Handing (a b : Member) (ends : Ends) : Type 0 where
+pub record Handing (a b : Member) (ends : MovedEnds) : Type 0 where
   pub message : Message
   pub channel : ℕ
   pub sends : sending a.term ≡ Some message
@@ -136,10 +136,10 @@ pub record Handing (a b : Member) (ends : Ends) : Type 0 where
   pub sender : ends.sender ≡ at_term a (with_head (giving []) a.term)
   pub receiver : ends.receiver ≡ at_term b (with_head (giving message.value) b.term)
 
-pub handing : (a b : Member) (ends : Ends) → met a b ≡ Some ends → Handing a b ends
+pub handing : (a b : Member) (ends : MovedEnds) → members_met a b ≡ Some ends → Handing a b ends
 handing a b ends e = go (sending a.term) refl (receiving b.term) refl e
   where
-    go : (o : Option Message) → sending a.term ≡ o → (v : Option ℕ) → receiving b.term ≡ v → met_by a b o v ≡ Some ends → Handing a b ends
+    go : (o : Option Message) → sending a.term ≡ o → (v : Option ℕ) → receiving b.term ≡ v → members_met_by a b o v ≡ Some ends → Handing a b ends
     go None w v x e = cc
     go (Some m) w None x e = cc
     go (Some m) w (Some c) x e = fit (nat_eq m.channel c) refl e
@@ -150,7 +150,7 @@ handing a b ends e = go (sending a.term) refl (receiving b.term) refl e
             let is : record { sender = at_term a (with_head (giving []) a.term); receiver = at_term b (with_head (giving m.value) b.term) } ≡ ends = cc in
             record { message = m; channel = c; sends = w; receives = x; same = s; sender = ap (λ z. z.sender) (sym is); receiver = ap (λ z. z.receiver) (sym is) }
 
-pub meets : (g : List Member) (i j : ℕ) (a b : Member) (ends : Ends) → nat_eq i j ≡ false → member_of i g ≡ Some a → member_of j g ≡ Some b → met a b ≡ Some ends → Meets g i j (settled ends.sender) (settled ends.receiver)
+pub meets : (g : List Member) (i j : ℕ) (a b : Member) (ends : MovedEnds) → nat_eq i j ≡ false → member_of i g ≡ Some a → member_of j g ≡ Some b → members_met a b ≡ Some ends → Meets g i j (settled ends.sender) (settled ends.receiver)
 meets g i j a b ends ne e f m =
     let h : Handing a b ends = handing a b ends m in
     let u : Member = ends.sender in

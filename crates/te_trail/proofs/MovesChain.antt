@@ -6,7 +6,7 @@ use Rattle.te_terms.specs.Settling.{settled}
 use Rattle.te_terms.specs.Joint.{Label, choice, meeting, labels, member_of}
 use Rattle.te_trail.specs.Paths.{Path, planted, branched, sent, got, thread_of, depth_of, own_labels, IsAbove, OnOneLine, move_of, RestsOn}
 use Rattle.te_trail.specs.Clocks.{deeper, clock_of, Passes, Agree, IsSound}
-use Rattle.te_trail.specs.States.{chosen, met, Ends, state_of, HasState}
+use Rattle.te_trail.specs.States.{chosen, members_met, MovedEnds, path_state, HasState}
 use Rattle.te_trail.specs.Stores.{Holds, IsNext, with_move, with_moves, AreMade, IsStore, labels_of_move, labels_of, same_side, same_path, rests_on, any_rests_on, trail_of, joint_trail}
 use Rattle.te_trail.specs.Views.{Chain, touches, view_of, Begins, HasPast, LeavesAt, ChainOfBoth}
 use Rattle.te_trail.proofs.Lines.{above_self, above_depth, above_thread, above_trans, above_same, above_both, above_line, line_flip, line_depth, ancestor, rests_move, rests_trans, above_rests, rests_made}
@@ -18,12 +18,12 @@ pub record Together (g : List Member) : Type 0 where
   pub has : Path → Bool
   pub closed : (m k : Path) → IsTrue (has m) → RestsOn k m → IsTrue (has k)
   pub lines : (x y : Path) → IsTrue (has (move_of x)) → IsTrue (has (move_of y)) → thread_of x ≡ thread_of y → OnOneLine x y
-  pub fits : (x : Path) → IsTrue (has (move_of x)) → (e : Member) × (state_of g x ≡ Some e)
+  pub fits : (x : Path) → IsTrue (has (move_of x)) → (e : Member) × (path_state g x ≡ Some e)
   pub sound : (m : Path) → IsTrue (has m) → IsSound m
 
 abbrev pub stands_at : (List Member) → ℕ → Option Path → Option Member
 stands_at g t None = member_of t g
-stands_at g t (Some z) = state_of g z
+stands_at g t (Some z) = path_state g z
 
 abbrev pub owned_by : Option Path → List Label
 owned_by None = []
@@ -90,7 +90,7 @@ at_still g s done h w t at m k l none same quiet = record {
 -- a thread whose path the move makes
 at_moved : (g : List Member) (s : Together g) (done : List Path) (h : List Member) (w : List Label) (t : ℕ) (at : PlaceAt g s done h w t) (n m : Path) (k : List Member) (l : List Label)
     → move_of n ≡ m → thread_of n ≡ t → IsTrue (s.has m) → ((x : Path) → move_of x ≡ m → thread_of x ≡ t → x ≡ n) → ((z : Path) → at.place ≡ Some z → IsAbove z n)
-    → member_of t k ≡ state_of g n → owned_by at.place ++ view_of t l ≡ own_labels n → PlaceAt g s (m ∷ done) k (w ++ l) t
+    → member_of t k ≡ path_state g n → owned_by at.place ++ view_of t l ≡ own_labels n → PlaceAt g s (m ∷ done) k (w ++ l) t
 at_moved g s done h w t at n m k l nm tn sm one below stand told = record {
   place = Some n;
   sits = λ z e. (let same : n ≡ z = cc in subst (λ q. (thread_of q ≡ t) × IsTrue (s.has (move_of q)) × Holds (m ∷ done) (move_of q)) same (tn, subst (λ q. IsTrue (s.has q)) (sym nm) sm, inl nm));
@@ -108,20 +108,20 @@ mapped f None y e = cc
 mapped f (Some x) y e = (x, refl, cc)
 
 -- what the state of a path says of its parents'
-pub state_branched : (g : List Member) (p : Path) (l : Bool) (e v : Member) → state_of g p ≡ Some e → state_of g (branched p l) ≡ Some v → (u : Member) × (chosen l e ≡ Some u) × (settled u ≡ v)
+pub state_branched : (g : List Member) (p : Path) (l : Bool) (e v : Member) → path_state g p ≡ Some e → path_state g (branched p l) ≡ Some v → (u : Member) × (chosen l e ≡ Some u) × (settled u ≡ v)
 state_branched g p l e v at h =
     let there : option_map settled (chosen l e) ≡ Some v = subst (λ o. option_and_then (λ m. option_map settled (chosen l m)) o ≡ Some v) at h in
     mapped settled (chosen l e) v there
 
-pub state_after : (g : List Member) (s r : Path) (a b : Member) (p : Ends) → state_of g s ≡ Some a → state_of g r ≡ Some b → met a b ≡ Some p → (state_of g (sent s r) ≡ Some (settled p.sender)) × (state_of g (got s r) ≡ Some (settled p.receiver))
+pub state_after : (g : List Member) (s r : Path) (a b : Member) (p : MovedEnds) → path_state g s ≡ Some a → path_state g r ≡ Some b → members_met a b ≡ Some p → (path_state g (sent s r) ≡ Some (settled p.sender)) × (path_state g (got s r) ≡ Some (settled p.receiver))
 state_after g s r a b p sa sb m = (rw (sa, sb, m) refl, rw (sa, sb, m) refl)
 
-pub state_met : (g : List Member) (s r : Path) (a b v : Member) → state_of g s ≡ Some a → state_of g r ≡ Some b → state_of g (sent s r) ≡ Some v → (p : Ends) × (met a b ≡ Some p) × (state_of g (sent s r) ≡ Some (settled p.sender)) × (state_of g (got s r) ≡ Some (settled p.receiver))
+pub state_met : (g : List Member) (s r : Path) (a b v : Member) → path_state g s ≡ Some a → path_state g r ≡ Some b → path_state g (sent s r) ≡ Some v → (p : MovedEnds) × (members_met a b ≡ Some p) × (path_state g (sent s r) ≡ Some (settled p.sender)) × (path_state g (got s r) ≡ Some (settled p.receiver))
 state_met g s r a b v sa sb h =
-    let one : option_and_then (λ y. option_map (λ p. settled p.sender) (met a y)) (state_of g r) ≡ Some v = subst (λ o. option_and_then (λ x. option_and_then (λ y. option_map (λ p. settled p.sender) (met x y)) (state_of g r)) o ≡ Some v) sa h in
-    let there : option_map (λ p. settled p.sender) (met a b) ≡ Some v = subst (λ o. option_and_then (λ y. option_map (λ p. settled p.sender) (met a y)) o ≡ Some v) sb one in
-    let m : (p : Ends) × (met a b ≡ Some p) × (settled p.sender ≡ v) = mapped (λ p. settled p.sender) (met a b) v there in
-    let next : (state_of g (sent s r) ≡ Some (settled m.0.sender)) × (state_of g (got s r) ≡ Some (settled m.0.receiver)) = state_after g s r a b m.0 sa sb m.1 in
+    let one : option_and_then (λ y. option_map (λ p. settled p.sender) (members_met a y)) (path_state g r) ≡ Some v = subst (λ o. option_and_then (λ x. option_and_then (λ y. option_map (λ p. settled p.sender) (members_met x y)) (path_state g r)) o ≡ Some v) sa h in
+    let there : option_map (λ p. settled p.sender) (members_met a b) ≡ Some v = subst (λ o. option_and_then (λ y. option_map (λ p. settled p.sender) (members_met a y)) o ≡ Some v) sb one in
+    let m : (p : MovedEnds) × (members_met a b ≡ Some p) × (settled p.sender ≡ v) = mapped (λ p. settled p.sender) (members_met a b) v there in
+    let next : (path_state g (sent s r) ≡ Some (settled m.0.sender)) × (path_state g (got s r) ≡ Some (settled m.0.receiver)) = state_after g s r a b m.0 sa sb m.1 in
     (m.0, m.1, next.0, next.1)
 
 pub view_choice : (i : ℕ) (l : Bool) → view_of i (choice i l ∷ []) ≡ choice i l ∷ []
@@ -153,7 +153,7 @@ left_out g s done h w ats m out = record { chain = no_chain h; ats = λ t. at_st
 plants : (g : List Member) (s : Together g) (done : List Path) (h : List Member) (w : List Label) → AllPlaced g s done h w → AreClosed done → (t : ℕ) → s.has (planted t) ≡ true → (Holds done (planted t) → ⊥) → Goes_on g s (planted t ∷ done) h w []
 plants g s done h w ats shut t inside new =
     let free : (ats t).place ≡ None = place_none g s done h w t (ats t) shut inside new in
-    let fit : (e : Member) × (state_of g (planted t) ≡ Some e) = s.fits (planted t) inside in
+    let fit : (e : Member) × (path_state g (planted t) ≡ Some e) = s.fits (planted t) inside in
     let ev : (x : Member) × (member_of t g ≡ Some x) × (settled x ≡ fit.0) = mapped settled (member_of t g) fit.0 fit.1 in
     let now : member_of t h ≡ Some ev.0 = (ats t).stands ∙ ap (stands_at g t) free ∙ ev.1 in
     let mv : Moves h [] t (settled ev.0) = settles_there h t ev.0 now in
@@ -162,7 +162,7 @@ plants g s done h w ats shut t inside new =
       ats = λ u. go u mv (nat_eq u t) refl free (mv.here ∙ ap Some ev.2 ∙ sym fit.1);
     }
   where
-    go : (u : ℕ) {x : Member} (mv : Moves h [] t x) (o : Bool) → nat_eq u t ≡ o → (ats t).place ≡ None → member_of t mv.chain.end ≡ state_of g (planted t) → PlaceAt g s (planted t ∷ done) mv.chain.end (w ++ []) u
+    go : (u : ℕ) {x : Member} (mv : Moves h [] t x) (o : Bool) → nat_eq u t ≡ o → (ats t).place ≡ None → member_of t mv.chain.end ≡ path_state g (planted t) → PlaceAt g s (planted t ∷ done) mv.chain.end (w ++ []) u
     go u mv true e free here = subst (λ n. PlaceAt g s (planted t ∷ done) mv.chain.end (w ++ []) n) (sym (eqb-true u t e))
         (at_moved g s done h w t (ats t) (planted t) (planted t) mv.chain.end [] refl refl inside (λ x e tx. made_planted x t e) (λ z e. cc) here (rw free refl))
     go u mv false e free here = at_still g s done h w u (ats u) (planted t) mv.chain.end [] (λ x m tx y. unsame u t (sym tx ∙ ap thread_of (made_planted x t m)) e) (mv.others u e) refl
@@ -173,8 +173,8 @@ branches g s done h w ats shut p l inside dp new =
     let n : Path = branched p l in
     let sp : IsTrue (s.has (move_of p)) = s.closed n (move_of p) inside (inr (rests_move p)) in
     let at : (ats (thread_of p)).place ≡ Some p = place_is g s done h w (thread_of p) (ats (thread_of p)) shut n p n refl refl refl (λ z a. a) inside sp dp new in
-    let fp : (e : Member) × (state_of g p ≡ Some e) = s.fits p sp in
-    let fn : (e : Member) × (state_of g n ≡ Some e) = s.fits n inside in
+    let fp : (e : Member) × (path_state g p ≡ Some e) = s.fits p sp in
+    let fn : (e : Member) × (path_state g n ≡ Some e) = s.fits n inside in
     let ch : (u : Member) × (chosen l fp.0 ≡ Some u) × (settled u ≡ fn.0) = state_branched g p l fp.0 fn.0 fp.1 fn.1 in
     let now : member_of (thread_of p) h ≡ Some fp.0 = (ats (thread_of p)).stands ∙ ap (stands_at g (thread_of p)) at ∙ fp.1 in
     let mv : Moves h (choice (thread_of p) l ∷ []) (thread_of p) (settled ch.0) = chooses h (thread_of p) l fp.0 ch.0 now ch.1 in
@@ -183,7 +183,7 @@ branches g s done h w ats shut p l inside dp new =
       ats = λ u. go u mv (nat_eq u (thread_of p)) refl at (mv.here ∙ ap Some ch.2 ∙ sym fn.1);
     }
   where
-    go : (u : ℕ) {x : Member} (mv : Moves h (choice (thread_of p) l ∷ []) (thread_of p) x) (o : Bool) → nat_eq u (thread_of p) ≡ o → (ats (thread_of p)).place ≡ Some p → member_of (thread_of p) mv.chain.end ≡ state_of g (branched p l) → PlaceAt g s (branched p l ∷ done) mv.chain.end (w ++ (choice (thread_of p) l ∷ [])) u
+    go : (u : ℕ) {x : Member} (mv : Moves h (choice (thread_of p) l ∷ []) (thread_of p) x) (o : Bool) → nat_eq u (thread_of p) ≡ o → (ats (thread_of p)).place ≡ Some p → member_of (thread_of p) mv.chain.end ≡ path_state g (branched p l) → PlaceAt g s (branched p l ∷ done) mv.chain.end (w ++ (choice (thread_of p) l ∷ [])) u
     go u mv true e at here = subst (λ n. PlaceAt g s (branched p l ∷ done) mv.chain.end (w ++ (choice (thread_of p) l ∷ [])) n) (sym (eqb-true u (thread_of p) e))
         (at_moved g s done h w (thread_of p) (ats (thread_of p)) (branched p l) (branched p l) mv.chain.end (choice (thread_of p) l ∷ []) refl refl inside (λ x e tx. made_branched x p l e)
         (λ z e. (let one : p ≡ z = cc in inr (subst (λ q. IsAbove q p) one (above_self p)))) here (rw (at, view_choice (thread_of p) l) refl))
@@ -197,10 +197,10 @@ joins g s done h w ats shut a b inside da db new =
     let ne : nat_eq (thread_of a) (thread_of b) ≡ false = differ (s.sound n inside).2 in
     let ata : (ats (thread_of a)).place ≡ Some a = place_is g s done h w (thread_of a) (ats (thread_of a)) shut n a n refl refl refl (λ z x. x) inside sa da new in
     let atb : (ats (thread_of b)).place ≡ Some b = place_is g s done h w (thread_of b) (ats (thread_of b)) shut (got a b) b n refl refl refl (λ z x. x) inside sb db new in
-    let fa : (e : Member) × (state_of g a ≡ Some e) = s.fits a sa in
-    let fb : (e : Member) × (state_of g b ≡ Some e) = s.fits b sb in
-    let fn : (e : Member) × (state_of g n ≡ Some e) = s.fits n inside in
-    let m : (p : Ends) × (met fa.0 fb.0 ≡ Some p) × (state_of g (sent a b) ≡ Some (settled p.sender)) × (state_of g (got a b) ≡ Some (settled p.receiver)) = state_met g a b fa.0 fb.0 fn.0 fa.1 fb.1 fn.1 in
+    let fa : (e : Member) × (path_state g a ≡ Some e) = s.fits a sa in
+    let fb : (e : Member) × (path_state g b ≡ Some e) = s.fits b sb in
+    let fn : (e : Member) × (path_state g n ≡ Some e) = s.fits n inside in
+    let m : (p : MovedEnds) × (members_met fa.0 fb.0 ≡ Some p) × (path_state g (sent a b) ≡ Some (settled p.sender)) × (path_state g (got a b) ≡ Some (settled p.receiver)) = state_met g a b fa.0 fb.0 fn.0 fa.1 fb.1 fn.1 in
     let nowa : member_of (thread_of a) h ≡ Some fa.0 = (ats (thread_of a)).stands ∙ ap (stands_at g (thread_of a)) ata ∙ fa.1 in
     let nowb : member_of (thread_of b) h ≡ Some fb.0 = (ats (thread_of b)).stands ∙ ap (stands_at g (thread_of b)) atb ∙ fb.1 in
     let mv : Meets h (thread_of a) (thread_of b) (settled m.0.sender) (settled m.0.receiver) = meets h (thread_of a) (thread_of b) fa.0 fb.0 m.0 ne nowa nowb m.1 in
@@ -210,7 +210,7 @@ joins g s done h w ats shut a b inside da db new =
     }
   where
     go : (u : ℕ) {x y : Member} (mv : Meets h (thread_of a) (thread_of b) x y) (o : Bool) → nat_eq u (thread_of a) ≡ o → (v : Bool) → nat_eq u (thread_of b) ≡ v → nat_eq (thread_of a) (thread_of b) ≡ false → (ats (thread_of a)).place ≡ Some a → (ats (thread_of b)).place ≡ Some b
-        → member_of (thread_of a) mv.chain.end ≡ state_of g (sent a b) → member_of (thread_of b) mv.chain.end ≡ state_of g (got a b) → PlaceAt g s (sent a b ∷ done) mv.chain.end (w ++ (meeting (thread_of a) (thread_of b) ∷ [])) u
+        → member_of (thread_of a) mv.chain.end ≡ path_state g (sent a b) → member_of (thread_of b) mv.chain.end ≡ path_state g (got a b) → PlaceAt g s (sent a b ∷ done) mv.chain.end (w ++ (meeting (thread_of a) (thread_of b) ∷ [])) u
     go u mv true e v f ne ata atb ha hb = subst (λ n. PlaceAt g s (sent a b ∷ done) mv.chain.end (w ++ (meeting (thread_of a) (thread_of b) ∷ [])) n) (sym (eqb-true u (thread_of a) e))
         (at_moved g s done h w (thread_of a) (ats (thread_of a)) (sent a b) (sent a b) mv.chain.end (meeting (thread_of a) (thread_of b) ∷ []) refl refl inside
         (λ x m tx. elim (made_met x a b m) [ inl same ↦ same | inr same ↦ absurd ((unsame (thread_of a) (thread_of b) (sym tx ∙ ap thread_of same) ne)) ])

@@ -6,9 +6,9 @@ use Rattle.te_terms.specs.Steps.{Member, quiet_step, at_term, giving, with_head}
 use Rattle.te_terms.specs.Joint.{Label, choice, meeting, Action, quiet, labelled, member_of, with_member, joint_step, after, labels, after_choice, with_term, meeting_of, handed, Message, sending, receiving}
 use Rattle.te_trail.specs.Paths.{Path, thread_of, own_labels, IsAbove, move_of, RestsOn}
 use Rattle.te_trail.specs.Clocks.{clock_of, Agree, IsSound}
-use Rattle.te_trail.specs.States.{state_of, HasState}
+use Rattle.te_trail.specs.States.{path_state, HasState}
 use Rattle.te_trail.specs.Stores.{Holds, with_moves, AreMade, IsStore, trail_of, joint_trail, any_rests_on}
-use Rattle.te_trail.specs.Views.{Chain, touches, view_of, HasPast, LeavesAt, Name, name_of, IsPathName}
+use Rattle.te_trail.specs.Views.{Chain, touches, view_of, HasPast, LeavesAt, Name, path_name_of, IsPathName}
 use Rattle.te_trail.specs.Together.{ChainOfAll, AllAgree, AreAmong, NamesDeepest}
 use Rattle.te_trail.proofs.Lines.{rests_move}
 use Rattle.te_trail.proofs.ClockLaws.{eq_same, Agrees, agrees_by, clock_thread, clock_in, clock_top}
@@ -36,7 +36,7 @@ pasts_together g paths ps store among agree = record {
 
     left : (p : Path) → Holds ps p → LeavesAt g (joint_trail paths ps) c.chain.end p
     left p h =
-        let l : (member_of (thread_of p) c.chain.end ≡ state_of g p) × (view_of (thread_of p) (joint_trail paths ps) ≡ own_labels p) = c.leaves p (true_pasts ps p (move_of p) h (rests_move p)) (λ z hz tz. team_low g ps team p h z hz tz) in
+        let l : (member_of (thread_of p) c.chain.end ≡ path_state g p) × (view_of (thread_of p) (joint_trail paths ps) ≡ own_labels p) = c.leaves p (true_pasts ps p (move_of p) h (rests_move p)) (λ z hz tz. team_low g ps team p h z hz tz) in
         record { moves = l.1; member = l.0 }
 
 pub names_deepest : (p : Path) → IsSound p → NamesDeepest p
@@ -53,7 +53,7 @@ known_by_own g paths p q word store hp hq pp pq t o =
     (known_in g paths store.made p (store.sound p hp) (store.state p hp) (grown_has paths [] p store.made hp))
     (known_in g paths store.made q (store.sound q hq) (store.state q hq) (grown_has paths [] q store.made hq)) pp pq t o
 
-pub has_name : (g : List Member) (paths : List Path) (p : Path) (m : Member) → IsStore g paths → Holds paths p → member_of (thread_of p) g ≡ Some m → IsPathName g (name_of g (thread_of p) (trail_of paths p))
+pub has_name : (g : List Member) (paths : List Path) (p : Path) (m : Member) → IsStore g paths → Holds paths p → member_of (thread_of p) g ≡ Some m → IsPathName g (path_name_of g (thread_of p) (trail_of paths p))
 has_name g paths p m store hp e = record { word = trail_of paths p; chain = (path_played g paths store p hp).0; member = m; is_member = e; views = refl }
 
 -- who has no member takes no step
@@ -142,7 +142,7 @@ same_view v w (x ∷ g) e t m f = go (same_view v w g rest t m) first (nat_eq x.
     go ih here true u f = subst (λ k. view_of k v ≡ view_of k w) (eqb-true x.thread t u) here
     go ih here false u f = ih f
 
-pub apart_by_name : (g : List Member) (paths : List Path) (p q : Path) → IsStore g paths → Holds paths p → Holds paths q → name_of g (thread_of p) (trail_of paths p) ≡ name_of g (thread_of q) (trail_of paths q) → p ≡ q
+pub apart_by_name : (g : List Member) (paths : List Path) (p q : Path) → IsStore g paths → Holds paths p → Holds paths q → path_name_of g (thread_of p) (trail_of paths p) ≡ path_name_of g (thread_of q) (trail_of paths q) → p ≡ q
 apart_by_name g paths p q store hp hq e = names_apart g paths store p q hp hq (ap (λ n. n.thread) e) (λ t. views t (member_of t g) refl)
   where
     views : (t : ℕ) (o : Option Member) → member_of t g ≡ o → view_of t (trail_of paths p) ≡ view_of t (trail_of paths q)

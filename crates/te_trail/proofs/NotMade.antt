@@ -12,9 +12,9 @@ use Rattle.te_path.specs.Paths.{StandsAt}
 use Rattle.te_terms.specs.Joint.{member_of, Message, sending, receiving}
 use Rattle.te_trail.specs.Paths.{Path, planted, branched, sent, got, thread_of, parent_of}
 use Rattle.te_trail.specs.Clocks.{Agree}
-use Rattle.te_trail.specs.States.{state_of}
+use Rattle.te_trail.specs.States.{path_state}
 use Rattle.te_trail.specs.Stores.{Holds}
-use Rattle.te_trail.specs.Trails.{Trail, TellsWhether, IsLeft, IsStop, IsUnplanted, IsUnmade, AreUnmet, IsAtChoice, AreEnds, AreAgreeing, FaceEachOther}
+use Rattle.te_trail.specs.Trails.{Trail, TellsWhether, IsLeft, IsStop, IsUnplanted, IsUnmade, AreUnmet, IsAtChoice, AreMeetingEnds, AreAgreeing, FaceEachOther}
 use Rattle.te_trail.specs.Walks.{NoneBefore, IsNoEvent, IsNoPlanting, IsNoBranch, IsNoMeeting}
 use Rattle.std.proofs.lemmas.Option.{slice_get-map}
 use Rattle.std.specs.Option.{option_map}
@@ -122,15 +122,15 @@ meeting_other paths k p q n h free x z y ex ez ey is = by n.last refl (subst (Is
 pub at_choice : (store : Trail) (p : ℕ) (stop : Stop) → stop ≡ stops.Choice → IsStop store p stop → IsAtChoice store p
 at_choice store p stop e told x m ex sm =
     let l : (k : Member) × IsLeft store.events store.paths x k × StandsAt k.term stop = told x ex in
-    let one : l.0 ≡ m = some_same (state_of store.events x) l.0 m l.1.state sm in
+    let one : l.0 ≡ m = some_same (path_state store.events x) l.0 m l.1.state sm in
     subst (λ k. StandsAt k.term stops.Choice) one (subst (StandsAt l.0.term) e l.2)
 
-pub are_ends : (store : Trail) (p q : ℕ) (first second : Stop) (c d : ℕ) (v : List Atom) → first ≡ stops.Send c v → second ≡ stops.Recv d → c ≡ d → IsStop store p first → IsStop store q second → AreEnds store p q
+pub are_ends : (store : Trail) (p q : ℕ) (first second : Stop) (c d : ℕ) (v : List Atom) → first ≡ stops.Send c v → second ≡ stops.Recv d → c ≡ d → IsStop store p first → IsStop store q second → AreMeetingEnds store p q
 are_ends store p q first second c d v e f same tp tq x y a b ex ey sa sb =
     let l : (k : Member) × IsLeft store.events store.paths x k × StandsAt k.term first = tp x ex in
     let m : (k : Member) × IsLeft store.events store.paths y k × StandsAt k.term second = tq y ey in
-    let one : l.0 ≡ a = some_same (state_of store.events x) l.0 a l.1.state sa in
-    let two : m.0 ≡ b = some_same (state_of store.events y) m.0 b m.1.state sb in
+    let one : l.0 ≡ a = some_same (path_state store.events x) l.0 a l.1.state sa in
+    let two : m.0 ≡ b = some_same (path_state store.events y) m.0 b m.1.state sb in
     let sends : sending a.term ≡ Some (record { channel = c; value = v }) = subst (λ k. StandsAt k.term (stops.Send c v)) one (subst (StandsAt l.0.term) e l.2) in
     let receives : receiving b.term ≡ Some d = subst (λ k. StandsAt k.term (stops.Recv d)) two (subst (StandsAt m.0.term) f m.2) in
     record { message = record { channel = c; value = v }; sends = sends; receives = receives ∙ ap Some (sym same) }

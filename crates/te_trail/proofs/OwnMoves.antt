@@ -6,7 +6,7 @@ use Rattle.te_terms.specs.Settling.{settled}
 use Rattle.te_terms.specs.Joint.{Label, choice, meeting, labels, member_of}
 use Rattle.te_trail.specs.Paths.{Path, planted, branched, sent, got, thread_of, depth_of, own_labels, IsAbove, OnOneLine, move_of, RestsOn}
 use Rattle.te_trail.specs.Clocks.{deeper, clock_of, Passes, Agree, IsSound}
-use Rattle.te_trail.specs.States.{chosen, met, Ends, state_of, HasState}
+use Rattle.te_trail.specs.States.{chosen, members_met, MovedEnds, path_state, HasState}
 use Rattle.te_trail.specs.Stores.{Holds, IsNext, with_move, with_moves, AreMade, IsStore, labels_of_move, labels_of, same_side, same_path, rests_on, any_rests_on, trail_of, joint_trail}
 use Rattle.te_trail.specs.Views.{Chain, touches, view_of, Begins, HasPast, LeavesAt, ChainOfBoth}
 use Rattle.te_trail.proofs.Lines.{above_self, above_depth, above_thread, above_trans, above_same, above_both, above_line, line_flip, line_depth, ancestor, rests_move, rests_trans, above_rests, rests_made}

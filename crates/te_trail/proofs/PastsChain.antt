@@ -6,7 +6,7 @@ use Rattle.te_terms.specs.Settling.{settled}
 use Rattle.te_terms.specs.Joint.{Label, choice, meeting, labels, member_of}
 use Rattle.te_trail.specs.Paths.{Path, planted, branched, sent, got, thread_of, depth_of, own_labels, IsAbove, OnOneLine, move_of, RestsOn}
 use Rattle.te_trail.specs.Clocks.{deeper, clock_of, Passes, Agree, IsSound}
-use Rattle.te_trail.specs.States.{chosen, met, Ends, state_of, HasState}
+use Rattle.te_trail.specs.States.{chosen, members_met, MovedEnds, path_state, HasState}
 use Rattle.te_trail.specs.Stores.{Holds, IsNext, with_move, with_moves, AreMade, IsStore, labels_of_move, labels_of, same_side, same_path, rests_on, any_rests_on, trail_of, joint_trail}
 use Rattle.te_trail.specs.Views.{Chain, touches, view_of, Begins, HasPast, LeavesAt, ChainOfBoth}
 use Rattle.te_trail.proofs.Lines.{above_self, above_depth, above_thread, above_trans, above_same, above_both, above_line, line_flip, line_depth, ancestor, rests_move, rests_trans, above_rests, rests_made}
@@ -96,26 +96,26 @@ pub then_some : {A B : Type 0} (f : A → Option B) (o : Option A) (y : B) → o
 then_some f None y e = cc
 then_some f (Some x) y e = (x, refl, e)
 
-pub parts_of : (g : List Member) (s r : Path) (f : Ends → Member) (v : Member) → option_and_then (λ a. option_and_then (λ b. option_map f (met a b)) (state_of g r)) (state_of g s) ≡ Some v → (a : Member) × (b : Member) × (p : Ends) × (state_of g s ≡ Some a) × (state_of g r ≡ Some b) × (met a b ≡ Some p)
+pub parts_of : (g : List Member) (s r : Path) (f : MovedEnds → Member) (v : Member) → option_and_then (λ a. option_and_then (λ b. option_map f (members_met a b)) (path_state g r)) (path_state g s) ≡ Some v → (a : Member) × (b : Member) × (p : MovedEnds) × (path_state g s ≡ Some a) × (path_state g r ≡ Some b) × (members_met a b ≡ Some p)
 parts_of g s r f v e =
-    let a : (x : Member) × (state_of g s ≡ Some x) × (option_and_then (λ b. option_map f (met x b)) (state_of g r) ≡ Some v) = then_some (λ a. option_and_then (λ b. option_map f (met a b)) (state_of g r)) (state_of g s) v e in
-    let b : (x : Member) × (state_of g r ≡ Some x) × (option_map f (met a.0 x) ≡ Some v) = then_some (λ b. option_map f (met a.0 b)) (state_of g r) v a.2 in
-    let m : (x : Ends) × (met a.0 b.0 ≡ Some x) × (f x ≡ v) = mapped f (met a.0 b.0) v b.2 in
+    let a : (x : Member) × (path_state g s ≡ Some x) × (option_and_then (λ b. option_map f (members_met x b)) (path_state g r) ≡ Some v) = then_some (λ a. option_and_then (λ b. option_map f (members_met a b)) (path_state g r)) (path_state g s) v e in
+    let b : (x : Member) × (path_state g r ≡ Some x) × (option_map f (members_met a.0 x) ≡ Some v) = then_some (λ b. option_map f (members_met a.0 b)) (path_state g r) v a.2 in
+    let m : (x : MovedEnds) × (members_met a.0 b.0 ≡ Some x) × (f x ≡ v) = mapped f (members_met a.0 b.0) v b.2 in
     (a.0, b.0, m.0, a.1, b.1, m.1)
 
 pub fits_past : (g : List Member) (p x : Path) → HasState g p → RestsOn (move_of x) p → HasState g x
 fits_past g (planted t) x f r = subst (λ q. HasState g q) (sym (made_planted x t r)) f
 fits_past g (branched p l) x f (inl e) = subst (λ q. HasState g q) (sym (made_branched x p l e)) f
-fits_past g (branched p l) x f (inr a) = let b : (e : Member) × (state_of g p ≡ Some e) × (option_map settled (chosen l e) ≡ Some f.0) = then_some (λ m. option_map settled (chosen l m)) (state_of g p) f.0 f.1 in fits_past g p x (b.0, b.1) a
+fits_past g (branched p l) x f (inr a) = let b : (e : Member) × (path_state g p ≡ Some e) × (option_map settled (chosen l e) ≡ Some f.0) = then_some (λ m. option_map settled (chosen l m)) (path_state g p) f.0 f.1 in fits_past g p x (b.0, b.1) a
 fits_past g (sent s r) x f h = meet_fits (parts_of g s r (λ p. settled p.sender) f.0 f.1) (fits_past g s x) (fits_past g r x) h
   where
-    meet_fits : (a : Member) × (b : Member) × (p : Ends) × (state_of g s ≡ Some a) × (state_of g r ≡ Some b) × (met a b ≡ Some p) → (HasState g s → RestsOn (move_of x) s → HasState g x) → (HasState g r → RestsOn (move_of x) r → HasState g x) → RestsOn (move_of x) (sent s r) → HasState g x
+    meet_fits : (a : Member) × (b : Member) × (p : MovedEnds) × (path_state g s ≡ Some a) × (path_state g r ≡ Some b) × (members_met a b ≡ Some p) → (HasState g s → RestsOn (move_of x) s → HasState g x) → (HasState g r → RestsOn (move_of x) r → HasState g x) → RestsOn (move_of x) (sent s r) → HasState g x
     meet_fits (a, b, p, sa, sb, m) ihs ihr (inl e) = elim (made_met x s r e) [ inl one ↦ subst (λ q. HasState g q) (sym one) (settled p.sender, (state_after g s r a b p sa sb m).0) | inr one ↦ subst (λ q. HasState g q) (sym one) (settled p.receiver, (state_after g s r a b p sa sb m).1) ]
     meet_fits (a, b, p, sa, sb, m) ihs ihr (inr (inl k)) = ihs (a, sa) k
     meet_fits (a, b, p, sa, sb, m) ihs ihr (inr (inr k)) = ihr (b, sb) k
 fits_past g (got s r) x f h = meet_fits (parts_of g s r (λ p. settled p.receiver) f.0 f.1) (fits_past g s x) (fits_past g r x) h
   where
-    meet_fits : (a : Member) × (b : Member) × (p : Ends) × (state_of g s ≡ Some a) × (state_of g r ≡ Some b) × (met a b ≡ Some p) → (HasState g s → RestsOn (move_of x) s → HasState g x) → (HasState g r → RestsOn (move_of x) r → HasState g x) → RestsOn (move_of x) (sent s r) → HasState g x
+    meet_fits : (a : Member) × (b : Member) × (p : MovedEnds) × (path_state g s ≡ Some a) × (path_state g r ≡ Some b) × (members_met a b ≡ Some p) → (HasState g s → RestsOn (move_of x) s → HasState g x) → (HasState g r → RestsOn (move_of x) r → HasState g x) → RestsOn (move_of x) (sent s r) → HasState g x
     meet_fits (a, b, p, sa, sb, m) ihs ihr (inl e) = elim (made_met x s r e) [ inl one ↦ subst (λ q. HasState g q) (sym one) (settled p.sender, (state_after g s r a b p sa sb m).0) | inr one ↦ subst (λ q. HasState g q) (sym one) (settled p.receiver, (state_after g s r a b p sa sb m).1) ]
     meet_fits (a, b, p, sa, sb, m) ihs ihr (inr (inl k)) = ihs (a, sa) k
     meet_fits (a, b, p, sa, sb, m) ihs ihr (inr (inr k)) = ihr (b, sb) k
@@ -152,7 +152,7 @@ joined g ps team = record {
   sound = λ m h. (let a : (p : Path) × Holds ps p × RestsOn m p = pasts_true ps m h in sound_past a.0 m (team.sounds a.0 a.1) a.2);
 }
   where
-    fitting : (x : Path) → (p : Path) × Holds ps p × RestsOn (move_of x) p → (e : Member) × (state_of g x ≡ Some e)
+    fitting : (x : Path) → (p : Path) × Holds ps p × RestsOn (move_of x) p → (e : Member) × (path_state g x ≡ Some e)
     fitting x a = fits_past g a.0 x (team.states a.0 a.1) a.2
 
 grown_keeps : (rest done : List Path) (y : Path) → Holds done y → Holds (with_moves done rest) y
@@ -186,7 +186,7 @@ above_own x (got s r) (inr a) = let b : (c : List Label) × (own_labels r ≡ ow
 -- statement 1
 pub record PastsAre (g : List Member) (store ps : List Path) : Type 0 where
   pub chain : Chain g (labels_of (any_rests_on ps) store)
-  pub leaves : (x : Path) → any_rests_on ps (move_of x) ≡ true → ((z : Path) → any_rests_on ps (move_of z) ≡ true → thread_of z ≡ thread_of x → IsAbove z x) → (member_of (thread_of x) chain.end ≡ state_of g x) × (view_of (thread_of x) (labels_of (any_rests_on ps) store) ≡ own_labels x)
+  pub leaves : (x : Path) → any_rests_on ps (move_of x) ≡ true → ((z : Path) → any_rests_on ps (move_of z) ≡ true → thread_of z ≡ thread_of x → IsAbove z x) → (member_of (thread_of x) chain.end ≡ path_state g x) × (view_of (thread_of x) (labels_of (any_rests_on ps) store) ≡ own_labels x)
   pub untouched : (t : ℕ) → ((x : Path) → thread_of x ≡ t → any_rests_on ps (move_of x) ≡ true → ⊥) → member_of t chain.end ≡ member_of t g
   pub within : (x : Path) → any_rests_on ps (move_of x) ≡ true → (c : List Label) × (view_of (thread_of x) (labels_of (any_rests_on ps) store) ≡ own_labels x ++ c)
   pub shape : (t : ℕ) → (view_of t (labels_of (any_rests_on ps) store) ≡ []) ⊎ ((z : Path) × (thread_of z ≡ t) × (any_rests_on ps (move_of z) ≡ true) × (view_of t (labels_of (any_rests_on ps) store) ≡ own_labels z))
@@ -205,7 +205,7 @@ one_chain g store ps made team there =
     placed : (all : Goes_on g (joined g ps team) (with_moves [] store) g [] (labels_of (any_rests_on ps) store)) (x : Path) → any_rests_on ps (move_of x) ≡ true → ((z : Path) → any_rests_on ps (move_of z) ≡ true → thread_of z ≡ thread_of x → IsAbove z x) → (z : Path) × ((all.ats (thread_of x)).place ≡ Some z) × IsAbove x z → (all.ats (thread_of x)).place ≡ Some x
     placed all x hx low (z, e, up) = e ∙ ap Some (above_both z x (low z ((all.ats (thread_of x)).sits z e).1 ((all.ats (thread_of x)).sits z e).0) up)
 
-    leaving : (all : Goes_on g (joined g ps team) (with_moves [] store) g [] (labels_of (any_rests_on ps) store)) (p : Path) → (all.ats (thread_of p)).place ≡ Some p → (member_of (thread_of p) all.chain.end ≡ state_of g p) × (view_of (thread_of p) (labels_of (any_rests_on ps) store) ≡ own_labels p)
+    leaving : (all : Goes_on g (joined g ps team) (with_moves [] store) g [] (labels_of (any_rests_on ps) store)) (p : Path) → (all.ats (thread_of p)).place ≡ Some p → (member_of (thread_of p) all.chain.end ≡ path_state g p) × (view_of (thread_of p) (labels_of (any_rests_on ps) store) ≡ own_labels p)
     leaving all p e = ((all.ats (thread_of p)).stands ∙ ap (stands_at g (thread_of p)) e, (all.ats (thread_of p)).told ∙ ap owned_by e)
 
     rest : (all : Goes_on g (joined g ps team) (with_moves [] store) g [] (labels_of (any_rests_on ps) store)) (t : ℕ) → ((x : Path) → thread_of x ≡ t → any_rests_on ps (move_of x) ≡ true → ⊥) → (o : Option Path) → (all.ats t).place ≡ o → member_of t all.chain.end ≡ member_of t g

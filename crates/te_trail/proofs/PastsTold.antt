@@ -12,7 +12,7 @@ use Rattle.te_trail.specs.declared.ticks.Tick.{Tick}
 use Rattle.te_trail.specs.Paths.{Path, planted, branched, sent, got, thread_of, IsAbove, move_of, RestsOn}
 use Rattle.te_trail.specs.Clocks.{clock_of, IsSound}
 use Rattle.te_trail.specs.Stores.{labels_of_move, labels_of, rests_on, trail_of, IsStore}
-use Rattle.te_trail.specs.Trails.{TellsWhether, IsThread, ClockAt, IsClock, label_of, IsTrail}
+use Rattle.te_trail.specs.Trails.{TellsWhether, IsPathThread, ClockAt, IsClock, label_of, IsTrail}
 use Rattle.te_trail.specs.Walks.{IsInPast, labels_told, TellsMove, TellsPastMove}
 use Rattle.te_trail.specs.Records.{paths_of, IsMadeBy, Fits, FitsAll}
 use Rattle.te_trail.proofs.Lines.{rests_move, above_rests}
@@ -30,7 +30,7 @@ clock_low paths p t c h is = go (get_some paths p h)
     go : (x : Path) × (slice_get paths p ≡ Some x) → c < length paths
     go (x, e) = let at : (z : Path) × (slice_get paths c ≡ Some z) × (clock_of x t ≡ Some z) = is x e in get_low paths at.0 c at.1
 
-pub rests_by_clock : (paths : List Path) → ((k : ℕ) (x : Path) → slice_get paths k ≡ Some x → IsSound x) → (p i t c : ℕ) (answer : Bool) → IsThread paths i t → IsClock paths p t (Some c) → TellsWhether paths i c IsAbove answer → TellsWhether paths p i IsInPast answer
+pub rests_by_clock : (paths : List Path) → ((k : ℕ) (x : Path) → slice_get paths k ≡ Some x → IsSound x) → (p i t c : ℕ) (answer : Bool) → IsPathThread paths i t → IsClock paths p t (Some c) → TellsWhether paths i c IsAbove answer → TellsWhether paths p i IsInPast answer
 rests_by_clock paths sound p i t c answer thread is tells x y ex ey = go (is x ex)
   where
     go : (z : Path) × (slice_get paths c ≡ Some z) × (clock_of x t ≡ Some z) → IsTrue answer ↔ IsInPast x y
@@ -39,7 +39,7 @@ rests_by_clock paths sound p i t c answer thread is tells x y ex ey = go (is x e
         back : (d : Path) × (clock_of x (thread_of y) ≡ Some d) × IsAbove y d → IsAbove y z
         back (d, kd, up) = subst (IsAbove y) (some_same (clock_of x t) d z (ap (clock_of x) (sym (thread y ey)) ∙ kd) k) up
 
-pub rests_not : (paths : List Path) → ((k : ℕ) (x : Path) → slice_get paths k ≡ Some x → IsSound x) → (p i t : ℕ) → IsThread paths i t → IsClock paths p t None → TellsWhether paths p i IsInPast false
+pub rests_not : (paths : List Path) → ((k : ℕ) (x : Path) → slice_get paths k ≡ Some x → IsSound x) → (p i t : ℕ) → IsPathThread paths i t → IsClock paths p t None → TellsWhether paths p i IsInPast false
 rests_not paths sound p i t thread is x y ex ey = ((λ a. absurd (not_true a)), (λ r. absurd (none (clock_top x (sound p x ex) y r))))
   where
     not_true : IsTrue false → ⊥

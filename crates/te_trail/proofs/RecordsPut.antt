@@ -12,9 +12,9 @@ use Rattle.te_trail.specs.declared.store.Last.{Last}
 use Rattle.te_trail.specs.declared.store.Last.TheVariants.{Root, Left, Right, Sender, Receiver}
 use Rattle.te_trail.specs.Paths.{Path, planted, branched, sent, got, thread_of, depth_of, parent_of, IsAbove, OnOneLine}
 use Rattle.te_trail.specs.Clocks.{deeper, clock_of, Agree, IsSound}
-use Rattle.te_trail.specs.Ticks.{named, between, ticks_of, IsWithin, AreBeyond, AreRising, later, beside, merged, marked, Joins, Raises}
-use Rattle.te_trail.specs.Trails.{TellsWhether, IsThread, ClockAt, IsClock}
-use Rattle.te_trail.specs.Walks.{TellsParent, FitAt, AllFit, FittingFor, Misfit, AreLow, TellsFit}
+use Rattle.te_trail.specs.Ticks.{named, between, ticks_of, StretchIsWithin, AreBeyond, AreRising, later, beside, merged, marked, Joins, Raises}
+use Rattle.te_trail.specs.Trails.{TellsWhether, IsPathThread, ClockAt, IsClock}
+use Rattle.te_trail.specs.Walks.{TellsParent, FitAt, AllFit, FittingFor, Misfit, TicksAreLow, TellsFit}
 use Rattle.te_trail.specs.Records.{path_at, last_of, other_end, path_by, mate_of, paths_from, paths_of, is_sender, EndsAfter, EndsWhole, parent_number, HasParent, Fits, FitsAll}
 use Rattle.te_trail.proofs.Lines.{above_self, above_depth, above_thread, above_trans, above_same, above_both, above_line, line_flip, line_depth, ancestor, rests_move, rests_trans, above_rests, rests_made}
 use Rattle.te_trail.proofs.ClockLaws.{eq_same, eq_apart, differ, deeper_left, deeper_right, deeper_either, clock_thread, clock_in, clock_self, Agrees, agrees_by, agree_by, made_planted, made_branched, made_met, clock_top, past_line, agree_line}
@@ -32,7 +32,7 @@ ups_wide : (paths more : List Path) (k : ℕ) (x : Path) (o : Option ℕ) → Ha
 ups_wide paths more k x None u = u
 ups_wide paths more k x (Some r) u = (u.0, u.1, get_old paths more u.1 r u.2, u.3)
 
-stretch_wide : (ticks new : List Tick) (c : Stretch) → IsWithin ticks c → ticks_of (ticks ++ new) c ≡ ticks_of ticks c
+stretch_wide : (ticks new : List Tick) (c : Stretch) → StretchIsWithin ticks c → ticks_of (ticks ++ new) c ≡ ticks_of ticks c
 stretch_wide ticks new c w = between_more ticks new c.at (c.at + c.len) w (omega arith)
 
 fit_wide : (paths more : List Path) (ticks new : List Tick) (k : ℕ) (n : PathRecord) (x : Path) → Fits paths ticks k n x → Fits (paths ++ more) (ticks ++ new) k n x
@@ -54,7 +54,7 @@ stretch_last ticks out c a l =
     let m : c.at + c.len - c.at ≡ length out = omega (arith, l) in
     ap₂ take m (ap (λ n. drop n (ticks ++ out)) a ∙ drop-append_seam ticks out) ∙ take_all out
 
-pub within_last : (ticks out : List Tick) (c : Stretch) → c.at ≡ length ticks → c.len ≡ length out → IsWithin (ticks ++ out) c
+pub within_last : (ticks out : List Tick) (c : Stretch) → c.at ≡ length ticks → c.len ≡ length out → StretchIsWithin (ticks ++ out) c
 within_last ticks out c a l = omega (arith, a, l, length-append ticks out)
 
 abbrev pub Missing : List Path → Path → Type 0

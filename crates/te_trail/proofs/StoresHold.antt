@@ -11,11 +11,11 @@ use Rattle.te_trail.specs.declared.store.PathRecord.{PathRecord}
 use Rattle.te_trail.specs.declared.ticks.Tick.{Tick}
 use Rattle.te_trail.specs.Paths.{Path, planted, branched, sent, got, thread_of, move_of}
 use Rattle.te_trail.specs.Clocks.{Agree, IsSound}
-use Rattle.te_trail.specs.States.{state_of, HasState}
+use Rattle.te_trail.specs.States.{path_state, HasState}
 use Rattle.te_trail.specs.Stores.{Holds, IsNext, with_move, with_moves, AreMade, IsStore, trail_of}
 use Rattle.te_trail.specs.Views.{Chain, ChainOfBoth}
 use Rattle.te_trail.specs.Trails.{Trail, TellsWhether, HaveOneChain, IsLeft, IsStop}
-use Rattle.te_trail.specs.Records.{members_of, paths_of, IsKept, Spells, Stands}
+use Rattle.te_trail.specs.Records.{members_of, paths_of, RecordsAreKept, SpotSpells, RecordStands}
 use Rattle.te_trail.proofs.ClockLaws.{Agrees, agrees_by, agree_by, differ}
 use Rattle.te_trail.proofs.PastsChain.{grown_has}
 use Rattle.te_trail.proofs.AgreeIsExact.{agree_together, together_agree, path_played}
@@ -32,7 +32,7 @@ place_held [] x h = absurd h
 place_held (y ∷ xs) x (inl e) = (0, ap Some (sym e))
 place_held (y ∷ xs) x (inr h) = let r : (k : ℕ) × (slice_get xs k ≡ Some x) = place_held xs x h in (suc r.0, r.1)
 
-pub is_store : (events : List Planned) (cells : Cells) (records : List PathRecord) (ticks : List Tick) → IsKept events cells records ticks → IsStore (members_of events) (paths_of records)
+pub is_store : (events : List Planned) (cells : Cells) (records : List PathRecord) (ticks : List Tick) → RecordsAreKept events cells records ticks → IsStore (members_of events) (paths_of records)
 is_store events cells records ticks kept = record {
   made = kept.made;
   sound = λ x h. sound x (place_held (paths_of records) x h);
@@ -45,7 +45,7 @@ is_store events cells records ticks kept = record {
     sound x (k, e) = let n : (n : PathRecord) × (slice_get records k ≡ Some n) = node_at records k x e in (kept.fit.fits k n.0 x n.1 e).sound
 
     state : (x : Path) → (k : ℕ) × (slice_get (paths_of records) k ≡ Some x) → HasState (members_of events) x
-    state x (k, e) = let n : (n : PathRecord) × (slice_get records k ≡ Some n) = node_at records k x e in let s : Stands events cells n.0 x = kept.stands k n.0 x n.1 e in (s.member, s.state)
+    state x (k, e) = let n : (n : PathRecord) × (slice_get records k ≡ Some n) = node_at records k x e in let s : RecordStands events cells n.0 x = kept.stands k n.0 x n.1 e in (s.member, s.state)
 
 -- ---- agreement
 
@@ -68,12 +68,12 @@ tells_chain g paths store p q answer tells x y ex ey = ((λ t. there ((tells x y
 
 -- ---- stops
 
-pub is_left : (g : List Member) (paths : List Path) → IsStore g paths → (p : ℕ) (x : Path) (m : Member) → slice_get paths p ≡ Some x → state_of g x ≡ Some m → IsSettled m → IsLeft g paths x m
+pub is_left : (g : List Member) (paths : List Path) → IsStore g paths → (p : ℕ) (x : Path) (m : Member) → slice_get paths p ≡ Some x → path_state g x ≡ Some m → IsSettled m → IsLeft g paths x m
 is_left g paths store p x m e state quiet =
-    let played : (chain : Chain g (trail_of paths x)) × (member_of (thread_of x) chain.end ≡ state_of g x) = path_played g paths store x (held paths p x e) in
+    let played : (chain : Chain g (trail_of paths x)) × (member_of (thread_of x) chain.end ≡ path_state g x) = path_played g paths store x (held paths p x e) in
     record { chain = played.0; left = played.1 ∙ state; settled = quiet; state = state }
 
-one_state : (g : List Member) (x : Path) (m n : Member) → state_of g x ≡ Some m → state_of g x ≡ Some n → m ≡ n
+one_state : (g : List Member) (x : Path) (m n : Member) → path_state g x ≡ Some m → path_state g x ≡ Some n → m ≡ n
 one_state g x m n e f = cc
 
 -- where the record of a path stands
@@ -81,9 +81,9 @@ pub record Standing (events : List Planned) (records : List PathRecord) (p : ℕ
   pub path : Path
   pub is_path : slice_get (paths_of records) p ≡ Some path
   pub left : (x : Path) → slice_get (paths_of records) p ≡ Some x → (m : Member) × IsLeft (members_of events) (paths_of records) x m × StandsAt m.term n.spot.stop
-  pub only : (x : Path) (m : Member) (stop : Stop) → slice_get (paths_of records) p ≡ Some x → state_of (members_of events) x ≡ Some m → StandsAt m.term stop → n.spot.stop ≡ stop
+  pub only : (x : Path) (m : Member) (stop : Stop) → slice_get (paths_of records) p ≡ Some x → path_state (members_of events) x ≡ Some m → StandsAt m.term stop → n.spot.stop ≡ stop
 
-pub standing : (events : List Planned) (cells : Cells) (records : List PathRecord) (ticks : List Tick) → IsKept events cells records ticks → (p : ℕ) (n : PathRecord) → slice_get records p ≡ Some n → Standing events records p n
+pub standing : (events : List Planned) (cells : Cells) (records : List PathRecord) (ticks : List Tick) → RecordsAreKept events cells records ticks → (p : ℕ) (n : PathRecord) → slice_get records p ≡ Some n → Standing events records p n
 standing events cells records ticks kept p n en = record {
   path = x.0;
   is_path = x.1;
@@ -94,13 +94,13 @@ standing events cells records ticks kept p n en = record {
     x : (x : Path) × (slice_get (paths_of records) p ≡ Some x)
     x = get_some (paths_of records) p (omega (arith, get_low records n p en, length_paths records))
 
-    stands : (y : Path) (s : Stands events cells n y) → StandsAt s.member.term n.spot.stop
+    stands : (y : Path) (s : RecordStands events cells n y) → StandsAt s.member.term n.spot.stop
     stands y s = subst (λ m. StandsAt m.term n.spot.stop) s.spot.spells s.spot.is_spot.stands
 
-    leaves : (y : Path) → Stands events cells n y → slice_get (paths_of records) p ≡ Some y → (m : Member) × IsLeft (members_of events) (paths_of records) y m × StandsAt m.term n.spot.stop
+    leaves : (y : Path) → RecordStands events cells n y → slice_get (paths_of records) p ≡ Some y → (m : Member) × IsLeft (members_of events) (paths_of records) y m × StandsAt m.term n.spot.stop
     leaves y s ey = (s.member, is_left (members_of events) (paths_of records) (is_store events cells records ticks kept) p y s.member ey s.state (subst IsSettled s.spot.spells s.spot.is_spot.settled), stands y s)
 
-    one : (y : Path) (m : Member) (stop : Stop) (s : Stands events cells n y) → state_of (members_of events) y ≡ Some m → StandsAt m.term stop → n.spot.stop ≡ stop
+    one : (y : Path) (m : Member) (stop : Stop) (s : RecordStands events cells n y) → path_state (members_of events) y ≡ Some m → StandsAt m.term stop → n.spot.stop ≡ stop
     one y m stop s sm st = same_stop s.member.term n.spot.stop stop (stands y s) (subst (λ z. StandsAt z.term stop) (one_state (members_of events) y m s.member sm s.state) st)
 
 pub stop_told : (events : List Planned) (records : List PathRecord) (store : Trail) (p : ℕ) (n : PathRecord) (stop : Stop) → Standing events records p n → members_of events ≡ store.events → paths_of records ≡ store.paths → stop ≡ n.spot.stop → IsStop store p stop
@@ -108,8 +108,8 @@ stop_told events records store p n stop s eg ep es x ex =
     let l : (m : Member) × IsLeft (members_of events) (paths_of records) x m × StandsAt m.term n.spot.stop = s.left x (ap (λ ps. slice_get ps p) ep ∙ ex) in
     (l.0, subst (λ g. IsLeft g store.paths x l.0) eg (subst (λ ps. IsLeft (members_of events) ps x l.0) ep l.1), subst (StandsAt l.0.term) (sym es) l.2)
 
-pub stop_only : (events : List Planned) (records : List PathRecord) (store : Trail) (p : ℕ) (n : PathRecord) (stop : Stop) → Standing events records p n → members_of events ≡ store.events → paths_of records ≡ store.paths → stop ≡ n.spot.stop → (x : Path) (m : Member) (other : Stop) → slice_get store.paths p ≡ Some x → state_of store.events x ≡ Some m → StandsAt m.term other → stop ≡ other
-stop_only events records store p n stop s eg ep es x m other ex sm st = es ∙ s.only x m other (ap (λ ps. slice_get ps p) ep ∙ ex) (ap (λ g. state_of g x) eg ∙ sm) st
+pub stop_only : (events : List Planned) (records : List PathRecord) (store : Trail) (p : ℕ) (n : PathRecord) (stop : Stop) → Standing events records p n → members_of events ≡ store.events → paths_of records ≡ store.paths → stop ≡ n.spot.stop → (x : Path) (m : Member) (other : Stop) → slice_get store.paths p ≡ Some x → path_state store.events x ≡ Some m → StandsAt m.term other → stop ≡ other
+stop_only events records store p n stop s eg ep es x m other ex sm st = es ∙ s.only x m other (ap (λ ps. slice_get ps p) ep ∙ ex) (ap (λ g. path_state g x) eg ∙ sm) st
 
-pub sounds : (events : List Planned) (cells : Cells) (records : List PathRecord) (ticks : List Tick) (paths : List Path) → IsKept events cells records ticks → paths_of records ≡ paths → (k : ℕ) (x : Path) → slice_get paths k ≡ Some x → IsSound x
+pub sounds : (events : List Planned) (cells : Cells) (records : List PathRecord) (ticks : List Tick) (paths : List Path) → RecordsAreKept events cells records ticks → paths_of records ≡ paths → (k : ℕ) (x : Path) → slice_get paths k ≡ Some x → IsSound x
 sounds events cells records ticks paths kept view k x e = (is_store events cells records ticks kept).sound x (held (paths_of records) k x (ap (λ ps. slice_get ps k) view ∙ e))

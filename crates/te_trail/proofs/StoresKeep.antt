@@ -13,16 +13,16 @@ use Rattle.te_trail.specs.declared.store.PathRecord.{PathRecord}
 use Rattle.te_trail.specs.declared.store.StoreMark.{StoreMark}
 use Rattle.te_trail.specs.declared.ticks.Tick.{Tick}
 use Rattle.te_trail.specs.Paths.{Path, planted, branched, sent, got, move_of}
-use Rattle.te_trail.specs.States.{state_of}
+use Rattle.te_trail.specs.States.{path_state}
 use Rattle.te_trail.specs.Stores.{Holds, IsNext, with_move, with_moves, AreMade}
-use Rattle.te_trail.specs.Records.{origin_at, member_of_event, members_of, AreEvents, paths_of, FitsAll, Spells, Stands, IsKept, IsMarked, IsEarlier, IsWhole}
+use Rattle.te_trail.specs.Records.{origin_at, member_of_event, members_of, ArePlannedEvents, paths_of, FitsAll, SpotSpells, RecordStands, RecordsAreKept, IsMarked, IsEarlier, StoreIsWhole}
 use Rattle.te_trail.proofs.RecordsRead.{get_old, get_new, get_low, get_some, get_which, take_get, take_low, take_all, length_paths}
 use Rattle.te_trail.proofs.RecordsPut.{AreNew, kept_push}
 use Rattle.te_trail.proofs.EventsFound.{events_put, members_put, state_more}
 
 -- ---- more cells
 
-pub spells_grown : (events : List Planned) (c c2 : Cells) (i : ℕ) (s : Spot) (m : Member) → Grows c c2 → Spells events c i s m → Spells events c2 i s m
+pub spells_grown : (events : List Planned) (c c2 : Cells) (i : ℕ) (s : Spot) (m : Member) → Grows c c2 → SpotSpells events c i s m → SpotSpells events c2 i s m
 spells_grown events c c2 i s m grows sp = record {
   event = sp.event;
   is_event = sp.is_event;
@@ -30,10 +30,10 @@ spells_grown events c c2 i s m grows sp = record {
   spells = spelled_grown (origin_at sp.event) c c2 s grows sp.is_spot ∙ sp.spells;
 }
 
-stands_grown : (events : List Planned) (c c2 : Cells) (n : PathRecord) (x : Path) → Grows c c2 → Stands events c n x → Stands events c2 n x
+stands_grown : (events : List Planned) (c c2 : Cells) (n : PathRecord) (x : Path) → Grows c c2 → RecordStands events c n x → RecordStands events c2 n x
 stands_grown events c c2 n x grows st = record { member = st.member; state = st.state; spot = spells_grown events c c2 n.event n.spot st.member grows st.spot }
 
-kept_grown : (events : List Planned) (c c2 : Cells) (records : List PathRecord) (ticks : List Tick) → Grows c c2 → IsKept events c records ticks → IsKept events c2 records ticks
+kept_grown : (events : List Planned) (c c2 : Cells) (records : List PathRecord) (ticks : List Tick) → Grows c c2 → RecordsAreKept events c records ticks → RecordsAreKept events c2 records ticks
 kept_grown events c c2 records ticks grows k = record {
   fit = k.fit;
   made = k.made;
@@ -56,11 +56,11 @@ marked_grown events c c2 records ticks m grows k =
       ticks_low = k.ticks_low;
       of_cells = subst (λ z. IsMarkOf z m.cells) (sym same) k.of_cells;
       grown = subst (λ z. Grows z c2) (sym same) (grows_on (cut_to m.cells c) c c2 k.grown grows);
-      kept = subst (λ z. IsKept (take m.events events) z (take m.paths records) (take m.ticks ticks)) (sym same) k.kept;
+      kept = subst (λ z. RecordsAreKept (take m.events events) z (take m.paths records) (take m.ticks ticks)) (sym same) k.kept;
       seen = k.seen;
     }
 
-pub whole_grown : (events : List Planned) (c c2 : Cells) (records : List PathRecord) (ticks : List Tick) (marks : List StoreMark) → Grows c c2 → IsWhole events c records ticks marks → IsWhole events c2 records ticks marks
+pub whole_grown : (events : List Planned) (c c2 : Cells) (records : List PathRecord) (ticks : List Tick) (marks : List StoreMark) → Grows c c2 → StoreIsWhole events c records ticks marks → StoreIsWhole events c2 records ticks marks
 whole_grown events c c2 records ticks marks grows w = record {
   kept = kept_grown events c c2 records ticks grows w.kept;
   few = w.few;
@@ -78,14 +78,14 @@ whole_grown events c c2 records ticks marks grows w = record {
 
 -- ---- more events
 
-stands_put : (events : List Planned) (new : Planned) (c : Cells) (n : PathRecord) (x : Path) → Stands events c n x → Stands (events ++ (new ∷ [])) c n x
+stands_put : (events : List Planned) (new : Planned) (c : Cells) (n : PathRecord) (x : Path) → RecordStands events c n x → RecordStands (events ++ (new ∷ [])) c n x
 stands_put events new c n x st = record {
   member = st.member;
-  state = ap (λ g. state_of g x) (members_put events new) ∙ state_more (members_of events) (member_of_event new ∷ []) x st.member st.state;
+  state = ap (λ g. path_state g x) (members_put events new) ∙ state_more (members_of events) (member_of_event new ∷ []) x st.member st.state;
   spot = record { event = st.spot.event; is_event = get_old events (new ∷ []) st.spot.event n.event st.spot.is_event; is_spot = st.spot.is_spot; spells = st.spot.spells };
 }
 
-pub whole_put : (events : List Planned) (new : Planned) (c : Cells) (records : List PathRecord) (ticks : List Tick) (marks : List StoreMark) → new.root < length new.code.value → member_of new.thread (members_of events) ≡ None → IsWhole events c records ticks marks → IsWhole (events ++ (new ∷ [])) c records ticks marks
+pub whole_put : (events : List Planned) (new : Planned) (c : Cells) (records : List PathRecord) (ticks : List Tick) (marks : List StoreMark) → new.root < length new.code.value → member_of new.thread (members_of events) ≡ None → StoreIsWhole events c records ticks marks → StoreIsWhole (events ++ (new ∷ [])) c records ticks marks
 whole_put events new c records ticks marks low none w = record {
   kept = record {
     fit = w.kept.fit;
@@ -107,7 +107,7 @@ whole_put events new c records ticks marks low none w = record {
       ticks_low = k.ticks_low;
       of_cells = k.of_cells;
       grown = k.grown;
-      kept = subst (λ z. IsKept z (cut_to m.cells c) (take m.paths records) (take m.ticks ticks)) (sym (take-append-le m.events events (new ∷ []) k.events_low)) k.kept;
+      kept = subst (λ z. RecordsAreKept z (cut_to m.cells c) (take m.paths records) (take m.ticks ticks)) (sym (take-append-le m.events events (new ∷ []) k.events_low)) k.kept;
       seen = k.seen;
     }
 
@@ -124,7 +124,7 @@ marked_pushed events c records ticks ns xs out m whole k = record {
   ticks_low = omega (arith, k.ticks_low, length-append ticks out);
   of_cells = k.of_cells;
   grown = k.grown;
-  kept = subst (λ z. IsKept (take m.events events) (cut_to m.cells c) z (take m.ticks (ticks ++ out))) (sym same) (subst (IsKept (take m.events events) (cut_to m.cells c) (take m.paths records)) (sym (take-append-le m.ticks ticks out k.ticks_low)) k.kept);
+  kept = subst (λ z. RecordsAreKept (take m.events events) (cut_to m.cells c) z (take m.ticks (ticks ++ out))) (sym same) (subst (RecordsAreKept (take m.events events) (cut_to m.cells c) (take m.paths records)) (sym (take-append-le m.ticks ticks out k.ticks_low)) k.kept);
   seen = ap paths_of same ∙ k.seen ∙ sym (ap (take m.paths) whole ∙ take-append-le m.paths (paths_of records) xs (omega (arith, k.paths_low, length_paths records)));
 }
   where
@@ -136,10 +136,10 @@ pub record AreAdded (events : List Planned) (c : Cells) (records : List PathReco
   pub new : AreNew records ticks ns xs out
   pub made : AreMade (with_moves [] (paths_of records)) xs
   pub pairs : (k : ℕ) (s r : Path) → slice_get xs k ≡ Some (sent s r) → slice_get xs (suc k) ≡ Some (got s r)
-  pub stands : (k : ℕ) (n : PathRecord) (x : Path) → slice_get ns k ≡ Some n → slice_get xs k ≡ Some x → Stands events c n x
+  pub stands : (k : ℕ) (n : PathRecord) (x : Path) → slice_get ns k ≡ Some n → slice_get xs k ≡ Some x → RecordStands events c n x
   pub few : length records + length ns < 4294967296
 
-pub whole_pushed : (events : List Planned) (c : Cells) (records : List PathRecord) (ticks : List Tick) (marks : List StoreMark) (ns : List PathRecord) (xs : List Path) (out : List Tick) → IsWhole events c records ticks marks → AreAdded events c records ticks ns xs out → (paths_of (records ++ ns) ≡ paths_of records ++ xs) × IsWhole events c (records ++ ns) (ticks ++ out) marks
+pub whole_pushed : (events : List Planned) (c : Cells) (records : List PathRecord) (ticks : List Tick) (marks : List StoreMark) (ns : List PathRecord) (xs : List Path) (out : List Tick) → StoreIsWhole events c records ticks marks → AreAdded events c records ticks ns xs out → (paths_of (records ++ ns) ≡ paths_of records ++ xs) × StoreIsWhole events c (records ++ ns) (ticks ++ out) marks
 whole_pushed events c records ticks marks ns xs out w added = (
   f.0,
   record {
@@ -164,7 +164,7 @@ whole_pushed events c records ticks marks ns xs out w added = (
     pair k s r (inl a) = get_old (paths_of records) xs (got s r) (suc k) (w.kept.pairs k s r a)
     pair k s r (inr a) = ap (slice_get (paths_of records ++ xs)) (let e : suc k ≡ length (paths_of records) + suc a.0 = omega (arith, a.1) in e) ∙ get_new (paths_of records) xs (suc a.0) ∙ added.pairs a.0 s r a.2
 
-    stand : (k : ℕ) (n : PathRecord) (x : Path) → (slice_get records k ≡ Some n) ⊎ ((j : ℕ) × (k ≡ length records + j) × (slice_get ns j ≡ Some n)) → (slice_get (paths_of records) k ≡ Some x) ⊎ ((j : ℕ) × (k ≡ length (paths_of records) + j) × (slice_get xs j ≡ Some x)) → Stands events c n x
+    stand : (k : ℕ) (n : PathRecord) (x : Path) → (slice_get records k ≡ Some n) ⊎ ((j : ℕ) × (k ≡ length records + j) × (slice_get ns j ≡ Some n)) → (slice_get (paths_of records) k ≡ Some x) ⊎ ((j : ℕ) × (k ≡ length (paths_of records) + j) × (slice_get xs j ≡ Some x)) → RecordStands events c n x
     stand k n x (inl a) (inl b) = w.kept.stands k n x a b
     stand k n x (inl a) (inr b) = absurd (omega (arith, get_low records n k a, length_paths records, b.1))
     stand k n x (inr a) (inl b) = absurd (omega (arith, get_low (paths_of records) x k b, length_paths records, a.1))
@@ -172,7 +172,7 @@ whole_pushed events c records ticks marks ns xs out w added = (
 
 -- ---- marks
 
-pub whole_marked : (events : List Planned) (c : Cells) (records : List PathRecord) (ticks : List Tick) (marks : List StoreMark) (m : StoreMark) → IsWhole events c records ticks marks → m.events ≡ length events → IsMarkOf c m.cells → m.paths ≡ length records → m.ticks ≡ length ticks → IsWhole events c records ticks (marks ++ (m ∷ []))
+pub whole_marked : (events : List Planned) (c : Cells) (records : List PathRecord) (ticks : List Tick) (marks : List StoreMark) (m : StoreMark) → StoreIsWhole events c records ticks marks → m.events ≡ length events → IsMarkOf c m.cells → m.paths ≡ length records → m.ticks ≡ length ticks → StoreIsWhole events c records ticks (marks ++ (m ∷ []))
 whole_marked events c records ticks marks m w ee ec ep et = record {
   kept = w.kept;
   few = w.few;
@@ -197,7 +197,7 @@ whole_marked events c records ticks marks m w ee ec ep et = record {
       ticks_low = omega (arith, et);
       of_cells = subst (λ z. IsMarkOf z m.cells) (sym cells) ec;
       grown = subst (λ z. Grows z c) (sym cells) (grows_none c w.kept.linked);
-      kept = subst (λ z. IsKept z (cut_to m.cells c) (take m.paths records) (take m.ticks ticks)) (sym (ap (λ n. take n events) ee ∙ take_all events)) (subst (λ z. IsKept events z (take m.paths records) (take m.ticks ticks)) (sym cells) (subst (λ z. IsKept events c z (take m.ticks ticks)) (sym all) (subst (IsKept events c records) (sym (ap (λ n. take n ticks) et ∙ take_all ticks)) w.kept)));
+      kept = subst (λ z. RecordsAreKept z (cut_to m.cells c) (take m.paths records) (take m.ticks ticks)) (sym (ap (λ n. take n events) ee ∙ take_all events)) (subst (λ z. RecordsAreKept events z (take m.paths records) (take m.ticks ticks)) (sym cells) (subst (λ z. RecordsAreKept events c z (take m.ticks ticks)) (sym all) (subst (RecordsAreKept events c records) (sym (ap (λ n. take n ticks) et ∙ take_all ticks)) w.kept)));
       seen = ap paths_of all ∙ sym (ap (λ n. take n (paths_of records)) (ep ∙ sym (length_paths records)) ∙ take_all (paths_of records));
     }
 
@@ -228,7 +228,7 @@ not_longer xs zero = omega arith
 not_longer [] (suc n) = omega arith
 not_longer (x ∷ xs) (suc n) = omega (arith, not_longer xs n)
 
-pub whole_cut : (events : List Planned) (c : Cells) (records : List PathRecord) (ticks : List Tick) (marks : List StoreMark) (i : ℕ) (m : StoreMark) → IsWhole events c records ticks marks → slice_get marks i ≡ Some m → IsWhole (take m.events events) (cut_to m.cells c) (take m.paths records) (take m.ticks ticks) (take i marks) × (paths_of (take m.paths records) ≡ take m.paths (paths_of records))
+pub whole_cut : (events : List Planned) (c : Cells) (records : List PathRecord) (ticks : List Tick) (marks : List StoreMark) (i : ℕ) (m : StoreMark) → StoreIsWhole events c records ticks marks → slice_get marks i ≡ Some m → StoreIsWhole (take m.events events) (cut_to m.cells c) (take m.paths records) (take m.ticks ticks) (take i marks) × (paths_of (take m.paths records) ≡ take m.paths (paths_of records))
 whole_cut events c records ticks marks i m w e = (
   record {
     kept = at.kept;
@@ -270,6 +270,6 @@ whole_cut events c records ticks marks i m w e = (
           ticks_low = shorter ticks l.ticks m.ticks r.ticks g.ticks_low;
           of_cells = subst (λ z. IsMarkOf z l.cells) (sym cs) g.of_cells;
           grown = subst (λ z. Grows z (cut_to m.cells c)) (sym cs) r.of_cells;
-          kept = subst (λ z. IsKept z (cut_to l.cells (cut_to m.cells c)) (take l.paths (take m.paths records)) (take l.ticks (take m.ticks ticks))) (sym ev) (subst (λ z. IsKept (take l.events events) z (take l.paths (take m.paths records)) (take l.ticks (take m.ticks ticks))) (sym cs) (subst (λ z. IsKept (take l.events events) (cut_to l.cells c) z (take l.ticks (take m.ticks ticks))) (sym rs) (subst (IsKept (take l.events events) (cut_to l.cells c) (take l.paths records)) (sym ts) g.kept)));
+          kept = subst (λ z. RecordsAreKept z (cut_to l.cells (cut_to m.cells c)) (take l.paths (take m.paths records)) (take l.ticks (take m.ticks ticks))) (sym ev) (subst (λ z. RecordsAreKept (take l.events events) z (take l.paths (take m.paths records)) (take l.ticks (take m.ticks ticks))) (sym cs) (subst (λ z. RecordsAreKept (take l.events events) (cut_to l.cells c) z (take l.ticks (take m.ticks ticks))) (sym rs) (subst (RecordsAreKept (take l.events events) (cut_to l.cells c) (take l.paths records)) (sym ts) g.kept)));
           seen = ap paths_of rs ∙ g.seen ∙ sym (ap (take l.paths) at.seen ∙ take_low (paths_of records) l.paths m.paths r.paths);
         }

@@ -13,9 +13,9 @@ use Rattle.te_trail.specs.declared.store.Last.{Last}
 use Rattle.te_trail.specs.declared.store.Last.TheVariants.{Root, Left, Right, Sender, Receiver}
 use Rattle.te_trail.specs.Paths.{Path, planted, branched, sent, got, thread_of, depth_of, parent_of, IsAbove, OnOneLine}
 use Rattle.te_trail.specs.Clocks.{deeper, clock_of, Agree, IsSound}
-use Rattle.te_trail.specs.Ticks.{named, between, ticks_of, IsWithin, AreBeyond, AreRising, later, beside, merged, marked, Joins, Raises}
-use Rattle.te_trail.specs.Trails.{TellsWhether, IsThread, ClockAt, IsClock}
-use Rattle.te_trail.specs.Walks.{TellsParent, FitAt, AllFit, FittingFor, Misfit, AreLow, TellsFit}
+use Rattle.te_trail.specs.Ticks.{named, between, ticks_of, StretchIsWithin, AreBeyond, AreRising, later, beside, merged, marked, Joins, Raises}
+use Rattle.te_trail.specs.Trails.{TellsWhether, IsPathThread, ClockAt, IsClock}
+use Rattle.te_trail.specs.Walks.{TellsParent, FitAt, AllFit, FittingFor, Misfit, TicksAreLow, TellsFit}
 use Rattle.te_trail.specs.Records.{path_at, last_of, other_end, path_by, mate_of, paths_from, paths_of, is_sender, EndsAfter, EndsWhole, parent_number, HasParent, Fits, FitsAll}
 use Rattle.te_trail.proofs.Lines.{above_self, above_depth, above_thread, above_trans, above_same, above_both, above_line, line_flip, line_depth, ancestor, rests_move, rests_trans, above_rests, rests_made}
 use Rattle.te_trail.proofs.ClockLaws.{eq_same, eq_apart, differ, deeper_left, deeper_right, deeper_either, clock_thread, clock_in, clock_self, Agrees, agrees_by, agree_by, made_planted, made_branched, made_met, clock_top, past_line, agree_line}
@@ -88,7 +88,7 @@ pub record IsJoining (old now : List Tick) (a b : Stretch) (one two : Tick) (i j
 pub joining_start : (old now : List Tick) (a b : Stretch) (one two : Tick) (room : ℕ) → now ≡ old → length old + a.len + b.len ≤ room → IsJoining old now a b one two a.at b.at room
 joining_start old now a b one two room e h = record { built = []; is = e ∙ sym (append-nil old); all = refl; i_low = omega arith; j_low = omega arith; fits = omega arith; room_fits = h }
 
-pub joining_step : (old now : List Tick) (a b : Stretch) (one two : Tick) (i j room : ℕ) (t : Tick) (i2 j2 : ℕ) (new : List Tick) (room2 : ℕ) → IsWithin old a → IsWithin old b → IsJoining old now a b one two i j room
+pub joining_step : (old now : List Tick) (a b : Stretch) (one two : Tick) (i j room : ℕ) (t : Tick) (i2 j2 : ℕ) (new : List Tick) (room2 : ℕ) → StretchIsWithin old a → StretchIsWithin old b → IsJoining old now a b one two i j room
     → NextIs now i (a.at + a.len) j (b.at + b.len) t i2 j2 → i2 ≤ a.at + a.len → j2 ≤ b.at + b.len → i + j < i2 + j2 → i ≤ i2 → j ≤ j2 → new ≡ now ++ (marked one two t ∷ []) → room2 ≡ room → IsJoining old new a b one two i2 j2 room2
 joining_step old now a b one two i j room t i2 j2 new room2 wa wb g n h2 k2 on hi hj e er =
     let at : merged (between old i (a.at + a.len)) (between old j (b.at + b.len)) ≡ t ∷ merged (between old i2 (a.at + a.len)) (between old j2 (b.at + b.len)) =
@@ -146,7 +146,7 @@ between_snoc (x ∷ ts) (suc s) (suc i) d h k =
 pub raising_start : (old now : List Tick) (a : Stretch) (own : Tick) (room : ℕ) → now ≡ old → length old + a.len ≤ room → IsRaising old now a own a.at room
 raising_start old now a own room e h = record { is = e ∙ sym (append-nil old) ∙ ap (λ r. old ++ map (marked own own) r) (sym (between_done old a.at a.at (omega arith))); low = omega arith; room_fits = h }
 
-pub raising_step : (old now : List Tick) (a : Stretch) (own : Tick) (i room : ℕ) (d : Tick) (new : List Tick) (room2 : ℕ) → IsWithin old a → i < a.at + a.len → IsRaising old now a own i room → new ≡ now ++ (marked own own (get_or now i d) ∷ []) → room2 ≡ room → IsRaising old new a own (i + 1) room2
+pub raising_step : (old now : List Tick) (a : Stretch) (own : Tick) (i room : ℕ) (d : Tick) (new : List Tick) (room2 : ℕ) → StretchIsWithin old a → i < a.at + a.len → IsRaising old now a own i room → new ≡ now ++ (marked own own (get_or now i d) ∷ []) → room2 ≡ room → IsRaising old new a own (i + 1) room2
 raising_step old now a own i room d new room2 w h g e er =
     let low : i < length old = omega (arith, w, h) in
     let at : get_or now i d ≡ get_or old i d = ap (λ x. get_or x i d) g.is ∙ get_or-append old (map (marked own own) (between old a.at i)) d i low in
@@ -156,13 +156,13 @@ raising_step old now a own i room d new room2 w h g e er =
       room_fits = subst (λ r. length old + a.len ≤ r) (sym er) g.room_fits;
     }
 
-pub raising_room : (old now : List Tick) (a : Stretch) (own : Tick) (i room : ℕ) → IsWithin old a → i < a.at + a.len → IsRaising old now a own i room → (i < length now) × (length now < room)
+pub raising_room : (old now : List Tick) (a : Stretch) (own : Tick) (i room : ℕ) → StretchIsWithin old a → i < a.at + a.len → IsRaising old now a own i room → (i < length now) × (length now < room)
 raising_room old now a own i room w h g =
     let l : length now ≡ length old + length (map (marked own own) (between old a.at i)) = ap length g.is ∙ length-append old (map (marked own own) (between old a.at i)) in
     let m : length (map (marked own own) (between old a.at i)) ≡ i - a.at = length-map (between old a.at i) (marked own own) ∙ length_between old a.at i (omega (arith, w, h)) g.low in
     (omega (arith, l, w, h), omega (arith, l, m, h, g.low, g.room_fits))
 
-pub raising_end : (old now : List Tick) (a : Stretch) (own : Tick) (i room : ℕ) → IsWithin old a → IsRaising old now a own i room → i ≡ a.at + a.len → (n : ℕ) → n ≡ length old → Raises old now a own (record { at = n; len = a.len })
+pub raising_end : (old now : List Tick) (a : Stretch) (own : Tick) (i room : ℕ) → StretchIsWithin old a → IsRaising old now a own i room → i ≡ a.at + a.len → (n : ℕ) → n ≡ length old → Raises old now a own (record { at = n; len = a.len })
 raising_end old now a own i room w g e n en = record {
   appended = g.is ∙ ap (λ k. old ++ map (marked own own) (between old a.at k)) e;
   at = en;

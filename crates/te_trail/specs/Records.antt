@@ -16,10 +16,10 @@ use Rattle.te_trail.specs.declared.store.PathRecord.{PathRecord}
 use Rattle.te_trail.specs.declared.store.StoreMark.{StoreMark}
 use Rattle.te_trail.specs.declared.store.Last.{Last}
 use Rattle.te_trail.specs.declared.store.Last.TheVariants.{Root, Left, Right, Sender, Receiver}
-use Rattle.te_trail.specs.Ticks.{named, ticks_of, IsWithin, AreRising}
+use Rattle.te_trail.specs.Ticks.{named, ticks_of, StretchIsWithin, AreRising}
 use Rattle.te_trail.specs.Paths.{Path, planted, branched, sent, got, thread_of, parent_of}
 use Rattle.te_trail.specs.Clocks.{IsSound}
-use Rattle.te_trail.specs.States.{Ends, met, state_of}
+use Rattle.te_trail.specs.States.{MovedEnds, members_met, path_state}
 use Rattle.te_trail.specs.Stores.{AreMade}
 use Rattle.te_trail.specs.Trails.{Mark, ClockAt, FaceEachOther}
 
@@ -34,7 +34,7 @@ member_of_event e = member_at (origin_at e) 0 (closed e.regs (term_under e.code.
 abbrev pub members_of : List Planned → List Member
 members_of events = map member_of_event events
 
-pub record AreEvents (events : List Planned) : Type 0 where
+pub record ArePlannedEvents (events : List Planned) : Type 0 where
   pub rooted : (i : ℕ) (e : Planned) → slice_get events i ≡ Some e → e.root < length e.code.value
   pub once : (i j : ℕ) (e f : Planned) → slice_get events i ≡ Some e → slice_get events j ≡ Some f → e.thread ≡ f.thread → i ≡ j
 
@@ -116,51 +116,51 @@ pub record Fits (paths : List Path) (ticks : List Tick) (k : ℕ) (n : PathRecor
   pub up : HasParent paths k x (parent_number n.last n.parent)
   pub thread : thread_of x ≡ n.thread
   pub sound : IsSound x
-  pub within : IsWithin ticks n.clock
+  pub within : StretchIsWithin ticks n.clock
   pub rising : AreRising (ticks_of ticks n.clock)
   pub clock : (t : ℕ) → ClockAt paths x t (named t (ticks_of ticks n.clock))
 
 -- a spot of the event at a place spells this member
-pub record Spells (events : List Planned) (cells : Cells) (place : ℕ) (spot : Spot) (m : Member) : Type 0 where
+pub record SpotSpells (events : List Planned) (cells : Cells) (place : ℕ) (spot : Spot) (m : Member) : Type 0 where
   pub event : Planned
   pub is_event : slice_get events place ≡ Some event
   pub is_spot : IsSpot (origin_at event) cells spot
   pub spells : spelled (origin_at event) cells spot ≡ m
 
 -- the record's spot spells the path's state
-pub record Stands (events : List Planned) (cells : Cells) (n : PathRecord) (x : Path) : Type 0 where
+pub record RecordStands (events : List Planned) (cells : Cells) (n : PathRecord) (x : Path) : Type 0 where
   pub member : Member
-  pub state : state_of (members_of events) x ≡ Some member
-  pub spot : Spells events cells n.event n.spot member
+  pub state : path_state (members_of events) x ≡ Some member
+  pub spot : SpotSpells events cells n.event n.spot member
 
 pub record FitsAll (records : List PathRecord) (ticks : List Tick) : Type 0 where
   pub shut : EndsWhole records
   pub fits : (k : ℕ) (n : PathRecord) (x : Path) → slice_get records k ≡ Some n → slice_get (paths_of records) k ≡ Some x → Fits (paths_of records) ticks k n x
   pub once : (i j : ℕ) (x : Path) → slice_get (paths_of records) i ≡ Some x → slice_get (paths_of records) j ≡ Some x → i ≡ j
 
-pub record IsKept (events : List Planned) (cells : Cells) (records : List PathRecord) (ticks : List Tick) : Type 0 where
+pub record RecordsAreKept (events : List Planned) (cells : Cells) (records : List PathRecord) (ticks : List Tick) : Type 0 where
   pub fit : FitsAll records ticks
   pub made : AreMade [] (paths_of records)
   pub pairs : (i : ℕ) (s r : Path) → slice_get (paths_of records) i ≡ Some (sent s r) → slice_get (paths_of records) (suc i) ≡ Some (got s r)
-  pub stands : (k : ℕ) (n : PathRecord) (x : Path) → slice_get records k ≡ Some n → slice_get (paths_of records) k ≡ Some x → Stands events cells n x
-  pub events_are : AreEvents events
+  pub stands : (k : ℕ) (n : PathRecord) (x : Path) → slice_get records k ≡ Some n → slice_get (paths_of records) k ≡ Some x → RecordStands events cells n x
+  pub events_are : ArePlannedEvents events
   pub linked : AreLinked cells
 
 -- ---- moves of spots
 
 -- the spots stand at a send and a receive on one channel
 abbrev pub SpotsFace : List Planned → Cells → ℕ → Spot → ℕ → Spot → Type 0
-SpotsFace events cells i s j r = (a b : Member) → Spells events cells i s a → Spells events cells j r b → FaceEachOther a b
+SpotsFace events cells i s j r = (a b : Member) → SpotSpells events cells i s a → SpotSpells events cells j r b → FaceEachOther a b
 
 -- what the meeting leaves of both
 pub record BothMet (events : List Planned) (cells : Cells) (i : ℕ) (s : Spot) (j : ℕ) (r : Spot) (a b : Member) : Type 0 where
-  pub ends : Ends
-  pub meeting : met a b ≡ Some ends
-  pub sender : Spells events cells i s (settled ends.sender)
-  pub receiver : Spells events cells j r (settled ends.receiver)
+  pub ends : MovedEnds
+  pub meeting : members_met a b ≡ Some ends
+  pub sender : SpotSpells events cells i s (settled ends.sender)
+  pub receiver : SpotSpells events cells j r (settled ends.receiver)
 
 abbrev pub SpotsMeet : List Planned → Cells → Cells → ℕ → Spot → Spot → ℕ → Spot → Spot → Type 0
-SpotsMeet events old new i s s2 j r r2 = (a b : Member) → Spells events old i s a → Spells events old j r b → BothMet events new i s2 j r2 a b
+SpotsMeet events old new i s s2 j r r2 = (a b : Member) → SpotSpells events old i s a → SpotSpells events old j r b → BothMet events new i s2 j r2 a b
 
 -- ---- marks
 
@@ -174,7 +174,7 @@ pub record IsMarked (events : List Planned) (cells : Cells) (records : List Path
   pub ticks_low : m.ticks ≤ length ticks
   pub of_cells : IsMarkOf (cut_to m.cells cells) m.cells
   pub grown : Grows (cut_to m.cells cells) cells
-  pub kept : IsKept (take m.events events) (cut_to m.cells cells) (take m.paths records) (take m.ticks ticks)
+  pub kept : RecordsAreKept (take m.events events) (cut_to m.cells cells) (take m.paths records) (take m.ticks ticks)
   pub seen : paths_of (take m.paths records) ≡ take m.paths (paths_of records)
 
 -- the first mark is no later than the second
@@ -184,8 +184,8 @@ pub record IsEarlier (cells : Cells) (m l : StoreMark) : Type 0 where
   pub ticks : m.ticks ≤ l.ticks
   pub of_cells : Grows (cut_to m.cells cells) (cut_to l.cells cells)
 
-pub record IsWhole (events : List Planned) (cells : Cells) (records : List PathRecord) (ticks : List Tick) (marks : List StoreMark) : Type 0 where
-  pub kept : IsKept events cells records ticks
+pub record StoreIsWhole (events : List Planned) (cells : Cells) (records : List PathRecord) (ticks : List Tick) (marks : List StoreMark) : Type 0 where
+  pub kept : RecordsAreKept events cells records ticks
   pub few : length records < 4294967296
   pub marked : (i : ℕ) (m : StoreMark) → slice_get marks i ≡ Some m → IsMarked events cells records ticks m
   pub rising : (i j : ℕ) (m l : StoreMark) → slice_get marks i ≡ Some m → slice_get marks j ≡ Some l → i ≤ j → IsEarlier cells m l

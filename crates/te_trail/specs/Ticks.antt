@@ -15,8 +15,8 @@ between ticks i e = take (e - i) (drop i ticks)
 abbrev pub ticks_of : List Tick → Stretch → List Tick
 ticks_of ticks c = between ticks c.at (c.at + c.len)
 
-abbrev pub IsWithin : List Tick → Stretch → Type 0
-IsWithin ticks c = c.at + c.len ≤ length ticks
+abbrev pub StretchIsWithin : List Tick → Stretch → Type 0
+StretchIsWithin ticks c = c.at + c.len ≤ length ticks
 
 -- the threads are above t
 abbrev pub AreBeyond : ℕ → List Tick → Type 0

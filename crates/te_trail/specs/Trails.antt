@@ -8,7 +8,7 @@ use Rattle.te_trail.specs.declared.moves.Move.{Move}
 use Rattle.te_trail.specs.declared.moves.Move.TheVariants as moves
 use Rattle.te_trail.specs.Paths.{Path, planted, branched, sent, got, thread_of}
 use Rattle.te_trail.specs.Clocks.{clock_of, Agree}
-use Rattle.te_trail.specs.States.{state_of}
+use Rattle.te_trail.specs.States.{path_state}
 use Rattle.te_trail.specs.Stores.{Holds, trail_of}
 use Rattle.te_trail.specs.Views.{Chain, ChainOfBoth}
 
@@ -37,8 +37,8 @@ TellsWhether paths p q R answer = (x y : Path) → slice_get paths p ≡ Some x 
 abbrev pub HaveOneChain : List Member → Path → Path → Type 0
 HaveOneChain g x y = (thread_of x ≢ thread_of y) × ChainOfBoth g x y
 
-abbrev pub IsThread : List Path → ℕ → ℕ → Type 0
-IsThread paths p t = (x : Path) → slice_get paths p ≡ Some x → thread_of x ≡ t
+abbrev pub IsPathThread : List Path → ℕ → ℕ → Type 0
+IsPathThread paths p t = (x : Path) → slice_get paths p ≡ Some x → thread_of x ≡ t
 
 -- the number of the path that the clock of x names for the thread
 abbrev pub ClockAt : List Path → Path → ℕ → Option ℕ → Type 0
@@ -53,7 +53,7 @@ pub record IsLeft (g : List Member) (paths : List Path) (x : Path) (m : Member) 
   pub chain : Chain g (trail_of paths x)
   pub left : member_of (thread_of x) chain.end ≡ Some m
   pub settled : IsSettled m
-  pub state : state_of g x ≡ Some m
+  pub state : path_state g x ≡ Some m
 
 -- where the state of path p stands
 abbrev pub IsStop : Trail → ℕ → Stop → Type 0
@@ -81,7 +81,7 @@ abbrev pub IsPlanted : Trail → ℕ → Trail → Type 0
 IsPlanted old i new = (m : Member) → slice_get old.events i ≡ Some m → new ≡ with_paths old (planted m.thread ∷ [])
 
 abbrev pub IsAtChoice : Trail → ℕ → Type 0
-IsAtChoice store p = (x : Path) (m : Member) → slice_get store.paths p ≡ Some x → state_of store.events x ≡ Some m → IsChoice m.term
+IsAtChoice store p = (x : Path) (m : Member) → slice_get store.paths p ≡ Some x → path_state store.events x ≡ Some m → IsChoice m.term
 
 abbrev pub IsUnmade : Trail → ℕ → Bool → Type 0
 IsUnmade store p left = (x : Path) → slice_get store.paths p ≡ Some x → ¬ Holds store.paths (branched x left)
@@ -95,8 +95,8 @@ pub record FaceEachOther (a b : Member) : Type 0 where
   pub sends : sending a.term ≡ Some message
   pub receives : receiving b.term ≡ Some message.channel
 
-abbrev pub AreEnds : Trail → ℕ → ℕ → Type 0
-AreEnds store p q = (x y : Path) (a b : Member) → slice_get store.paths p ≡ Some x → slice_get store.paths q ≡ Some y → state_of store.events x ≡ Some a → state_of store.events y ≡ Some b → FaceEachOther a b
+abbrev pub AreMeetingEnds : Trail → ℕ → ℕ → Type 0
+AreMeetingEnds store p q = (x y : Path) (a b : Member) → slice_get store.paths p ≡ Some x → slice_get store.paths q ≡ Some y → path_state store.events x ≡ Some a → path_state store.events y ≡ Some b → FaceEachOther a b
 
 abbrev pub AreAgreeing : Trail → ℕ → ℕ → Type 0
 AreAgreeing store p q = (x y : Path) → slice_get store.paths p ≡ Some x → slice_get store.paths q ≡ Some y → Agree x y

@@ -4,7 +4,7 @@ use Rattle.te_terms.specs.declared.event.Outcome.{Outcome}
 use Rattle.te_terms.specs.Steps.{Member, outcome_of}
 use Rattle.te_terms.specs.Joint.{Label, choice, meeting, Action, labels, after, member_of}
 use Rattle.te_trail.specs.Paths.{Path, thread_of, own_labels, move_of, RestsOn}
-use Rattle.te_trail.specs.States.{state_of}
+use Rattle.te_trail.specs.States.{path_state}
 
 -- a chain of joint steps with these labels
 pub record Chain (g : List Member) (word : List Label) : Type 0 where
@@ -37,7 +37,7 @@ HasPast p word = (z : Path) → RestsOn (move_of z) p → Begins (own_labels z) 
 -- the thread of p has made the moves of p and no others, and stands at its member
 pub record LeavesAt (g : List Member) (word : List Label) (end : List Member) (p : Path) : Type 0 where
   pub moves : view_of (thread_of p) word ≡ own_labels p
-  pub member : member_of (thread_of p) end ≡ state_of g p
+  pub member : member_of (thread_of p) end ≡ path_state g p
 
 -- one chain of joint steps has both pasts, and leaves both threads at p and q
 pub record ChainOfBoth (g : List Member) (p q : Path) : Type 0 where
@@ -55,8 +55,8 @@ pub record Name : Type 0 where
   pub thread : ℕ
   pub views : List (List Label)
 
-abbrev pub name_of : List Member → ℕ → List Label → Name
-name_of g t word = record { thread = t; views = map (λ m. view_of m.thread word) g }
+abbrev pub path_name_of : List Member → ℕ → List Label → Name
+path_name_of g t word = record { thread = t; views = map (λ m. view_of m.thread word) g }
 
 -- a member, and the views of a chain from all events
 pub record IsPathName (g : List Member) (name : Name) : Type 0 where
@@ -64,7 +64,7 @@ pub record IsPathName (g : List Member) (name : Name) : Type 0 where
   pub chain : Chain g word
   pub member : Member
   pub is_member : member_of name.thread g ≡ Some member
-  pub views : name ≡ name_of g name.thread word
+  pub views : name ≡ path_name_of g name.thread word
 
 -- with the member final in the end
 pub record IsGroupName (g : List Member) (name : Name) : Type 0 where
@@ -74,4 +74,4 @@ pub record IsGroupName (g : List Member) (name : Name) : Type 0 where
   pub is_member : member_of name.thread chain.end ≡ Some member
   pub outcome : Outcome
   pub is_final : outcome_of member.term ≡ Some outcome
-  pub views : name ≡ name_of g name.thread word
+  pub views : name ≡ path_name_of g name.thread word

@@ -36,8 +36,8 @@ pub record Misfit (paths : List Path) (s r : ℕ) (ks js : List Tick) : Type 0 w
   pub tells : TellsWhether paths first second (FitAt (nat_eq of s) (nat_eq of r)) false
 
 -- the ticks name paths of the store
-abbrev pub AreLow : List Path → List Tick → Type 0
-AreLow paths ks = (t m : ℕ) → named t ks ≡ Some m → m < length paths
+abbrev pub TicksAreLow : List Path → List Tick → Type 0
+TicksAreLow paths ks = (t m : ℕ) → named t ks ≡ Some m → m < length paths
 
 abbrev pub TellsFit : List Path → ℕ → ℕ → List Tick → List Tick → Bool → Type 0
 TellsFit paths s r ks js answer = MatchBool answer (AllFit (FittingFor paths s r) ks js) (Misfit paths s r ks js)

@@ -7,7 +7,7 @@ ghost use Rattle.te_terms.specs.Joint.{Label, member_of};
 ghost use Rattle.te_trail.specs.Paths.{Path, thread_of, own_labels};
 ghost use Rattle.te_trail.specs.Clocks.{IsSound};
 ghost use Rattle.te_trail.specs.Stores.{Holds, IsStore, trail_of, joint_trail};
-ghost use Rattle.te_trail.specs.Views.{HasPast, name_of, IsPathName};
+ghost use Rattle.te_trail.specs.Views.{HasPast, path_name_of, IsPathName};
 ghost use Rattle.te_trail.specs.Together.{ChainOfAll, AllAgree, AreAmong, NamesDeepest};
 
 /// Agreeing paths of a store have one chain of joint steps: the choices and meetings of their pasts, in order of making,
@@ -28,6 +28,6 @@ pub fn clocks_name_the_deepest()
 #[doc(hidden)]
 pub fn paths_have_names()
     ensures own { (g : List Member) (paths : List Path) (p q : Path) (word : List Label) → IsStore g paths → Holds paths p → Holds paths q → HasPast p word → HasPast q word → thread_of p ≡ thread_of q → own_labels p ≡ own_labels q → p ≡ q }
-    ensures name { (g : List Member) (paths : List Path) (p : Path) (m : Member) → IsStore g paths → Holds paths p → member_of (thread_of p) g ≡ Some m → IsPathName g (name_of g (thread_of p) (trail_of paths p)) }
-    ensures apart { (g : List Member) (paths : List Path) (p q : Path) → IsStore g paths → Holds paths p → Holds paths q → name_of g (thread_of p) (trail_of paths p) ≡ name_of g (thread_of q) (trail_of paths q) → p ≡ q }
+    ensures name { (g : List Member) (paths : List Path) (p : Path) (m : Member) → IsStore g paths → Holds paths p → member_of (thread_of p) g ≡ Some m → IsPathName g (path_name_of g (thread_of p) (trail_of paths p)) }
+    ensures apart { (g : List Member) (paths : List Path) (p q : Path) → IsStore g paths → Holds paths p → Holds paths q → path_name_of g (thread_of p) (trail_of paths p) ≡ path_name_of g (thread_of q) (trail_of paths q) → p ≡ q }
 {}

@@ -4,8 +4,8 @@ ghost use Rattle.std.specs.Prelude.{◌≡◌, ◌<◌, ◌+◌, length, IfOk, O
 ghost use Rattle.te_trail.specs.declared.store.Last.TheVariants as lasts;
 ghost use Rattle.te_terms.specs.Steps.{Member};
 ghost use Rattle.te_path.specs.Growth.{Grows};
-ghost use Rattle.te_trail.specs.Records.{Spells, SpotsFace, SpotsMeet};
-ghost use Rattle.te_trail.specs.Trails.{IsUnplanted, IsPlanted, IsAtChoice, IsUnmade, IsBranched, AreEnds, AreAgreeing, AreUnmet, HaveMet};
+ghost use Rattle.te_trail.specs.Records.{SpotSpells, SpotsFace, SpotsMeet};
+ghost use Rattle.te_trail.specs.Trails.{IsUnplanted, IsPlanted, IsAtChoice, IsUnmade, IsBranched, AreMeetingEnds, AreAgreeing, AreUnmet, HaveMet};
 
 use crate::planned::Planned;
 use crate::store::{Last, PathRecord, TrailStore};
@@ -98,7 +98,7 @@ impl TrailStore {
     pub fn meet(&mut self, p: u32, q: u32) -> Result<(u32, u32), NoMemory>
         requires sender { p < length self.old.paths }
         requires receiver { q < length self.old.paths }
-        requires stand { AreEnds self.old p q }
+        requires stand { AreMeetingEnds self.old p q }
         requires agree { AreAgreeing self.old p q }
         requires unmet { AreUnmet self.old p q }
         requires room { length self.old.paths < 2147483648 }
@@ -149,8 +149,8 @@ fn hand_over(
     sender: &PathRecord,
     receiver: &PathRecord,
 ) -> Result<(Spot, Spot), NoMemory>
-    requires sender { (a : Member) × Spells events.now cells.old sender.now.event sender.now.spot a }
-    requires receiver { (b : Member) × Spells events.now cells.old receiver.now.event receiver.now.spot b }
+    requires sender { (a : Member) × SpotSpells events.now cells.old sender.now.event sender.now.spot a }
+    requires receiver { (b : Member) × SpotSpells events.now cells.old receiver.now.event receiver.now.spot b }
     requires face { SpotsFace events.now cells.old sender.now.event sender.now.spot receiver.now.event receiver.now.spot }
     ensures grows { Grows cells.old cells.new }
     ensures met { IfOk result (λ spots. SpotsMeet events.now cells.old cells.new sender.now.event sender.now.spot spots.0 receiver.now.event receiver.now.spot spots.1) }

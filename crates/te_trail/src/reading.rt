@@ -6,10 +6,10 @@ ghost use Rattle.te_path.specs.declared.spot.Stop.{Stop};
 ghost use Rattle.te_terms.specs.Steps.{Member};
 ghost use Rattle.te_trail.specs.Paths.{Path, IsAbove, OnOneLine};
 ghost use Rattle.te_trail.specs.Clocks.{Agree};
-ghost use Rattle.te_trail.specs.States.{state_of};
+ghost use Rattle.te_trail.specs.States.{path_state};
 ghost use Rattle.te_trail.specs.Ticks.{AreRising};
-ghost use Rattle.te_trail.specs.Trails.{TellsWhether, HaveOneChain, IsThread, IsClock, IsStop};
-ghost use Rattle.te_trail.specs.Walks.{TellsParent, FitAt, AreLow, TellsFit};
+ghost use Rattle.te_trail.specs.Trails.{TellsWhether, HaveOneChain, IsPathThread, IsClock, IsStop};
+ghost use Rattle.te_trail.specs.Walks.{TellsParent, FitAt, TicksAreLow, TellsFit};
 
 use crate::store::{Last, TrailStore};
 use crate::ticks::{Tick, path_of};
@@ -20,7 +20,7 @@ impl TrailStore {
     /// The thread of a path.
     pub fn thread(&self, p: u32) -> u32
         requires { p < length self.now.paths }
-        ensures { IsThread self.now.paths p result }
+        ensures { IsPathThread self.now.paths p result }
     {
         self.records[p as usize].thread
     }
@@ -30,7 +30,7 @@ impl TrailStore {
     pub fn stop(&self, p: u32) -> Stop
         requires { p < length self.now.paths }
         ensures told { IsStop self.now p result }
-        ensures only { (x : Path) (m : Member) (stop : Stop) → slice_get self.now.paths p ≡ Some x → state_of self.now.events x ≡ Some m → StandsAt m.term stop → result ≡ stop }
+        ensures only { (x : Path) (m : Member) (stop : Stop) → slice_get self.now.paths p ≡ Some x → path_state self.now.events x ≡ Some m → StandsAt m.term stop → result ≡ stop }
     {
         self.records[p as usize].spot.stop()
     }
@@ -132,8 +132,8 @@ impl TrailStore {
     fn all_fit(&self, firsts: &[Tick], seconds: &[Tick], s: u32, r: u32) -> bool
         requires firsts_rise { AreRising firsts.now }
         requires seconds_rise { AreRising seconds.now }
-        requires firsts_low { AreLow self.now.paths firsts.now }
-        requires seconds_low { AreLow self.now.paths seconds.now }
+        requires firsts_low { TicksAreLow self.now.paths firsts.now }
+        requires seconds_low { TicksAreLow self.now.paths seconds.now }
         ensures { TellsFit self.now.paths s r firsts.now seconds.now result }
     {
         let mut i = 0;

@@ -64,11 +64,11 @@ impl Model for TrailStore {
 
     ghost coded = { coded_trail };
 
-    ghost use Rattle.te_trail.specs.Records.{members_of, paths_of, mark_seen, IsWhole};
+    ghost use Rattle.te_trail.specs.Records.{members_of, paths_of, mark_seen, StoreIsWhole};
 
     ghost view = { λ s. record { events = members_of s.events.items; paths = paths_of s.records.items; marks = map mark_seen s.marks.items } };
 
-    ghost invariant = { λ s. IsWhole s.events.items s.cells s.records.items s.ticks.items s.marks.items };
+    ghost invariant = { λ s. StoreIsWhole s.events.items s.cells s.records.items s.ticks.items s.marks.items };
 }
 
 #[tactic(auto, using(crate::proofs::RecordsRead::length_paths))]

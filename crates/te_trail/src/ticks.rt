@@ -2,7 +2,7 @@
 // the two ends of a meeting share theirs.
 
 ghost use Rattle.std.specs.Prelude.{◌≡◌, ◌≤◌, ◌<◌, ◌+◌, length, map, ◌∷◌, OnErr, IfOk, vec_len};
-ghost use Rattle.te_trail.specs.Ticks.{named, between, merged, marked, Joins, Raises, IsWithin};
+ghost use Rattle.te_trail.specs.Ticks.{named, between, merged, marked, Joins, Raises, StretchIsWithin};
 
 use te_terms::NoMemory;
 
@@ -121,8 +121,8 @@ pub(crate) fn join(
     one: Tick,
     two: Tick,
 ) -> Result<Stretch, NoMemory>
-    requires a_within { IsWithin ticks.old.items a }
-    requires b_within { IsWithin ticks.old.items b }
+    requires a_within { StretchIsWithin ticks.old.items a }
+    requires b_within { StretchIsWithin ticks.old.items b }
     ensures joined { IfOk result (Joins ticks.old.items ticks.new.items a b one two) }
     ensures same { OnErr result (ticks.new.items ≡ ticks.old.items) }
 {
@@ -152,7 +152,7 @@ pub(crate) fn join(
 
 /// Puts a copy of the clock behind the others, with the path of `own`.
 pub(crate) fn raise(ticks: &mut Vec<Tick>, a: Stretch, own: Tick) -> Result<Stretch, NoMemory>
-    requires { IsWithin ticks.old.items a }
+    requires { StretchIsWithin ticks.old.items a }
     ensures raised { IfOk result (Raises ticks.old.items ticks.new.items a own) }
     ensures same { OnErr result (ticks.new.items ≡ ticks.old.items) }
 {

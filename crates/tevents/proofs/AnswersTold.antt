@@ -10,9 +10,9 @@ use Rattle.te_history.specs.declared.entry.Entry.{Entry}
 use Rattle.tevents.specs.declared.task.Task.{Task}
 use Rattle.tevents.specs.declared.task.Task.TheVariants as tasks
 use Rattle.te_report.specs.Report.{second, IsReport}
-use Rattle.tevents.specs.SerialRuns.{EndsSo, IsRunReport, IsStatusAt}
+use Rattle.tevents.specs.SerialRuns.{RunEndsSo, IsRunReport, IsStatusAt}
 use Rattle.tevents.specs.Headline.{IsHeadline}
-use Rattle.tevents.specs.Causes.{IsOf, IsFault, Tells, IsAnswer, IsDone, HasStopped, IsTold, IsReadWhole, IsSilent, IsScriptText, IsStatus, IsPrinted}
+use Rattle.tevents.specs.Causes.{IsOf, ReportsFault, Tells, IsAnswer, IsDone, HasStopped, IsTold, IsReadWhole, IsSilent, IsScriptText, IsStatus, IsPrinted}
 use Rattle.tevents.specs.FaultLines.{fault_line}
 use Rattle.te_reader.specs.declared.fault.ScriptFault.{ScriptFault}
 use Rattle.te_reader.specs.Places.{HasFault, StandsIn, place_in, place_behind, fault_from}
@@ -134,7 +134,7 @@ headline_of_run budget read written status script text told done = by told.endin
       script = script;
       history = told.history;
       text = text;
-      run = subst (λ (e : Ending). EndsSo budget script told.history e) is told.run;
+      run = subst (λ (e : Ending). RunEndsSo budget script told.history e) is told.run;
       report = subst (λ (e : Ending). IsReport second script told.history e written) is told.report;
       status_of = subst (λ (e : Ending). IsStatusAt told.history e status) is told.status_is;
     }

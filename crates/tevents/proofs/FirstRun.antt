@@ -16,7 +16,7 @@ use Rattle.te_report.specs.declared.ending.Ending.TheVariants as endings
 use Rattle.te_search.specs.Findings.{IsUsedUp}
 use Rattle.te_serial.specs.Rounds.{IsInRounds}
 use Rattle.te_serial.specs.Finishing.{LacksRoom}
-use Rattle.tevents.specs.SerialRuns.{IsStopped, EndsSo}
+use Rattle.tevents.specs.SerialRuns.{IsStopped, RunEndsSo}
 use Rattle.te_serial.specs.Houses.{texts_of, IsHouse, Continues, MayAppend, CommitsTightly}
 
 abbrev pub fresh_cores : List Thread → List At
@@ -83,7 +83,7 @@ module _ (budget : ℕ) (script : Program) (board : BoardLog) (cores : List At) 
   stopped : IsStopped script board.entries
   stopped = record { legal = legal_so; of_script = is.wished; each = is.each; few = few }
 
-  pub closes : IsWhole board.callers board.entries → IsInRounds board.callers board.entries → EndsSo budget script board.entries endings.Closed
+  pub closes : IsWhole board.callers board.entries → IsInRounds board.callers board.entries → RunEndsSo budget script board.entries endings.Closed
   closes whole rounds = record {
     legal = legal_so;
     of_script = is.wished;
@@ -93,8 +93,8 @@ module _ (budget : ℕ) (script : Program) (board : BoardLog) (cores : List At) 
     few = few;
   }
 
-  pub fills : LacksRoom board (texts_of cores) → EndsSo budget script board.entries endings.Full
+  pub fills : LacksRoom board (texts_of cores) → RunEndsSo budget script board.entries endings.Full
   fills lacks = (stopped, subst (λ (ts : List Thread). LacksRoom (record { callers = length script.threads; entries = board.entries }) ts) is.texts (subst (λ (n : ℕ). LacksRoom (record { callers = n; entries = board.entries }) (texts_of cores)) is.callers lacks))
 
-  pub spends : (front paths groups : ℕ) → front ≡ length board.entries → IsUsedUp (parked_list (state board.callers board.entries)) budget paths groups → EndsSo budget script board.entries (endings.Spent front paths groups)
+  pub spends : (front paths groups : ℕ) → front ≡ length board.entries → IsUsedUp (parked_list (state board.callers board.entries)) budget paths groups → RunEndsSo budget script board.entries (endings.Spent front paths groups)
   spends front paths groups at used = (stopped, at, subst (λ (n : ℕ). IsUsedUp (parked_list (state n board.entries)) budget paths groups) is.callers used)

@@ -29,7 +29,7 @@ use Rattle.te_report.proofs.Followed.{some_thread}
 use Rattle.te_serial.specs.Finishing.{LacksRoom}
 use Rattle.te_report.specs.declared.ending.Ending.{Ending}
 use Rattle.te_report.specs.declared.ending.Ending.TheVariants as endings
-use Rattle.tevents.specs.SerialRuns.{IsStopped, EndsSo}
+use Rattle.tevents.specs.SerialRuns.{IsStopped, RunEndsSo}
 use Rattle.tevents.specs.Repeats.{HasNoRepeat, HasNoRepeats}
 use Rattle.tevents.proofs.PostsCounted.{syncs_in, wish_within, syncs_within, sum_posts, sum_other, sum_post, sum_fewer, not_by, is_by, eq_self, same_or_apart}
 
@@ -349,5 +349,5 @@ never_full p is plain history stopped lacks = omega (arith, lacks.full, c.room, 
     sum = sum_fewer 1024 n lacks.by history by_within few_posts less
 
 -- a run without repeats doesn't end so
-pub has_room : (budget : ℕ) (p : Program) → IsProgram p → (history : List Entry) (ending : Ending) → EndsSo budget p history ending → HasNoRepeats p → ending ≢ endings.Full
-has_room budget p is history ending run plain full = let stopped = subst (λ (e : Ending). EndsSo budget p history e) full run in never_full p is plain history stopped.0 stopped.1
+pub has_room : (budget : ℕ) (p : Program) → IsProgram p → (history : List Entry) (ending : Ending) → RunEndsSo budget p history ending → HasNoRepeats p → ending ≢ endings.Full
+has_room budget p is history ending run plain full = let stopped = subst (λ (e : Ending). RunEndsSo budget p history e) full run in never_full p is plain history stopped.0 stopped.1

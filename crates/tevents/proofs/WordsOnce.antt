@@ -5,14 +5,14 @@ use Rattle.clap.specs.Words.{Text}
 use Rattle.tevents.specs.declared.words.Words.{Words}
 use Rattle.tevents.specs.declared.words.Mode.{Mode}
 use Rattle.tevents.specs.declared.words.Mode.TheVariants as modes
-use Rattle.tevents.specs.Words.{name_of, HasNumber, Says, AreRefused}
+use Rattle.tevents.specs.Words.{mode_name, HasNumber, Says, AreRefused}
 use Rattle.tevents.specs.Causes.{IsSerialAnswer, IsPrintAnswer, AnswersIn, Answers}
 use Rattle.tevents.specs.Summaries.{IsSummary}
 
-first_letter : (m n : Mode) → name_of m ≡ name_of n → slice_index (name_of m) 0 ≡ slice_index (name_of n) 0
+first_letter : (m n : Mode) → mode_name m ≡ mode_name n → slice_index (mode_name m) 0 ≡ slice_index (mode_name n) 0
 first_letter m n e = ap (λ (t : Text). slice_index t 0) e
 
-mode_once : (m n : Mode) → name_of m ≡ name_of n → m ≡ n
+mode_once : (m n : Mode) → mode_name m ≡ mode_name n → m ≡ n
 mode_once modes.Serial modes.Serial e = refl
 mode_once modes.Serial modes.Print e = let bad : 115 ≡ 112 = first_letter modes.Serial modes.Print e in absurd (omega (arith, bad))
 mode_once modes.Serial modes.Gen e = let bad : 115 ≡ 103 = first_letter modes.Serial modes.Gen e in absurd (omega (arith, bad))
@@ -37,7 +37,7 @@ same_words w v m b n = ap (λ (x : Mode). made x w.budget w.number) m ∙ ap (λ
 
 pub says_once : (words : List Text) (w v : Words) → Says words w → Says words v → w ≡ v
 says_once words w v a b =
-    same_words w v (mode_once w.mode v.mode (some_once (name_of w.mode) (name_of v.mode) (sym a.mode_is ∙ b.mode_is)))
+    same_words w v (mode_once w.mode v.mode (some_once (mode_name w.mode) (mode_name v.mode) (sym a.mode_is ∙ b.mode_is)))
     (number_once words (codes "budget") 1 1000000 w.budget v.budget a.budget_is b.budget_is)
     (number_once words (codes "number") 0 999 w.number v.number a.number_is b.number_is)
 

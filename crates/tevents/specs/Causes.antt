@@ -48,7 +48,7 @@ abbrev pub IsScriptText : List ℕ → Type 0
 IsScriptText read = (script : Program) × Text read script
 
 -- the bytes are no text of a script, and the line tells their fault
-pub record IsFault (read written : List ℕ) (status : ℕ) : Type 0 where
+pub record ReportsFault (read written : List ℕ) (status : ℕ) : Type 0 where
   pub no_script : ¬ IsScriptText read
   pub fault : ScriptFault
   pub stands : HasFault read fault
@@ -77,7 +77,7 @@ Tells tasks.Print = IsPrinted
 
 -- a text that a task may write at these bytes, and the status that it then has
 abbrev pub IsAnswer : Task → List ℕ → List ℕ → ℕ → Type 0
-IsAnswer task read written status = IsOf (Tells task) read written status ⊎ IsFault read written status
+IsAnswer task read written status = IsOf (Tells task) read written status ⊎ ReportsFault read written status
 
 abbrev pub IsSerialAnswer : ℕ → List ℕ → List ℕ → ℕ → Type 0
 IsSerialAnswer budget = IsAnswer (tasks.Run budget)

@@ -34,10 +34,10 @@ pub record IsStopped (script : Program) (history : List Entry) : Type 0 where
   pub few : length history ≤ 200000
 
 -- how a serial run ends by this budget: whole; for want of room for a post; or with a budget that is used up by the search of the list parked at its end
-abbrev pub EndsSo : ℕ → Program → List Entry → Ending → Type 0
-EndsSo budget script history endings.Closed = IsSerialRun script history
-EndsSo budget script history endings.Full = IsStopped script history × LacksRoom (record { callers = length script.threads; entries = history }) script.threads
-EndsSo budget script history (endings.Spent front paths groups) =
+abbrev pub RunEndsSo : ℕ → Program → List Entry → Ending → Type 0
+RunEndsSo budget script history endings.Closed = IsSerialRun script history
+RunEndsSo budget script history endings.Full = IsStopped script history × LacksRoom (record { callers = length script.threads; entries = history }) script.threads
+RunEndsSo budget script history (endings.Spent front paths groups) =
     IsStopped script history × (front ≡ length history) × IsUsedUp (parked_list (state (length script.threads) history)) budget paths groups
 
 -- 1 exactly where some thread ends stuck, else 0
@@ -54,7 +54,7 @@ IsStatusAt history (endings.Spent front paths groups) status = status ≡ 7
 pub record IsRunReport (budget : ℕ) (script : Program) (written : List ℕ) (status : ℕ) : Type 0 where
   pub history : List Entry
   pub ending : Ending
-  pub run : EndsSo budget script history ending
+  pub run : RunEndsSo budget script history ending
   pub room : HasNoRepeats script → ending ≢ endings.Full
   pub report : IsReport second script history ending written
   pub status_is : IsStatusAt history ending status

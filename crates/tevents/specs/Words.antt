@@ -38,10 +38,10 @@ program = with_rule (with_rule (with_rule (without_name (new_app (codes "tevents
 
 -- ---- what the words say
 
-abbrev pub name_of : Mode → Text
-name_of modes.Serial = codes "serial"
-name_of modes.Print = codes "print"
-name_of modes.Gen = codes "gen"
+abbrev pub mode_name : Mode → Text
+mode_name modes.Serial = codes "serial"
+mode_name modes.Print = codes "print"
+mode_name modes.Gen = codes "gen"
 
 -- the option has this number, of this range
 pub record HasNumber (words : List Text) (name : Text) (low high n : ℕ) : Type 0 where
@@ -54,13 +54,13 @@ pub record HasNumber (words : List Text) (name : Text) (low high n : ℕ) : Type
 -- the words are those of the command, and name this mode, this budget and this number
 pub record Says (words : List Text) (w : Words) : Type 0 where
   pub taken : fault_of program words ≡ []
-  pub mode_is : first_of (codes "mode") (matches_of program words) ≡ Some (name_of w.mode)
+  pub mode_is : first_of (codes "mode") (matches_of program words) ≡ Some (mode_name w.mode)
   pub budget_is : HasNumber words (codes "budget") 1 1000000 w.budget
   pub number_is : HasNumber words (codes "number") 0 999 w.number
 
 -- the words aren't those of the command, or the mode is none
 abbrev pub AreRefused : List Text → Type 0
-AreRefused words = (fault_of program words ≢ []) ⊎ ((m : Mode) → first_of (codes "mode") (matches_of program words) ≢ Some (name_of m))
+AreRefused words = (fault_of program words ≢ []) ⊎ ((m : Mode) → first_of (codes "mode") (matches_of program words) ≢ Some (mode_name m))
 
 -- ---- inner
 
@@ -81,6 +81,6 @@ abbrev pub Reads : ArgMatches → Text → ℕ → ℕ → ℕ → Type 0
 Reads m name low high n = (text : Text) × (one_text (found_of m) name ≡ Some text) × (n ≡ digits_value 10 (without_leading_plus text)) × (low ≤ n) × (n ≤ high)
 
 pub record IsSaid (m : ArgMatches) (w : Words) : Type 0 where
-  pub mode_is : first_value (found_of m) (codes "mode") ≡ Some (name_of w.mode)
+  pub mode_is : first_value (found_of m) (codes "mode") ≡ Some (mode_name w.mode)
   pub budget_is : Reads m (codes "budget") 1 1000000 w.budget
   pub number_is : Reads m (codes "number") 0 999 w.number

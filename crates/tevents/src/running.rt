@@ -2,7 +2,7 @@ ghost use Rattle.std.specs.Prelude.{◌≡◌, [], length, IfOk, map};
 ghost use Rattle.te_script.specs.Scripts.{IsProgram};
 ghost use Rattle.te_script.specs.Cores.{core_after};
 ghost use Rattle.te_search.specs.Findings.{IsBudget};
-ghost use Rattle.tevents.specs.SerialRuns.{EndsSo};
+ghost use Rattle.tevents.specs.SerialRuns.{RunEndsSo};
 
 use std::alloc::Global;
 use std::sync::Arc;
@@ -35,7 +35,7 @@ pub(crate) fn run_rounds(alloc: Global, script: &Script, budget: u64) -> Result<
     requires budget { IsBudget budget }
     requires program { IsProgram script.now }
     ensures callers { IfOk result (λ run. run.board.callers ≡ length script.now.threads) }
-    ensures ends { IfOk result (λ run. EndsSo budget script.now run.board.entries run.ending) }
+    ensures ends { IfOk result (λ run. RunEndsSo budget script.now run.board.entries run.ending) }
 {
     let mut cores = cores_of(alloc, script)?;
     let mut board = Board::new(alloc, cores.len() as u32)?;

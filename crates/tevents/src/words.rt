@@ -3,7 +3,7 @@ ghost use Rattle.std.specs.String.{string_bytes};
 ghost use Rattle.clap.specs.Words.{rule_of, app_of, IsParsedFrom, rows_of, matches_of, IsPlainArg, found_of, first_value};
 ghost use Rattle.clap.specs.Faults.{fault_of};
 ghost use Rattle.clap.specs.declared.parser.matches.ArgMatches.{ArgMatches};
-ghost use Rattle.tevents.specs.Words.{mode_rule, number_rule, name_of, program, IsNumberArgument, IsGiven, Reads, IsSaid, Says, AreRefused};
+ghost use Rattle.tevents.specs.Words.{mode_rule, number_rule, mode_name, program, IsNumberArgument, IsGiven, Reads, IsSaid, Says, AreRefused};
 ghost use Rattle.clap.specs.declared.builder.value_parser.ValueParser.TheVariants as vp;
 ghost use Rattle.tevents.specs.declared.words.WordFault.TheVariants as faults;
 
@@ -109,8 +109,8 @@ fn matches<'a>(alloc: Global, words: &'a [String]) -> Result<ArgMatches<'a>, Wor
 }
 
 fn mode_of(text: &str) -> Option<Mode>
-    ensures some { IfSome result (λ m. text.now ≡ name_of m) }
-    ensures none { result ≡ None → (m : Mode) → text.now ≢ name_of m }
+    ensures some { IfSome result (λ m. text.now ≡ mode_name m) }
+    ensures none { result ≡ None → (m : Mode) → text.now ≢ mode_name m }
 {
     match text {
         "serial" => Some(Mode::Serial),
@@ -133,7 +133,7 @@ fn said(matches: &ArgMatches<'_>) -> Option<Words>
     requires budget { IsGiven matches.now (codes "budget") 1 1000000 }
     requires number { IsGiven matches.now (codes "number") 0 999 }
     ensures some { IfSome result (IsSaid matches.now) }
-    ensures none { result ≡ None → (m : Mode) → first_value (found_of matches.now) (codes "mode") ≢ Some (name_of m) }
+    ensures none { result ≡ None → (m : Mode) → first_value (found_of matches.now) (codes "mode") ≢ Some (mode_name m) }
 {
     let mode = mode_of(matches.get_str("mode")?)?;
     let budget = number(matches, "budget", 1, 1_000_000)?;

@@ -1,5 +1,5 @@
 use Rattle.std.proofs.Common.{Bool, inr, refl, subst}
-use Rattle.te_cert.specs.Players.{of_group, entered, seat_of, value_at, Comes, handed}
+use Rattle.te_cert.specs.Players.{of_group, entered, seat_of, value_at, Comes, player_handed}
 use Rattle.te_cert.proofs.SeatsByPlace.{has_seat, seat_read, is_seat, seat_there, seated_stay, still_seated, went_on, lacked}
 use Rattle.te_cert.proofs.playing.go_on.Goals as goal
 
@@ -35,7 +35,7 @@ returns-in-Ok-true-clause-ok c =
     let end = seat_of c.hand.new.cells (entered c.entrant.result) c.hand.new.seat in
     went_on c.args.cells.now c.hand.new.cells (of_group c.args.group.now) c.args.seats.now c.args.i (entered c.entrant.result) c.index-seats-i.result
     (value_at c.args.end) c.requires.seated c.entrant.ensures.is here
-    c.hand.new.seat c.in-Ok-true.ensures.grows (subst (λ (done : Bool). Comes (handed (value_at c.args.end) start) done end) c.in-Ok-true.field-0-test c.in-Ok-true.ensures.comes)
+    c.hand.new.seat c.in-Ok-true.ensures.grows (subst (λ (done : Bool). Comes (player_handed (value_at c.args.end) start) done end) c.in-Ok-true.field-0-test c.in-Ok-true.ensures.comes)
 
 pub returns-in-Ok-false-clause-err : goal.returns-in-Ok-false-clause-err
 returns-in-Ok-false-clause-err c =
@@ -47,5 +47,5 @@ returns-in-Ok-false-clause-err c =
       refl,
       lacked c.args.cells.now c.hand.new.cells (of_group c.args.group.now) c.args.seats.now c.args.i (entered c.entrant.result) c.index-seats-i.result
           (value_at c.args.end) c.requires.seated c.entrant.ensures.is here
-          end (subst (λ (done : Bool). Comes (handed (value_at c.args.end) start) done end) c.in-Ok-false.field-0-test c.in-Ok-false.ensures.comes),
+          end (subst (λ (done : Bool). Comes (player_handed (value_at c.args.end) start) done end) c.in-Ok-false.field-0-test c.in-Ok-false.ensures.comes),
     )

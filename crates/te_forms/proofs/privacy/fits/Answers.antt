@@ -1,6 +1,6 @@
 use Rattle.std.proofs.Common.{◌↔◌, IsTrue, List, ap, sym, ◌∙◌, subst}
 use Rattle.te_terms.specs.declared.code.Node.{Node}
-use Rattle.te_forms.specs.Reading.{under}
+use Rattle.te_forms.specs.Reading.{replaced_under}
 use Rattle.te_terms.specs.Terms.{Term}
 use Rattle.te_forms.specs.Privacy.{TermAvoids}
 use Rattle.te_forms.proofs.NamesTold.{form_fits, other_fits}
@@ -14,4 +14,4 @@ pub returns-in-None : goal.returns-in-None
 returns-in-None c =
     other_fits c.args.ring.now c.len.ensures.ring c.args.event.now c.avoids_under.result c.in-None.ensures
     (subst (λ (t : Term). IsTrue c.avoids_under.result ↔ TermAvoids c.args.ring.now t)
-    (ap (λ (nodes : List Node). under nodes c.parts-root.result.2.now 0 c.parts-root.result.1) c.deref.ensures ∙ sym c.parts-root.ensures.term_is) (c.avoids_under.ensures 0))
+    (ap (λ (nodes : List Node). replaced_under nodes c.parts-root.result.2.now 0 c.parts-root.result.1) c.deref.ensures ∙ sym c.parts-root.ensures.term_is) (c.avoids_under.ensures 0))

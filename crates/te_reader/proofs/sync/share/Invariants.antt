@@ -1,6 +1,6 @@
 use Rattle.std.proofs.Common.{◌≡◌, ◌++◌, drop, map}
 use Rattle.std.specs.List.{AllByRecursion}
-use Rattle.te_script.specs.Texts.{statement_of, HasRoot}
+use Rattle.te_script.specs.Texts.{statement_of, RootIsNode}
 use Rattle.te_reader.specs.Written.{draft_of, IsDraft}
 use Rattle.te_reader.proofs.sync.share.Given as goal
 
@@ -9,6 +9,6 @@ abbrev pub invariant-loop-draft : goal.invariant-loop-draft
 invariant-loop-draft l = record {
   listed : map statement_of l.stmts.items ++ map (draft_of l.fn.code) (drop l.draft-index l.drafts)
       ≡ map statement_of l.fn.stmts.items ++ map (draft_of l.fn.code) l.drafts;
-  roots : AllByRecursion HasRoot l.fn.stmts.items → AllByRecursion HasRoot l.stmts.items;
+  roots : AllByRecursion RootIsNode l.fn.stmts.items → AllByRecursion RootIsNode l.stmts.items;
   left : AllByRecursion (IsDraft l.fn.code) (drop l.draft-index l.drafts);
 }

@@ -1,6 +1,6 @@
 use Rattle.std.proofs.Common.{◌≡◌, ◌-◌, ◌≤◌, [], false, length, map}
 use Rattle.std.specs.List.{AllByRecursion}
-use Rattle.te_script.specs.Texts.{statement_of, HasRoot}
+use Rattle.te_script.specs.Texts.{statement_of, RootIsNode}
 use Rattle.te_reader.specs.Reads.{read_body}
 use Rattle.te_reader.specs.Behind.{behind_body}
 use Rattle.te_reader.proofs.thread.read_body.Given as goal
@@ -11,7 +11,7 @@ invariant-stmts l = record {
   whole : l.cursor.whole ≡ l.initial.cursor.whole;
   few : length l.regs ≤ 8;
   most : length l.stmts.items ≤ 1024;
-  roots : AllByRecursion HasRoot l.stmts.items;
+  roots : AllByRecursion RootIsNode l.stmts.items;
 }
 
 abbrev pub decreases-stmts : goal.decreases-stmts

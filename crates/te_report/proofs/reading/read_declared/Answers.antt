@@ -1,6 +1,6 @@
 use Rattle.std.proofs.Common.{ℕ, suc, length, subst, arith}
 use Rattle.te_report.specs.declared.fault.ReportFault.{ReportFault}
-use Rattle.te_report.specs.Told.{IsRefusedFor, StandsAt}
+use Rattle.te_report.specs.Told.{IsRefusedFor, LineStandsAt}
 use Rattle.te_report.specs.Sayings.{version_of}
 use Rattle.te_report.proofs.LinesTaken.{told, is_none, is_some, no_head}
 use Rattle.te_report.proofs.ReportsRead.{stands_next, refused_next, refused_last}
@@ -22,7 +22,7 @@ lines-preserved c =
     let next = stands_next c.args.script.now c.args.bytes.now (version_of c.in-Some.head.sites) c.lines.hist c.take_line.new.hist c.lines.rest.now c.in_ok-rest.rest.now
     (suc (suc (length c.lines.hist.entries))) c.lines.invariant.stands c.in_ok-rest.ensures.goes_on in
     record {
-      stands = subst (λ (n : ℕ). StandsAt c.args.script.now c.args.bytes.now (version_of c.in-Some.head.sites) c.take_line.new.hist c.in_ok-rest.rest.now n) next.line next;
+      stands = subst (λ (n : ℕ). LineStandsAt c.args.script.now c.args.bytes.now (version_of c.in-Some.head.sites) c.take_line.new.hist c.in_ok-rest.rest.now n) next.line next;
       followed = c.in_ok-rest.ensures.so_far;
       declared = c.in_ok-rest.ensures.declared;
     }

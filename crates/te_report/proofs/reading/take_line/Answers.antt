@@ -1,9 +1,9 @@
 use Rattle.std.proofs.Common.{◌≡◌, ℕ, suc, ◌+◌, ◌≤◌, ◌++◌, length, sym, ap, ◌∙◌, arith}
 use Rattle.te_report.specs.declared.names.Called.{Called}
 use Rattle.te_report.specs.declared.fault.ReportFault.{ReportFault}
-use Rattle.te_report.specs.Report.{most_entries, numbered}
+use Rattle.te_report.specs.Report.{most_reported_entries, numbered}
 use Rattle.te_report.specs.Sayings.{up_to, said, said_text, version_of}
-use Rattle.te_report.specs.Judging.{FailsNext}
+use Rattle.te_report.specs.Judging.{NextFails}
 use Rattle.te_report.proofs.Verdicts.{as_many}
 use Rattle.te_report.proofs.LinesRead.{none_spells, unposted}
 use Rattle.te_report.proofs.LinesTaken.{told, sayer_low, taken_next, failed_next}
@@ -24,7 +24,7 @@ take_said-requires-clause-unposted c =
     let number : c.len-count.result + 1 ≡ suc (length c.args.hist.now.entries) = omega (arith, c.len-count.ensures.value) in
     let by_number = rw c.in-Some.is at c.in_ok-found.ensures.split in
     let split = by_number ∙ ap (λ (n : ℕ). numbered n (said_text c.args.script.now c.in-Some.line.said) ++ c.in-Some.line.rest.now) number in
-    let within : suc (length c.args.hist.now.entries) ≤ most_entries = omega (arith, c.if-count-ge-MOST_ENTRIES.false, c.len-count.ensures.value) in
+    let within : suc (length c.args.hist.now.entries) ≤ most_reported_entries = omega (arith, c.if-count-ge-MOST_ENTRIES.false, c.len-count.ensures.value) in
     unposted c.args.sites c.args.script.now c.requires.script c.args.hist.now c.args.rest.now c.in-Some.line.said c.in-Some.line.rest.now is_said split within
 
 pub returns-in_err-take_said-in-Some-clause-refused : goal.returns-in_err-take_said-in-Some-clause-refused
@@ -35,8 +35,8 @@ returns-in_err-take_said-in-Some-clause-refused c =
     let line : c.len-count.result + 2 ≡ suc (suc (length c.args.hist.now.entries)) = omega (arith, c.len-count.ensures.value) in
     let by_number = rw c.in-Some.is at c.in_ok-found.ensures.split in
     let split = by_number ∙ ap (λ (n : ℕ). numbered n (said_text c.args.script.now c.in-Some.line.said) ++ c.in-Some.line.rest.now) number in
-    let within : suc (length c.args.hist.now.entries) ≤ most_entries = omega (arith, c.if-count-ge-MOST_ENTRIES.false, c.len-count.ensures.value) in
-    told c.from_residual-in_err-take_said-in-Some.result c.in_err-take_said-in-Some.field-0.0 (λ (fault : ReportFault). FailsNext (version_of c.args.sites) c.args.script.now c.args.hist.now c.args.rest.now fault)
+    let within : suc (length c.args.hist.now.entries) ≤ most_reported_entries = omega (arith, c.if-count-ge-MOST_ENTRIES.false, c.len-count.ensures.value) in
+    told c.from_residual-in_err-take_said-in-Some.result c.in_err-take_said-in-Some.field-0.0 (λ (fault : ReportFault). NextFails (version_of c.args.sites) c.args.script.now c.args.hist.now c.args.rest.now fault)
     c.from_residual-in_err-take_said-in-Some.ensures.1
     (failed_next c.args.sites c.args.script.now c.requires.script c.args.hist.now c.args.rest.now c.in-Some.line.said c.in-Some.line.rest.now is_said split within
     (c.len-count.result + 2) line c.in_err-take_said-in-Some.field-0.0 c.in_err-take_said-in-Some.ensures.refused)
@@ -48,7 +48,7 @@ returns-in_ok-take_said-in-Some-clause-goes_on c =
     let number : c.len-count.result + 1 ≡ suc (length c.args.hist.now.entries) = omega (arith, c.len-count.ensures.value) in
     let by_number = rw c.in-Some.is at c.in_ok-found.ensures.split in
     let split = by_number ∙ ap (λ (n : ℕ). numbered n (said_text c.args.script.now c.in-Some.line.said) ++ c.in-Some.line.rest.now) number in
-    let within : suc (length c.args.hist.now.entries) ≤ most_entries = omega (arith, c.if-count-ge-MOST_ENTRIES.false, c.len-count.ensures.value) in
+    let within : suc (length c.args.hist.now.entries) ≤ most_reported_entries = omega (arith, c.if-count-ge-MOST_ENTRIES.false, c.len-count.ensures.value) in
     taken_next c.args.sites c.args.script.now c.requires.script c.args.hist.now c.args.rest.now c.in-Some.line.said c.in-Some.line.rest.now is_said split within
     c.take_said.new.hist c.in_ok-take_said-in-Some.ensures.takes
 

@@ -1,5 +1,5 @@
 use Rattle.std.proofs.Common.{◌≡◌, ◌+◌, ◌≤◌, suc, Some, None, subst, sym, ap, ◌∙◌, arith, add-one, refl}
-use Rattle.te_script.specs.Cores.{FitsRound, IsAtSync, IsRound, behind, left_in, rest_of}
+use Rattle.te_script.specs.Cores.{FitsRound, IsAtSync, IsInRepeat, steps_behind, left_in, steps_behind_first}
 use Rattle.te_script.proofs.StepsLeft.{on_outside, on_same_pass, on_next_pass, on_behind}
 use Rattle.te_script.proofs.wish.next_in_round.Goals as goal
 

@@ -3,7 +3,7 @@ use Rattle.te_terms.specs.Codes.{expression_of}
 use Rattle.te_terms.specs.Terms.{registers_to}
 use Rattle.te_script.specs.Scripts.{emit}
 use Rattle.te_script.specs.Wishes.{site_at, emitting, flat_from}
-use Rattle.te_script.specs.Cores.{stand_at, under, emits_left, IsAtSync, IsPastEmits, behind, left_at}
+use Rattle.te_script.specs.Cores.{stand_at, under, emits_left, IsAtSync, IsPastEmits, steps_behind, steps_left_at}
 use Rattle.te_script.specs.Texts.{statement_of}
 use Rattle.te_script.proofs.EmitsDone.{emit_from, statements_from, nothing_from, behind_emit, emits_on, emits_trap, settled_stand, past_emits_at}
 use Rattle.te_script.proofs.StepsLeft.{spot_settled}
@@ -11,14 +11,14 @@ use Rattle.te_script.proofs.wish.past_emits.Goals as goal
 use Rattle.te_script.proofs.wish.past_emits.Goals.{In-Emit, else-loop-place-test, then-loop-place-test+in_default}
 
 -- the steps from the emit on
-at_emit : (c : In-Emit) → behind c.loop-place.place (map statement_of c.args.stmts.now) ≡ emitting (site_at (suc c.loop-place.place) 0)
-    (expression_of c.in-Emit.expr) ∷ behind (c.loop-place.place + 1) (map statement_of c.args.stmts.now)
+at_emit : (c : In-Emit) → steps_behind c.loop-place.place (map statement_of c.args.stmts.now) ≡ emitting (site_at (suc c.loop-place.place) 0)
+    (expression_of c.in-Emit.expr) ∷ steps_behind (c.loop-place.place + 1) (map statement_of c.args.stmts.now)
 at_emit c =
     behind_emit c.loop-place.place (map statement_of c.args.stmts.now) (expression_of c.in-Emit.expr)
     (emit_from c.args.stmts.now c.loop-place.place c.index-stmts-place.result c.in-Emit.expr c.loop-place-test.true c.index-stmts-place.is c.in-Emit.is)
 
 -- the emit is one of those for which there is room
-one_less : (c : In-Emit) → emits_left (behind c.loop-place.place (map statement_of c.args.stmts.now)) ≡ emits_left (behind (c.loop-place.place + 1) (map statement_of c.args.stmts.now)) + 1
+one_less : (c : In-Emit) → emits_left (steps_behind c.loop-place.place (map statement_of c.args.stmts.now)) ≡ emits_left (steps_behind (c.loop-place.place + 1) (map statement_of c.args.stmts.now)) + 1
 one_less c = rw (at_emit c) (omega arith)
 
 pub push_reserved-requires : goal.push_reserved-requires
@@ -27,7 +27,7 @@ push_reserved-requires c = omega (arith, one_less (goal.at.push_reserved-require
 pub loop-place-preserved : goal.loop-place-preserved
 loop-place-preserved c =
     let e = (goal.at.loop-place-preserved c).In-Emit in
-    let rest = behind (c.loop-place.place + 1) (map statement_of c.args.stmts.now) in
+    let rest = steps_behind (c.loop-place.place + 1) (map statement_of c.args.stmts.now) in
     let on = emits_on c.args.regs.now (site_at (suc c.loop-place.place) 0) (expression_of c.in-Emit.expr) rest c.loop-place.emitted.items c.in-Ok.value (sym c.in-Ok.ensures) in
     let before = ap (λ ss. stand_at (under (registers_to c.args.regs.now) ss) c.loop-place.emitted.items) (at_emit e) in
     record {
@@ -41,7 +41,7 @@ loop-place-preserved c =
 pub returns-in-Err-clause-settles : goal.returns-in-Err-clause-settles
 returns-in-Err-clause-settles c =
     let e = (goal.at.returns-in-Err-clause-settles c).In-Emit in
-    let rest = behind (c.loop-place.place + 1) (map statement_of c.args.stmts.now) in
+    let rest = steps_behind (c.loop-place.place + 1) (map statement_of c.args.stmts.now) in
     let trapped = emits_trap c.args.regs.now (site_at (suc c.loop-place.place) 0) (expression_of c.in-Emit.expr) rest c.loop-place.emitted.items c.in-Err.trap (sym c.in-Err.ensures) in
     let before = ap (λ ss. stand_at (under (registers_to c.args.regs.now) ss) c.loop-place.emitted.items) (at_emit e) in
     let nothing = nothing_from c.args.stmts.now (length c.args.stmts.now) (omega arith) in
@@ -54,7 +54,7 @@ pub returns-clause-settles : goal.returns-clause-settles
 returns-clause-settles c =
     let ss = map statement_of c.args.stmts.now in
     let left = c.spot_at.ensures.left in
-    let settled = settled_stand c.args.regs.now (left_at c.spot_at.result ss) c.loop-place.emitted.items (spot_settled c.spot_at.result ss c.spot_at.ensures.spot) in
+    let settled = settled_stand c.args.regs.now (steps_left_at c.spot_at.result ss) c.loop-place.emitted.items (spot_settled c.spot_at.result ss c.spot_at.ensures.spot) in
     record {
       stands = sym c.loop-place.invariant.same ∙ ap (λ xs. stand_at (under (registers_to c.args.regs.now) xs) c.loop-place.emitted.items) (sym left) ∙ settled;
       fits = omega (arith, ap emits_left left);

@@ -1,5 +1,5 @@
 use Rattle.std.proofs.Common.{arith, ◌≡◌, ◌<◌, ◌+◌, ◌-◌, suc, refl, subst, Some, None, length, min, get_or, le_refl}
-use Rattle.te_trail.specs.Trails.{IsThread}
+use Rattle.te_trail.specs.Trails.{IsPathThread}
 use Rattle.te_search.specs.Assemblies.{TellsLined, Assembles, TriesOnly}
 use Rattle.te_search.specs.Finals.{numbers_of}
 use Rattle.te_search.proofs.FinalsTold.{stand_in, bucket_has}
@@ -52,7 +52,7 @@ returns-then-left-eq0-clause-tried t c h =
     c.tries.f-index _ (c.args.left.now - c.tries.left) (c.args.left.now - c.tries.left + 1) c.tries.invariant.2
     (got_or c.args.threads.now c.in-Some.place 0 (open_low c.args.store.now.events c.args.store.now.paths c.args.threads.now c.args.joined.now c.in-Some.place c.requires.wide
     c.in-Some.ensures)) c.in-Some.ensures
-    (got_or c.bucket-there.result.now c.tries.f-index 0 c.tries-test.true) (subst (IsThread c.args.store.now.paths _) c.if-thread.false c.thread.ensures)
+    (got_or c.bucket-there.result.now c.tries.f-index 0 c.tries-test.true) (subst (IsPathThread c.args.store.now.paths _) c.if-thread.false c.thread.ensures)
     (subst (TellsLined c.args.store.now.paths c.args.threads.now _ c.args.joined.now) c.if-not-is_lined.false c.is_lined.ensures) refl c.tries.invariant.1
 
 pub returns-in-Err-assemble-clause-tried : goal.returns-in-Err-assemble-clause-tried
@@ -65,7 +65,7 @@ returns-in-Err-assemble-clause-tried t c h =
     c.tries.f-index _ (c.args.left.now - c.tries.left) ((c.tries.left - 1) - c.assemble.new.left + 1) (c.args.left.now - c.assemble.new.left + 1) c.tries.invariant.2
     (got_or c.args.threads.now c.in-Some.place 0 (open_low c.args.store.now.events c.args.store.now.paths c.args.threads.now c.args.joined.now c.in-Some.place c.requires.wide
     c.in-Some.ensures)) c.in-Some.ensures
-    (got_or c.bucket-there.result.now c.tries.f-index 0 c.tries-test.true) (subst (IsThread c.args.store.now.paths _) c.if-thread.false c.thread.ensures)
+    (got_or c.bucket-there.result.now c.tries.f-index 0 c.tries-test.true) (subst (IsPathThread c.args.store.now.paths _) c.if-thread.false c.thread.ensures)
     (subst (TellsLined c.args.store.now.paths c.args.threads.now _ c.args.joined.now) c.if-not-is_lined.false c.is_lined.ensures)
     c.in-Ok-take_in.ensures.taken (subst (λ l. TriesOnly c.args.store.now.events c.args.store.now.paths c.args.threads.now l
     ((c.tries.left - 1) - c.assemble.new.left + 1)) c.deref.ensures.value (c.in-Err-assemble.ensures.tried h)) is c.tries.invariant.1
@@ -81,7 +81,7 @@ returns-in-Ok-Some-clause-ok t c =
     (c.args.left.now - c.assemble.new.left) c.in-Ok-Some.group c.tries.invariant.2
     (got_or c.args.threads.now c.in-Some.place 0 (open_low c.args.store.now.events c.args.store.now.paths c.args.threads.now c.args.joined.now c.in-Some.place c.requires.wide
     c.in-Some.ensures)) c.in-Some.ensures
-    (got_or c.bucket-there.result.now c.tries.f-index 0 c.tries-test.true) (subst (IsThread c.args.store.now.paths _) c.if-thread.false c.thread.ensures)
+    (got_or c.bucket-there.result.now c.tries.f-index 0 c.tries-test.true) (subst (IsPathThread c.args.store.now.paths _) c.if-thread.false c.thread.ensures)
     (subst (TellsLined c.args.store.now.paths c.args.threads.now _ c.args.joined.now) c.if-not-is_lined.false c.is_lined.ensures)
     c.in-Ok-take_in.ensures.taken (subst (λ l. Assembles c.args.store.now.events c.args.store.now.paths c.args.threads.now (numbers_of c.args.finals.now) l
     ((c.tries.left - 1) - c.assemble.new.left) (Some c.in-Ok-Some.group)) c.deref.ensures.value (rw c.in-Ok-Some.field-0-is at c.in-Ok-Some.ensures.ok)) is c.tries.invariant.1
@@ -97,7 +97,7 @@ tries-preserved t c =
           c.tries.f-index _ (c.args.left.now - c.tries.left) ((c.tries.left - 1) - c.assemble.new.left) (c.args.left.now - c.assemble.new.left) c.tries.invariant.2
           (got_or c.args.threads.now c.in-Some.place 0 (open_low c.args.store.now.events c.args.store.now.paths c.args.threads.now c.args.joined.now c.in-Some.place
           c.requires.wide c.in-Some.ensures)) c.in-Some.ensures
-          (got_or c.bucket-there.result.now c.tries.f-index 0 c.tries-test.true) (subst (IsThread c.args.store.now.paths _) c.if-thread.false c.thread.ensures)
+          (got_or c.bucket-there.result.now c.tries.f-index 0 c.tries-test.true) (subst (IsPathThread c.args.store.now.paths _) c.if-thread.false c.thread.ensures)
           (subst (TellsLined c.args.store.now.paths c.args.threads.now _ c.args.joined.now) c.if-not-is_lined.false c.is_lined.ensures)
           c.in-Ok-take_in.ensures.taken (subst (λ l. Assembles c.args.store.now.events c.args.store.now.paths c.args.threads.now (numbers_of c.args.finals.now) l
           ((c.tries.left - 1) - c.assemble.new.left) None) c.deref.ensures.value (rw c.in-Ok-None.field-0-is at c.in-Ok-None.ensures.ok)) is c.tries.invariant.1,

@@ -9,7 +9,7 @@ use Rattle.te_trail.specs.declared.planned.Planned.{Planned}
 use Rattle.te_trail.specs.declared.store.PathRecord.{PathRecord}
 use Rattle.te_trail.specs.declared.store.StoreMark.{StoreMark}
 use Rattle.te_trail.specs.Trails.{Trail, FaceEachOther}
-use Rattle.te_trail.specs.Records.{IsWhole, Spells, BothMet, origin_at}
+use Rattle.te_trail.specs.Records.{StoreIsWhole, SpotSpells, BothMet, origin_at}
 use Rattle.te_trail.proofs.RecordsRead.{got_there, get_low}
 use Rattle.te_trail.proofs.StoresKeep.{whole_grown, whole_put, whole_marked, spells_grown}
 use Rattle.te_trail.proofs.SpotsMove.{SpellsAt, spells_at, spells_low, choice_stop, send_stop, both_met, can_send, can_receive}

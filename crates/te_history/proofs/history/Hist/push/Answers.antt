@@ -2,7 +2,7 @@ use Rattle.std.proofs.Common.{◌≡◌, ℕ, ◌<◌, ◌^◌, List, length, sy
 use Rattle.te_history.specs.declared.seat.Seat.{Seat}
 use Rattle.te_history.specs.Follows.{LooselyFollows, caller_of}
 use Rattle.te_history.specs.Histories.{History}
-use Rattle.te_history.specs.Kept.{IsKept, seats_after}
+use Rattle.te_history.specs.Kept.{StateIsKept, seats_after}
 use Rattle.te_history.proofs.SeatsAfter.{length-seats_after}
 use Rattle.te_history.proofs.KeptAfter.{members_within, few_posts, kept_after, kept_along, written_over}
 use Rattle.te_history.proofs.history.Hist.push.Goals as goal
@@ -17,7 +17,7 @@ pub sit-requires-clause-few : goal.sit-requires-clause-few
 sit-requires-clause-few c =
     let short = subst (λ (h : History). length h.entries < 2 ^ 31) (sym c.self.view_is) c.requires.few in
     λ seat is. few_posts c.self.inside.entries.items _ _ _ (caller_of c.args.entry) seat
-    (subst (λ (xs : List Seat). IsKept c.self.inside.entries.items xs c.self.inside.phase c.self.inside.resting)
+    (subst (λ (xs : List Seat). StateIsKept c.self.inside.entries.items xs c.self.inside.phase c.self.inside.resting)
     (sym c.deref_mut.ensures.value) c.self.invariant) short is
 
 pub invariant_of-self : goal.invariant_of-self

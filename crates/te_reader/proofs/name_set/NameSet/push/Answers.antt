@@ -1,15 +1,15 @@
 use Rattle.std.proofs.Common.{rules, ◌≡◌, true, false, List, ℕ, [], ◌∷◌, ◌++◌, sym, ◌∙◌, ap, subst}
 use Rattle.std.specs.Borrow.{Bor}
 use Rattle.std.specs.BTreeMap.{BTreeMap}
-use Rattle.te_reader.specs.NameSets.{IsFound}
+use Rattle.te_reader.specs.NameSets.{FindsEachName}
 use Rattle.te_reader.specs.Rules.{is_among}
 use Rattle.te_reader.proofs.NameSetLemmas.{still_found, found_new, found_again}
 use Rattle.te_reader.proofs.name_set.NameSet.push.Goals as goal
 use Rattle.te_reader.proofs.name_set.NameSet.push.Goals.{then-not-contains+in_ok-insert, else-not-contains}
 
 -- the lists and the index that a fact is of, exchanged for equal ones
-moved : (a b : List (List ℕ)) (m n : BTreeMap (Bor (List ℕ)) ℕ) → b ≡ a → n ≡ m → IsFound a m → IsFound b n
-moved a b m n e f h = subst (λ (x : List (List ℕ)). IsFound x n) (sym e) (subst (λ (x : BTreeMap (Bor (List ℕ)) ℕ). IsFound a x) (sym f) h)
+moved : (a b : List (List ℕ)) (m n : BTreeMap (Bor (List ℕ)) ℕ) → b ≡ a → n ≡ m → FindsEachName a m → FindsEachName b n
+moved a b m n e f h = subst (λ (x : List (List ℕ)). FindsEachName x n) (sym e) (subst (λ (x : BTreeMap (Bor (List ℕ)) ℕ). FindsEachName a x) (sym f) h)
 
 pub invariant_of-self-in_err-push : goal.invariant_of-self-in_err-push
 invariant_of-self-in_err-push c =

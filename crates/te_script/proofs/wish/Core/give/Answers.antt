@@ -1,7 +1,7 @@
 use Rattle.std.proofs.Common.{rules, ◌≡◌, ◌+◌, ◌≤◌, ◌<◌, drop, length, map, slice_set, vec_capacity, ap, subst, sym, ◌∙◌, arith}
 use Rattle.std.proofs.lemmas.List.{length-set}
 use Rattle.te_terms.specs.declared.event.Outcome.TheVariants.{Gives}
-use Rattle.te_script.specs.Cores.{At, moved, next_at, next_of, left_at, IsWaiting, IsCore}
+use Rattle.te_script.specs.Cores.{At, moved, next_at, next_of, steps_left_at, IsWaiting, IsCore}
 use Rattle.te_script.specs.Texts.{statement_of}
 use Rattle.te_script.proofs.CoreMoves.{waits_itself, one_of_eight, stands_given, core_given}
 use Rattle.te_script.proofs.OneMore.{moved_after}
@@ -10,7 +10,7 @@ use Rattle.te_script.proofs.wish.Core.give.Goals as goal
 pub bounds-self-inside-register_at : goal.bounds-self-inside-register_at
 bounds-self-inside-register_at c =
     let first : map statement_of c.statements-in-Gives.result.now ≡ c.self.inside.text.value.statements = c.statements-in-Gives.ensures.value ∙ ap (λ t. t.statements) c.deref-in-Gives.ensures in
-    let waits : IsWaiting (next_at c.self.inside.raised c.self.inside.regs (left_at c.self.inside.spot c.self.inside.text.value.statements)) = subst
+    let waits : IsWaiting (next_at c.self.inside.raised c.self.inside.regs (steps_left_at c.self.inside.spot c.self.inside.text.value.statements)) = subst
     (λ (a : At). IsWaiting a.stand.next) (sym c.self.view_is) c.requires in
     let eight = one_of_eight c.self.inside.text.value c.statements-in-Gives.result.now c.statements-in-Gives.result.now c.self.inside.spot c.register_at.result first first c.register_at.ensures
     (rw c.deref-in-Gives.ensures at c.statements-in-Gives.ensures.thread) c.self.invariant.at (waits_itself c.self.inside.raised c.self.inside.regs _ waits) in
@@ -19,7 +19,7 @@ bounds-self-inside-register_at c =
 pub offset_bounds-self-inside-register_at : goal.offset_bounds-self-inside-register_at
 offset_bounds-self-inside-register_at c =
     let first : map statement_of c.statements-in-Gives.result.now ≡ c.self.inside.text.value.statements = c.statements-in-Gives.ensures.value ∙ ap (λ t. t.statements) c.deref-in-Gives.ensures in
-    let waits : IsWaiting (next_at c.self.inside.raised c.self.inside.regs (left_at c.self.inside.spot c.self.inside.text.value.statements)) = subst
+    let waits : IsWaiting (next_at c.self.inside.raised c.self.inside.regs (steps_left_at c.self.inside.spot c.self.inside.text.value.statements)) = subst
     (λ (a : At). IsWaiting a.stand.next) (sym c.self.view_is) c.requires in
     let eight = one_of_eight c.self.inside.text.value c.statements-in-Gives.result.now c.statements-in-Gives.result.now c.self.inside.spot c.register_at.result first first c.register_at.ensures
     (rw c.deref-in-Gives.ensures at c.statements-in-Gives.ensures.thread) c.self.invariant.at (waits_itself c.self.inside.raised c.self.inside.regs _ waits) in
@@ -28,7 +28,7 @@ offset_bounds-self-inside-register_at c =
 pub listed : goal.listed
 listed c =
     let first : map statement_of c.statements-in-Gives.result.now ≡ c.self.inside.text.value.statements = c.statements-in-Gives.ensures.value ∙ ap (λ t. t.statements) c.deref-in-Gives.ensures in
-    let waits : IsWaiting (next_at c.self.inside.raised c.self.inside.regs (left_at c.self.inside.spot c.self.inside.text.value.statements)) = subst
+    let waits : IsWaiting (next_at c.self.inside.raised c.self.inside.regs (steps_left_at c.self.inside.spot c.self.inside.text.value.statements)) = subst
     (λ (a : At). IsWaiting a.stand.next) (sym c.self.view_is) c.requires in
     let eight = one_of_eight c.self.inside.text.value c.statements-in-Gives.result.now c.statements-in-Gives.result.now c.self.inside.spot c.register_at.result first first c.register_at.ensures
     (rw c.deref-in-Gives.ensures at c.statements-in-Gives.ensures.thread) c.self.invariant.at (waits_itself c.self.inside.raised c.self.inside.regs _ waits) in
@@ -40,7 +40,7 @@ returns-in-Raises-clause-after c = λ so_far is. moved_after c.args.self.now _ s
 pub returns-in-Gives-clause-moves : goal.returns-in-Gives-clause-moves
 returns-in-Gives-clause-moves c =
     let first : map statement_of c.statements-in-Gives.result.now ≡ c.self.inside.text.value.statements = c.statements-in-Gives.ensures.value ∙ ap (λ t. t.statements) c.deref-in-Gives.ensures in
-    let waits : IsWaiting (next_at c.self.inside.raised c.self.inside.regs (left_at c.self.inside.spot c.self.inside.text.value.statements)) = subst
+    let waits : IsWaiting (next_at c.self.inside.raised c.self.inside.regs (steps_left_at c.self.inside.spot c.self.inside.text.value.statements)) = subst
     (λ (a : At). IsWaiting a.stand.next) (sym c.self.view_is) c.requires in
     let eight = one_of_eight c.self.inside.text.value c.statements-in-Gives.result.now c.statements-in-Gives.result.now c.self.inside.spot c.register_at.result first first c.register_at.ensures
     (rw c.deref-in-Gives.ensures at c.statements-in-Gives.ensures.thread) c.self.invariant.at (waits_itself c.self.inside.raised c.self.inside.regs _ waits) in
@@ -60,7 +60,7 @@ returns-in-Gives-clause-moves c =
       stand = record {
         emitted = c.go_on-stop.new.emitted.items;
         next = next_at
-            c.go_on-stop.result.raised (slice_set c.self.inside.regs c.register_at.result c.in-Gives.value) (left_at c.go_on-stop.result.spot
+            c.go_on-stop.result.raised (slice_set c.self.inside.regs c.register_at.result c.in-Gives.value) (steps_left_at c.go_on-stop.result.spot
             c.self.inside.text.value.statements);
       };
     } in

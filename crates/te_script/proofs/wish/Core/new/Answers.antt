@@ -1,7 +1,7 @@
 use Rattle.std.proofs.Common.{◌≡◌, List, [], map, length, ap, subst, ◌∙◌, arith, ◌+◌, ◌≤◌, vec_len, vec_capacity}
 use Rattle.te_script.specs.Scripts.{Statement, IsThread}
 use Rattle.te_script.specs.Texts.{statement_of}
-use Rattle.te_script.specs.Cores.{emits_left, emits_in, behind, left_at, IsSpot}
+use Rattle.te_script.specs.Cores.{emits_left, emits_in, steps_behind, steps_left_at, IsSyncSpot}
 use Rattle.te_script.proofs.EmitsCounted.{emits_whole}
 use Rattle.te_script.proofs.Unwritten.{first_stand}
 use Rattle.te_script.proofs.wish.Core.new.Goals as goal
@@ -22,7 +22,7 @@ pub invariant_of-result : goal.invariant_of-result
 invariant_of-result c =
     let is : map statement_of c.statements-stmts.result.now ≡ c.args.text.value.statements = c.statements-stmts.ensures.value ∙ ap (λ t. t.statements) c.deref.ensures in
     let thread : IsThread 256 c.args.text.value = rw c.deref.ensures at c.statements-stmts.ensures.thread in
-    let fits : vec_len c.past_emits-stop.new.emitted + emits_left (left_at c.past_emits-stop.result.spot
+    let fits : vec_len c.past_emits-stop.new.emitted + emits_left (steps_left_at c.past_emits-stop.result.spot
     (map statement_of c.statements-stmts.result.now)) ≤ vec_capacity c.past_emits-stop.new.emitted =
     omega (
       arith,
@@ -38,6 +38,6 @@ invariant_of-result c =
     ) in
     record {
       short = thread.statements;
-      at = subst (IsSpot c.past_emits-stop.result.spot) is c.past_emits-stop.ensures.spot;
-      fits = subst (λ (ss : List Statement). vec_len c.past_emits-stop.new.emitted + emits_left (left_at c.past_emits-stop.result.spot ss) ≤ vec_capacity c.past_emits-stop.new.emitted) is fits;
+      at = subst (IsSyncSpot c.past_emits-stop.result.spot) is c.past_emits-stop.ensures.spot;
+      fits = subst (λ (ss : List Statement). vec_len c.past_emits-stop.new.emitted + emits_left (steps_left_at c.past_emits-stop.result.spot ss) ≤ vec_capacity c.past_emits-stop.new.emitted) is fits;
     }

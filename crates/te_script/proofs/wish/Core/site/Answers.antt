@@ -1,6 +1,6 @@
 use Rattle.std.proofs.Common.{◌≡◌, ◌+◌, ◌∷◌, suc, map, drop, length, Some, None, ◌∙◌, ap, sym, subst, refl, arith, add-one}
 use Rattle.te_script.specs.Wishes.{site_at, site_of}
-use Rattle.te_script.specs.Cores.{At, next_at, doing_of, left_at, pass_of, IsWaiting}
+use Rattle.te_script.specs.Cores.{At, next_at, doing_of, steps_left_at, pass_of, IsWaiting}
 use Rattle.te_script.proofs.CoreMoves.{waits_itself}
 use Rattle.te_script.proofs.StepsLeft.{left_sync, waits_at, waits_within}
 use Rattle.te_script.proofs.WantsTold.{waiting_site}
@@ -16,7 +16,7 @@ overflow_add-result c = omega (arith, c.self.invariant.at.within, c.self.invaria
 
 pub returns-clause-stand : goal.returns-clause-stand
 returns-clause-stand c =
-    let waits : IsWaiting (next_at c.self.inside.raised c.self.inside.regs (left_at c.self.inside.spot c.self.inside.text.value.statements)) = subst
+    let waits : IsWaiting (next_at c.self.inside.raised c.self.inside.regs (steps_left_at c.self.inside.spot c.self.inside.text.value.statements)) = subst
     (λ (a : At). IsWaiting a.stand.next) (sym c.self.view_is) c.requires in
     let told = waiting_site c.self.inside.raised c.self.inside.regs c.self.inside.spot c.self.inside.text.value.statements c.self.invariant.at waits in
     let pass : c.match-self.pass ≡ pass_of c.self.inside.spot.round = elim c.match-self.branch [ in-Some w ↦ w.pass-is ∙ rw w.in-Some.is refl | in-None w ↦ w.pass-is ∙ rw w.in-None.is refl ] in

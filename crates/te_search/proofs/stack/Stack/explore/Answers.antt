@@ -1,7 +1,7 @@
 use Rattle.std.proofs.Common.{◌≡◌, ◌∙◌, ap, sym, subst, refl, Err}
 use Rattle.te_search.specs.declared.finding.SearchFault.TheVariants as faults
 use Rattle.te_search.specs.Works.{IsSpentAt, SettlesSo}
-use Rattle.te_search.specs.Stacks.{IsAmong}
+use Rattle.te_search.specs.Stacks.{EventsAreAmong}
 use Rattle.te_terms.specs.Joint.{as_group}
 use Rattle.te_search.proofs.SearchEnds.{used_up, spent_same}
 use Rattle.te_search.proofs.StacksMove.{keeps_levels, settled_stack}
@@ -26,5 +26,5 @@ returns-in-Err-Spent-clause-spent c paths groups e =
     let k = c.in-Err-Spent.ensures.keeps in
     spent_same c.args.self.now.parked c.args.budget _ _ paths groups (let f : c.spent-spent.result ≡ faults.Spent paths groups = cc in sym c.spent-spent.ensures ∙ f)
     (used_up c.args.self.now.parked c.settle.new.self c.args.budget c.requires.exploring.levels.rise
-    (subst (λ g. IsAmong g (as_group c.args.self.now.parked)) (sym k.events) c.requires.exploring.levels.among)
+    (subst (λ g. EventsAreAmong g (as_group c.args.self.now.parked)) (sym k.events) c.requires.exploring.levels.among)
     (subst (λ g. IsSpentAt c.settle.new.self g c.args.budget) (sym k.events) (c.in-Err-Spent.ensures.spent (ap Err c.in-Err-Spent.field-0-is))))

@@ -3,7 +3,7 @@ use Rattle.std.proofs.lemmas.Result.{err_from_is_err_and}
 use Rattle.te_trail.specs.Paths.{branched}
 use Rattle.te_search.specs.declared.assembly.Refused.{Refused}
 use Rattle.te_search.specs.declared.assembly.Refused.TheVariants as refusals
-use Rattle.te_search.specs.Works.{IsSpentAt, IsWork, Grows}
+use Rattle.te_search.specs.Works.{IsSpentAt, IsWork, WorkGrows}
 use Rattle.te_search.proofs.Trying.{get_some, get_low}
 use Rattle.te_search.proofs.Working.{get_more, branch_done, branch_unmade, branch_left, choice_stays, spent_gained, spent_here, on_ok, gains_both}
 use Rattle.te_search.proofs.Ending.{gains_grow}
@@ -68,7 +68,7 @@ pub returns-clause-grows : goal.returns-clause-grows
 returns-clause-grows c =
     let x = get_some c.args.self.now.store.paths c.args.p c.requires.path in
     let g = c.in_ok-branch_one.ensures.ok x.0 x.1 in
-    on_ok _ (Grows c.args.self.now c.branch_one-2.new.self) c.branch_one-2.result
+    on_ok _ (WorkGrows c.args.self.now c.branch_one-2.new.self) c.branch_one-2.result
     (λ more. gains_grow c.args.self.now c.branch_one-2.new.self _
     (gains_both c.args.self.now c.branch_one.new.self c.branch_one-2.new.self (branched x.0 true ∷ []) (branched x.0 false ∷ []) g
     (more x.0 (ap (λ q. slice_get q c.args.p) g.paths ∙ get_more c.args.self.now.store.paths (branched x.0 true ∷ []) c.args.p x.0 x.1)))) c.branch_one-2.ensures.ok

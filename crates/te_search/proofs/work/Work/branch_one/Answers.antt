@@ -2,7 +2,7 @@ use Rattle.std.proofs.Common.{arith, ◌≡◌, ◌<◌, ◌+◌, ◌++◌, ◌�
 use Rattle.te_terms.specs.Joint.{choice}
 use Rattle.te_trail.specs.declared.moves.Move.TheVariants as moves
 use Rattle.te_trail.specs.Paths.{branched}
-use Rattle.te_search.specs.Works.{told}
+use Rattle.te_search.specs.Works.{label_told}
 use Rattle.te_search.proofs.ListLaws.{holds_at}
 use Rattle.te_search.proofs.StoresGrow.{branch_grows}
 use Rattle.te_search.proofs.Trying.{get_some}
@@ -20,9 +20,9 @@ returns-clause-ok c x e = gains_one c.args.self.now (record {
   groups = c.args.self.now.groups;
 }) (branched x c.args.left)
     (c.in_Ok-number.ensures.ok x e) c.len-paths.ensures.store (c.push_reserved.ensures.items ∙ ap₂ (λ l n. l ++ (n ∷ [])) c.reserve.ensures.items c.in_Ok-number.ensures.number)
-    (ap (map told) (c.push_reserved-2.ensures.items ∙ ap (λ l. l ++ (Some (moves.Branch c.thread-thread.result c.args.left) ∷ [])) c.reserve-2.ensures.items)
-    ∙ map_both told c.args.self.now.moves.items (Some (moves.Branch c.thread-thread.result c.args.left) ∷ [])
-    ∙ ap (λ t. map told c.args.self.now.moves.items ++ ((choice t c.args.left ∷ []) ∷ [])) (sym (c.thread-thread.ensures x e)))
+    (ap (map label_told) (c.push_reserved-2.ensures.items ∙ ap (λ l. l ++ (Some (moves.Branch c.thread-thread.result c.args.left) ∷ [])) c.reserve-2.ensures.items)
+    ∙ map_both label_told c.args.self.now.moves.items (Some (moves.Branch c.thread-thread.result c.args.left) ∷ [])
+    ∙ ap (λ t. map label_told c.args.self.now.moves.items ++ ((choice t c.args.left ∷ []) ∷ [])) (sym (c.thread-thread.ensures x e)))
     refl refl refl c.requires.low
 
 pub returns-clause-within : goal.returns-clause-within

@@ -1,7 +1,7 @@
 use Rattle.std.proofs.Common.{arith, ◌≡◌, ◌+◌, ◌-◌, ◌∷◌, [], suc, sym, subst, refl, inl, length}
-use Rattle.te_search.specs.Assemblies.{Stand, Names, Assembles, joint}
+use Rattle.te_search.specs.Assemblies.{AssemblyStand, NamesPaths, Assembles, joint}
 use Rattle.te_search.specs.Finals.{numbers_of}
-use Rattle.te_search.specs.Works.{EndsSo}
+use Rattle.te_search.specs.Works.{StepEndsSo}
 use Rattle.te_search.proofs.Trying.{get_some, on_found}
 use Rattle.te_search.proofs.Ending.{numbers_one, told_after, ending, end_ends, end_short, end_spent}
 use Rattle.te_search.proofs.WorkKept.{keeps_same, keeps_final}
@@ -10,7 +10,7 @@ use Rattle.te_search.proofs.work.Work.end.Goals as goal
 pub assemble-answer-requires-clause-stand : goal.assemble-answer-requires-clause-stand
 assemble-answer-requires-clause-stand c =
     let x = get_some c.args.self.now.store.paths c.args.p c.requires.path in
-    subst (Stand c.args.self.now.store.events c.args.self.now.store.paths c.args.threads.now)
+    subst (AssemblyStand c.args.self.now.store.events c.args.self.now.store.paths c.args.threads.now)
     (sym (numbers_one c.args.self.now.finals c.push.new.self c.args.p c.thread-thread.result c.in-Ok-push.ensures.ok))
     (ending c.args.self.now c.args.p x.0 c.args.threads.now x.1 c.requires.work (c.requires.at_end x.0 x.1) c.requires.threads).stand
 
@@ -27,7 +27,7 @@ returns-clause-ok c =
     let numbers = numbers_one c.args.self.now.finals c.push.new.self c.args.p c.thread-thread.result c.in-Ok-push.ensures.ok in
     on_found (Assembles c.args.self.now.store.events c.args.self.now.store.paths c.args.threads.now
     (numbers_of c.push.new.self) c.deref.result.now ((c.left-left.result - 1) - c.assemble-answer.new.left))
-    (EndsSo (record {
+    (StepEndsSo (record {
       store = c.args.self.now.store;
       moves = c.args.self.now.moves;
       pending = c.args.self.now.pending;
@@ -46,7 +46,7 @@ returns-clause-ok c =
     }) c.args.p x.0 c.args.threads.now c.deref.result.now
     ((c.left-left.result - 1) - c.assemble-answer.new.left) found
     x.1 c.requires.work (c.requires.at_end x.0 x.1) e refl refl refl refl numbers gr
-    (subst (Names c.args.self.now.store.paths c.args.threads.now (joint (x.0 ∷ []))) (sym c.deref.ensures.value) (c.in-Ok.ensures.names x.0 x.1))
+    (subst (NamesPaths c.args.self.now.store.paths c.args.threads.now (joint (x.0 ∷ []))) (sym c.deref.ensures.value) (c.in-Ok.ensures.names x.0 x.1))
     (subst (λ l. Assembles c.args.self.now.store.events c.args.self.now.store.paths c.args.threads.now l c.deref.result.now
     ((c.left-left.result - 1) - c.assemble-answer.new.left) found) numbers h)
     (told_after c.args.self.now c.push.new.self c.args.p c.thread-thread.result c.requires.work c.in-Ok-push.ensures.ok c.thread-thread.ensures))
@@ -77,7 +77,7 @@ returns-clause-spent c h =
     }) c.args.p x.0 c.args.threads.now
     ((c.left-left.result - 1) - c.assemble-answer.new.left) c.args.budget
     c.requires.work e refl gr (c.assemble-answer.ensures.tried h x.0 (x.0 ∷ []) e.crew (inl refl)
-    (subst (Names c.args.self.now.store.paths c.args.threads.now (joint (x.0 ∷ []))) (sym c.deref.ensures.value) (c.in-Ok.ensures.names x.0 x.1))) sum
+    (subst (NamesPaths c.args.self.now.store.paths c.args.threads.now (joint (x.0 ∷ []))) (sym c.deref.ensures.value) (c.in-Ok.ensures.names x.0 x.1))) sum
 
 pub returns-then-left-eq0-clause-keeps : goal.returns-then-left-eq0-clause-keeps
 returns-then-left-eq0-clause-keeps c = keeps_same _ _ refl refl refl refl

@@ -2,7 +2,7 @@ use Rattle.std.proofs.Common.{arith, ◌≡◌, ◌+◌, ◌++◌, ◌∷◌, []
 use Rattle.te_terms.specs.Joint.{meeting}
 use Rattle.te_trail.specs.declared.moves.Move.TheVariants as moves
 use Rattle.te_trail.specs.Paths.{sent, got}
-use Rattle.te_search.specs.Works.{told, IsNear}
+use Rattle.te_search.specs.Works.{label_told, IsNear}
 use Rattle.te_search.proofs.ListLaws.{holds_at}
 use Rattle.te_search.proofs.StoresGrow.{meet_grows}
 use Rattle.te_search.proofs.Trying.{get_some}
@@ -28,10 +28,10 @@ returns-clause-ok c x y e f = gains_two c.args.self.now (record {
     (c.in-Ok.ensures.ok x y e f) c.len-paths.ensures.store
     (appended_two c.args.self.now.pending.items c.reserve.new.self.items c.push_reserved.new.self.items c.push_reserved-2.new.self.items _ _ _ _ c.reserve.ensures.items
     c.push_reserved.ensures.items c.push_reserved-2.ensures.items c.in-Ok.ensures.numbers.0 c.in-Ok.ensures.numbers.1)
-    (ap (map told) (appended_two c.args.self.now.moves.items c.reserve-2.new.self.items c.push_reserved-3.new.self.items c.push_reserved-4.new.self.items
+    (ap (map label_told) (appended_two c.args.self.now.moves.items c.reserve-2.new.self.items c.push_reserved-3.new.self.items c.push_reserved-4.new.self.items
     (Some (moves.Meet c.thread-sender.result c.thread-receiver.result)) None _ _ c.reserve-2.ensures.items c.push_reserved-3.ensures.items c.push_reserved-4.ensures.items refl refl)
-    ∙ map_both told c.args.self.now.moves.items (Some (moves.Meet c.thread-sender.result c.thread-receiver.result) ∷ (None ∷ []))
-    ∙ ap₂ (λ s r. map told c.args.self.now.moves.items ++ ((meeting s r ∷ []) ∷ ([] ∷ []))) (sym (c.thread-sender.ensures x e)) (sym (c.thread-receiver.ensures y f)))
+    ∙ map_both label_told c.args.self.now.moves.items (Some (moves.Meet c.thread-sender.result c.thread-receiver.result) ∷ (None ∷ []))
+    ∙ ap₂ (λ s r. map label_told c.args.self.now.moves.items ++ ((meeting s r ∷ []) ∷ ([] ∷ []))) (sym (c.thread-sender.ensures x e)) (sym (c.thread-receiver.ensures y f)))
     refl refl refl c.requires.low
 
 pub returns-clause-within : goal.returns-clause-within

@@ -1,5 +1,5 @@
 use Rattle.std.proofs.Common.{refl, sym, subst}
-use Rattle.te_pair.specs.Ends.{IsKept}
+use Rattle.te_pair.specs.Ends.{PathIsKept}
 use Rattle.te_search.proofs.Trying.{get_some}
 use Rattle.te_search.proofs.Meeting.{not_kept}
 use Rattle.te_search.proofs.Waiting.{wait_done}
@@ -33,4 +33,4 @@ returns-clause-keeps c = keeps_both c.args.self.now c.meet_all.new.self _ c.meet
 pub keep_at-requires : goal.keep_at-requires
 keep_at-requires c =
     let x = get_some c.args.self.now.store.paths c.args.p c.requires.path in
-    subst (λ w. ¬ IsKept w c.args.p) (sym (c.in_default.ensures.ok x.0 x.1).gains.waiting) (not_kept c.args.self.now c.args.p x.0 c.requires.work x.1)
+    subst (λ w. ¬ PathIsKept w c.args.p) (sym (c.in_default.ensures.ok x.0 x.1).gains.waiting) (not_kept c.args.self.now c.args.p x.0 c.requires.work x.1)

@@ -1,7 +1,7 @@
 use Rattle.std.proofs.Common.{ap, arith, ◌≡◌, ◌∙◌, sym, subst, ◌+◌, ◌-◌, List, ℕ, false}
 use Rattle.te_trail.specs.declared.store.PathRecord.{PathRecord}
 use Rattle.te_trail.specs.Ticks.{AreRising, between, ticks_of}
-use Rattle.te_trail.specs.Walks.{AreLow, TellsFit}
+use Rattle.te_trail.specs.Walks.{TicksAreLow, TellsFit}
 use Rattle.te_trail.specs.Clocks.{Agree}
 use Rattle.te_trail.specs.Stores.{IsStore}
 use Rattle.te_trail.specs.Trails.{TellsWhether, Trail}
@@ -33,10 +33,10 @@ pub all_fit-requires-clause-seconds_rise : goal.all_fit-requires-clause-seconds_
 all_fit-requires-clause-seconds_rise c = subst (λ ts. AreRising (ticks_of ts c.index-b.result.now.clock)) (sym c.deref-2.ensures.value) (known c.self.inside.records.items c.self.inside.ticks.items c.args.self.now.paths c.self.invariant.kept.fit (ap (λ t. t.paths) c.self.view_is) c.args.q c.index-b.result.now c.requires.q_within c.index-b.ensures).rising
 
 pub all_fit-requires-clause-firsts_low : goal.all_fit-requires-clause-firsts_low
-all_fit-requires-clause-firsts_low c = subst (λ ts. AreLow c.args.self.now.paths (ticks_of ts c.index-a.result.now.clock)) (sym c.deref.ensures.value) (known c.self.inside.records.items c.self.inside.ticks.items c.args.self.now.paths c.self.invariant.kept.fit (ap (λ t. t.paths) c.self.view_is) c.args.p c.index-a.result.now c.requires.p_within c.index-a.ensures).named_low
+all_fit-requires-clause-firsts_low c = subst (λ ts. TicksAreLow c.args.self.now.paths (ticks_of ts c.index-a.result.now.clock)) (sym c.deref.ensures.value) (known c.self.inside.records.items c.self.inside.ticks.items c.args.self.now.paths c.self.invariant.kept.fit (ap (λ t. t.paths) c.self.view_is) c.args.p c.index-a.result.now c.requires.p_within c.index-a.ensures).named_low
 
 pub all_fit-requires-clause-seconds_low : goal.all_fit-requires-clause-seconds_low
-all_fit-requires-clause-seconds_low c = subst (λ ts. AreLow c.args.self.now.paths (ticks_of ts c.index-b.result.now.clock)) (sym c.deref-2.ensures.value) (known c.self.inside.records.items c.self.inside.ticks.items c.args.self.now.paths c.self.invariant.kept.fit (ap (λ t. t.paths) c.self.view_is) c.args.q c.index-b.result.now c.requires.q_within c.index-b.ensures).named_low
+all_fit-requires-clause-seconds_low c = subst (λ ts. TicksAreLow c.args.self.now.paths (ticks_of ts c.index-b.result.now.clock)) (sym c.deref-2.ensures.value) (known c.self.inside.records.items c.self.inside.ticks.items c.args.self.now.paths c.self.invariant.kept.fit (ap (λ t. t.paths) c.self.view_is) c.args.q c.index-b.result.now c.requires.q_within c.index-b.ensures).named_low
 
 pub returns-clause-clocks : goal.returns-clause-clocks
 returns-clause-clocks c = tells_agree c.args.self.now.events c.args.self.now.paths (subst (λ (t : Trail). IsStore t.events t.paths) c.self.view_is (is_store c.self.inside.events.items c.self.inside.cells c.self.inside.records.items c.self.inside.ticks.items c.self.invariant.kept)) c.args.p c.args.q c.all_fit.result (agree_told c.self.inside.records.items c.self.inside.ticks.items c.args.self.now.paths c.args.p c.args.q c.index-a.result.now c.index-b.result.now

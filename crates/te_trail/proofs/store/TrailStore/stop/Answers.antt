@@ -4,7 +4,7 @@ use Rattle.te_path.specs.declared.spot.Stop.{Stop}
 use Rattle.te_path.specs.Paths.{StandsAt}
 use Rattle.te_trail.specs.declared.store.PathRecord.{PathRecord}
 use Rattle.te_trail.specs.Paths.{Path}
-use Rattle.te_trail.specs.States.{state_of}
+use Rattle.te_trail.specs.States.{path_state}
 use Rattle.te_trail.specs.Trails.{Trail, IsStop}
 use Rattle.te_trail.proofs.RecordsRead.{record_there}
 use Rattle.te_trail.proofs.StoresHold.{Standing, standing, stop_told, stop_only}
