@@ -5,15 +5,12 @@ use Rattle.te_terms.specs.Terms.{Term, never}
 use Rattle.te_terms.specs.Joint.{CanCommit}
 use Rattle.te_terms.specs.Settling.{CannotChoose}
 use Rattle.te_terms.proofs.CannotCommit.{lone_cannot_commit}
-
-no_choice : CannotChoose never
-no_choice true = refl
-no_choice false = refl
+use Rattle.te_terms.proofs.CannotCommit.{still_never}
 
 pub one_never : (p : Parked) → p.event ≡ never → ¬ CanCommit (p ∷ [])
 one_never p is = λ can.
     let alone : Term → Parked = λ t. record { thread = p.thread; ticket = p.ticket; event = t } in
-    lone_cannot_commit (alone never) refl no_choice refl (subst (λ t. CanCommit (alone t ∷ [])) is can)
+    lone_cannot_commit (alone never) refl still_never refl (subst (λ t. CanCommit (alone t ∷ [])) is can)
 
 -- so a list of one such event can't
 pub list_waits : (list : List Parked) (p : Parked) → 1 ≤ length list → length list < 2 → p ≡ get_or list 0 p → p.event ≡ never → ¬ CanCommit list

@@ -8,7 +8,7 @@ use Rattle.te_history.specs.Room.{room, callers_room, claimed, freed}
 use Rattle.te_history.proofs.AfterEntry.{legal-after}
 use Rattle.te_board.specs.Boards.{IsReserved, most_entries}
 
-idle_room : (n : ℕ) → callers_room (replicate n idle) ≡ n
+pub idle_room : (n : ℕ) → callers_room (replicate n idle) ≡ n
 idle_room zero = refl
 idle_room (suc n) = let rest = idle_room n in omega (arith, rest)
 

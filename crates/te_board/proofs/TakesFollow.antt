@@ -10,7 +10,7 @@ use Rattle.te_history.specs.Histories.{HasStatus, status_of}
 use Rattle.te_history.proofs.Growing.{legal_is_loose}
 use Rattle.te_history.proofs.Lasting.{stuck_waits}
 
-given_so : (s : State) (t ticket : ℕ) (outcome : Outcome) → HasStatus s t (statuses.Given ticket outcome) → Stands s t (given ticket outcome)
+pub given_so : (s : State) (t ticket : ℕ) (outcome : Outcome) → HasStatus s t (statuses.Given ticket outcome) → Stands s t (given ticket outcome)
 given_so s t ticket outcome has = by_standing has.0 has.1 has.2
   where
     by_standing : (x : Standing) → Stands s t x → statuses.Given ticket outcome ≡ status_of x → Stands s t (given ticket outcome)

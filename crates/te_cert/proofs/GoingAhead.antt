@@ -37,7 +37,7 @@ ahead_as_it_stands word m rests none = record { word = []; goes = λ i. stands_s
 -- ---- before a quiet step
 
 -- only what a member settles as counts
-as_settled : (i : ℕ) (m n : Member) (letters : List Bool) → settled m ≡ settled n → by_letters i m letters ≡ by_letters i n letters
+pub as_settled : (i : ℕ) (m n : Member) (letters : List Bool) → settled m ≡ settled n → by_letters i m letters ≡ by_letters i n letters
 as_settled i m n [] e = ap (λ s. without_letter i s (choice_of s (after_choice true s.term) (after_choice false s.term))) e
 as_settled i m n (left ∷ letters) e =
     ap (λ s. with_letter (λ k. by_letters i k letters) left letters s (choice_of s (after_choice true s.term) (after_choice false s.term))) e

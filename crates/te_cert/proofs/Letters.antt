@@ -14,14 +14,10 @@ use Rattle.te_path.specs.Paths.{IsChoice, StandsAt, StepsTo}
 use Rattle.te_cert.specs.Play.{PlayFault, no_letter, Player, Turn, by_choice, stands, choice_of, Advance, with_label}
 use Rattle.te_cert.specs.Players.{with_labels, letters_from, AdvancesAs, Comes}
 use Rattle.te_cert.specs.Advances.{by_letters, without_letter, with_letter}
+use Rattle.te_cert.proofs.GoingAhead.{as_settled}
 
 abbrev turn_at : Member → Turn
 turn_at s = choice_of s (after_choice true s.term) (after_choice false s.term)
-
--- an advance rests on what the member settles as
-pub by_settled : (i : ℕ) (m n : Member) (letters : List Bool) → settled m ≡ settled n → by_letters i m letters ≡ by_letters i n letters
-by_settled i m n [] e = ap (λ s. without_letter i s (turn_at s)) e
-by_settled i m n (left ∷ letters) e = ap (λ s. with_letter (λ x. by_letters i x letters) left letters s (turn_at s)) e
 
 -- a settled member settles as itself
 pub settles_twice : (m : Member) → settled (settled m) ≡ settled m
@@ -80,7 +76,7 @@ takes_letter i m n left letters still at to =
     let same : settled (at_term m to.next) ≡ settled n = sym (settles_twice (at_term m to.next)) ∙ ap settled to.settles in
     taken i m at.0 at.1.0 left letters (settled_already m still) at.1.1
     ∙ ap (λ x. with_label (choice m.thread left) (by_letters i (at_term m x) letters)) part
-    ∙ ap (with_label (choice m.thread left)) (by_settled i (at_term m to.next) n letters same)
+    ∙ ap (with_label (choice m.thread left)) (as_settled i (at_term m to.next) n letters same)
 
 -- ---- labels in front
 

@@ -9,7 +9,7 @@ use Rattle.te_terms.specs.Steps.{Member}
 use Rattle.te_terms.specs.Joint.{RiseFrom, IsGroup, member_of, with_member}
 use Rattle.te_cert.proofs.MembersReplaced.{threads, own_found, other_found, own_replaced, other_replaced}
 
-rest_is_group : (low : ℕ) (g : List Member) → RiseFrom low g → IsGroup g
+pub rest_is_group : (low : ℕ) (g : List Member) → RiseFrom low g → IsGroup g
 rest_is_group low [] rise = tt
 rest_is_group low (x ∷ g) rise = rise.1
 

@@ -14,7 +14,7 @@ all_seated [] letters = refl
 all_seated (m ∷ ms) [] = ap (λ g. m ∷ g) (all_seated ms [])
 all_seated (m ∷ ms) (l ∷ ls) = ap (λ g. m ∷ g) (all_seated ms ls)
 
-ends_at : (i : ℕ) (o : Option Outcome) (letters : List Bool) (r : Outcome) → ending i o letters ≡ Ok r → o ≡ Some r
+pub ends_at : (i : ℕ) (o : Option Outcome) (letters : List Bool) (r : Outcome) → ending i o letters ≡ Ok r → o ≡ Some r
 ends_at i (Some o) [] r e = let same : o ≡ r = cc in ap Some same
 ends_at i (Some o) (l ∷ ls) r e = absurd cc
 ends_at i None letters r e = absurd cc

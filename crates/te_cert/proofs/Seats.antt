@@ -15,15 +15,16 @@ use Rattle.te_cert.specs.Play.{Player, advanced, ending, no_letter, letters_left
 use Rattle.te_cert.specs.Players.{Entering, start_of, seat_of, IsSeat, IsSeatedAt, TakesSeat, Comes, player_handed, PassesOn, TellsFault, TellsPart}
 use Rattle.te_cert.specs.Advances.{by_letters}
 use Rattle.te_cert.proofs.Advancing.{advanced_is}
-use Rattle.te_cert.proofs.Letters.{by_settled, settles_twice}
+use Rattle.te_cert.proofs.Letters.{settles_twice}
+use Rattle.te_cert.proofs.GoingAhead.{as_settled}
 
 -- what settles alike, with the same letters, comes to the same
 pub comes_from : (p q r : Player) (done : Bool) → settled p.member ≡ settled q.member → p.letters ≡ q.letters → Comes q done r → Comes p done r
 comes_from p q r true same letters comes = λ i.
     let there = comes i in
-    (there.0, by_settled i p.member q.member p.letters same ∙ ap (λ ls. by_letters i q.member ls) letters ∙ there.1)
+    (there.0, as_settled i p.member q.member p.letters same ∙ ap (λ ls. by_letters i q.member ls) letters ∙ there.1)
 comes_from p q r false same letters comes = λ i.
-    by_settled i p.member q.member p.letters same ∙ ap (λ ls. by_letters i q.member ls) letters ∙ comes i
+    as_settled i p.member q.member p.letters same ∙ ap (λ ls. by_letters i q.member ls) letters ∙ comes i
 
 -- the step of an end of a meeting
 pub passes_on : {A : Type 0} (v : List Atom) (p q : Player) (o : Option A) → IsSome o

@@ -15,6 +15,8 @@ use Rattle.te_cert.specs.declared.seat.Seat.{Seat}
 use Rattle.te_cert.specs.Play.{Player}
 use Rattle.te_cert.specs.Players.{Entering, entering, all_entering, IsSeat, AreSeated, seats_of, seat_of, Comes, player_handed, PlayerGoesOn, Lacks}
 use Rattle.te_cert.proofs.Advancing.{advanced_is}
+use Rattle.te_terms.proofs.Lists.{get_some}
+use Rattle.te_terms.proofs.Lists.{found_here}
 
 -- ---- who enters
 
@@ -33,16 +35,6 @@ enters_there (n ∷ ms) (k ∷ ls) zero m l p q =
 enters_there (n ∷ ms) (k ∷ ls) (suc i) m l p q = enters_there ms ls i m l p q
 
 -- ---- by place
-
--- something is there
-some_there : {A : Type 0} (xs : List A) (i : ℕ) → i < length xs → (x : A) × (slice_get xs i ≡ Some x)
-some_there [] i within = absurd (omega arith)
-some_there (x ∷ xs) zero within = (x, refl)
-some_there (x ∷ xs) (suc i) within = some_there xs i (omega arith)
-
--- what is found at a place within a list
-pub found_here : {A : Type 0} (xs : List A) (i : ℕ) (x : A) → i < length xs → x ≡ get_or xs i x → slice_get xs i ≡ Some x
-found_here xs i x within is = slice_get-get_or xs i x within ∙ ap Some (sym is)
 
 pub as_many_seats : (cells : Cells) (es : List Entering) (ks : List Seat) → AreSeated cells es ks → length es ≡ length ks
 as_many_seats cells [] [] seated = refl
@@ -126,7 +118,7 @@ pub standing : (cells : Cells) (ms : List Member) (ls : List Lent) (ks : List Se
     Standing (seats_of cells (all_entering ms ls) ks) i k.spot.stop
 standing cells ms ls ks i k many seated within is =
     let here = seat_read cells ms ls ks i k many seated within is in
-    let enters = some_there (all_entering ms ls) i (omega (arith, within, as_many_enter ms ls many)) in
+    let enters = get_some (all_entering ms ls) i (omega (arith, within, as_many_enter ms ls many)) in
     record {
       player = seat_of cells enters.0 k;
       is_there = seat_there cells (all_entering ms ls) ks i enters.0 k enters.1 here;

@@ -6,6 +6,7 @@ use Rattle.te_terms.specs.Joint.{RiseFrom, IsGroup, member_of, with_member}
 use Rattle.te_cert.specs.Play.{Player}
 use Rattle.te_cert.specs.Certs.{place_of}
 use Rattle.te_cert.proofs.Places.{by_threads}
+use Rattle.te_cert.proofs.PlacesOfThreads.{rest_is_group}
 
 -- the player at each place fits the member there
 abbrev pub AreBeside : (Member → Player → Type 0) → List Member → List Player → Type 0
@@ -19,11 +20,6 @@ pub record TakesPlace (Before After : Member → Player → Type 0) (g : List Me
   pub stands : slice_get ps i ≡ Some player
   pub fits : After n player
   pub before : (q : Player) → Before m q → AreBeside Before g (slice_set ps i q)
-
--- members of threads that rise are a group
-rises : (low : ℕ) (g : List Member) → RiseFrom low g → IsGroup g
-rises low [] h = h
-rises low (o ∷ g) h = h.1
 
 -- members of higher threads stay as they are
 higher : (Before After : Member → Player → Type 0) (low : ℕ) (g : List Member) (ps : List Player) → RiseFrom low g →
@@ -66,7 +62,7 @@ one_changes Before After (o ∷ g) m n ps group at others h = by_threads o.threa
         TakesPlace Before After (o ∷ g) m n ps (suc (place_of n.thread g))
     there [] at apart h ih = absurd h
     there (p ∷ ps) at apart h ih =
-        let rest = ih ps (rises o.thread g group) at others h.1 in
+        let rest = ih ps (rest_is_group o.thread g group) at others h.1 in
         record {
           player = rest.player;
           stands = rest.stands;

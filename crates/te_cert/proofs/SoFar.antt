@@ -14,18 +14,10 @@ use Rattle.te_cert.specs.declared.seat.Seat.{Seat}
 use Rattle.te_cert.specs.Play.{PlayFault, Player, Table, ◌>>=◌, advanced, all_advanced, meets, all_meet, ending, endings}
 use Rattle.te_cert.specs.Players.{Entering, IsSeat, AreSeated, IsSeatedAt, start_of, starts_of, seat_of, seats_of, BecomesTable, players_before, outcomes_before, TellsFault, TellsPart}
 use Rattle.te_cert.proofs.SeatsByPlace.{seated_stay, seats_stay}
+use Rattle.te_terms.proofs.Lists.{drop_at}
+use Rattle.te_terms.proofs.Lists.{take_next}
 
 -- ---- a list by its place
-
-pub from_here : {A : Type 0} (xs : List A) (i : ℕ) (x : A) → slice_get xs i ≡ Some x → drop i xs ≡ x ∷ drop (suc i) xs
-from_here [] i x e = absurd cc
-from_here (y ∷ xs) zero x e = let is : y ≡ x = cc in ap (λ z. z ∷ xs) is
-from_here (y ∷ xs) (suc i) x e = from_here xs i x e
-
-pub up_to_here : {A : Type 0} (xs : List A) (i : ℕ) (x : A) → slice_get xs i ≡ Some x → take (suc i) xs ≡ take i xs ++ x ∷ []
-up_to_here [] i x e = absurd cc
-up_to_here (y ∷ xs) zero x e = let is : y ≡ x = cc in ap (λ z. z ∷ []) is
-up_to_here (y ∷ xs) (suc i) x e = ap (λ zs. y ∷ zs) (up_to_here xs i x e)
 
 -- ---- all advance
 
@@ -77,7 +69,7 @@ pub advanced_more : (old new : Cells) (es : List Entering) (ks : List Seat) (i :
     HaveAdvanced new es (ks ++ k ∷ []) (i + 1)
 advanced_more old new es ks i e k e_is grows have at =
     let old_seated : AreSeated new (take i es) ks = seated_stay old new (take i es) ks grows have.seated in
-    let longer : take (suc i) es ≡ take i es ++ e ∷ [] = up_to_here es i e e_is in
+    let longer : take (suc i) es ≡ take i es ++ e ∷ [] = take_next es i e e_is in
     let seats : seats_of new (take i es) ks ++ seat_of new e k ∷ [] ≡ seats_of new (take (suc i) es) (ks ++ k ∷ []) =
     sym (seats_more new (take i es) ks e k old_seated) ∙ ap (λ x. seats_of new x (ks ++ k ∷ [])) (sym longer) in
     subst (HaveAdvanced new es (ks ++ k ∷ [])) (sym (add-one i)) (record {
@@ -85,7 +77,7 @@ advanced_more old new es ks i e k e_is grows have at =
       word = have.word ++ at.word;
       so_far = have.so_far
           ∙ ap (λ ps. players_before ps have.word (all_advanced i (starts_of (drop i es)))) (sym (seats_stay old new (take i es) ks grows have.seated))
-          ∙ ap (λ x. players_before (seats_of new (take i es) ks) have.word (all_advanced i (starts_of x))) (from_here es i e e_is)
+          ∙ ap (λ x. players_before (seats_of new (take i es) ks) have.word (all_advanced i (starts_of x))) (drop_at es i e e_is)
           ∙ advance_on i (seats_of new (take i es) ks) have.word new e k (drop (suc i) es) at
           ∙ ap (λ ps. players_before ps (have.word ++ at.word) (all_advanced (suc i) (starts_of (drop (suc i) es)))) seats;
     })
@@ -94,7 +86,7 @@ pub advances_fail : (cells : Cells) (es : List Entering) (ks : List Seat) (i : �
     → HaveAdvanced cells es ks i → TellsFault (advanced i (start_of e)) fault →
     TellsFault (all_advanced 0 (starts_of es)) fault
 advances_fail cells es ks i e fault e_is have fails =
-    rw (have.so_far, from_here es i e e_is) (advance_fails i (seats_of cells (take i es) ks) have.word e (drop (suc i) es) fault fails)
+    rw (have.so_far, drop_at es i e e_is) (advance_fails i (seats_of cells (take i es) ks) have.word e (drop (suc i) es) fault fails)
 
 -- with none left
 pub all_seated : (cells : Cells) (es : List Entering) (ks : List Seat) (i : ℕ) → length es ≤ i → HaveAdvanced cells es ks i → AreSeated cells es ks
@@ -160,8 +152,8 @@ module _ (cells : Cells) (es : List Entering) (ks : List Seat) (os : List Outcom
   here_so : r ≡ outcomes_before os (endings i (seat_of cells e k ∷ seats_of cells (drop (suc i) es) (drop (suc i) ks)))
   here_so =
       so_far
-      ∙ ap (λ x. outcomes_before os (endings i (seats_of cells x (drop i ks)))) (from_here es i e e_is)
-      ∙ ap (λ x. outcomes_before os (endings i (seats_of cells (e ∷ drop (suc i) es) x))) (from_here ks i k k_is)
+      ∙ ap (λ x. outcomes_before os (endings i (seats_of cells x (drop i ks)))) (drop_at es i e e_is)
+      ∙ ap (λ x. outcomes_before os (endings i (seats_of cells (e ∷ drop (suc i) es) x))) (drop_at ks i k k_is)
 
   pub ended_on : (o : Outcome) → TellsPart (ending i (outcome_of (seat_of cells e k).member.term) (seat_of cells e k).letters) (Ok o) →
       r ≡ outcomes_before (os ++ o ∷ []) (endings (i + 1) (seats_of cells (drop (i + 1) es) (drop (i + 1) ks)))

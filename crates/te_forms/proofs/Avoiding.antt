@@ -16,11 +16,7 @@ use Rattle.te_terms.specs.Steps.{Member, come_to, giving, raising, given_by, rai
 use Rattle.te_terms.specs.Joint.{Message, message, chosen_from, after_choice, sent_from, channel_at, received_on, sending, receiving}
 use Rattle.te_forms.specs.Rings.{IsRing, IsOnRing}
 use Rattle.te_forms.specs.Privacy.{AtomAvoids, ValueAvoids, VariableAvoids, PrimitiveAvoids, CalculationAvoids, ExpressionAvoids, TermAvoids}
-
-pub all_at : {X : Type 0} (P : X → Type 0) (xs : List X) (i : ℕ) (x : X) → AllByRecursion P xs → slice_get xs i ≡ Some x → P x
-all_at P [] i x all at = absurd cc
-all_at P (y ∷ ys) zero x all at = let is : y ≡ x = cc in subst P is all.0
-all_at P (y ∷ ys) (suc i) x all at = all_at P ys i x all.1 at
+use Rattle.te_terms.proofs.Lists.{all_at}
 
 -- what came to a value came there through its first part
 through : {A B : Type 0} (r : Result A Trap) (f : A → Result B Trap) (y : B) → (r >>= f) ≡ Ok y → (x : A) × (r ≡ Ok x) × (f x ≡ Ok y)

@@ -15,8 +15,9 @@ use Rattle.te_forms.specs.Forms.{IsForm}
 use Rattle.te_forms.specs.Privacy.{FitsRing, IsPrivate}
 use Rattle.te_forms.specs.Handing.{FormMember}
 use Rattle.te_forms.specs.Reading.{form_in, form_at, marks_of}
-use Rattle.te_forms.proofs.Places.{one_event}
-use Rattle.te_forms.proofs.Posts.{parked_posted, posted_there, in_beginning}
+use Rattle.te_board.proofs.ParkedLists.{one_event}
+use Rattle.te_forms.proofs.Posts.{parked_posted, posted_there}
+use Rattle.te_terms.proofs.Lists.{in_beginning}
 use Rattle.te_forms.proofs.Recognized.{is_read, one_form, read_is, form_names}
 use Rattle.te_forms.proofs.Stages.{begun}
 use Rattle.te_forms.proofs.Seats.{Seat, acting, AllFit, first_seat, first_seats}

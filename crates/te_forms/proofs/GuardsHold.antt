@@ -26,7 +26,8 @@ use Rattle.te_history.specs.State.{state}
 use Rattle.te_history.proofs.Commits.{same_or_other}
 use Rattle.te_forms.specs.Forms.{guarded_term}
 use Rattle.te_forms.specs.Guards.{IsGuarded, GuardHolds}
-use Rattle.te_forms.proofs.Places.{group_at, one_event, player_at, outcome_at, parts_of}
+use Rattle.te_forms.proofs.Places.{group_at, player_at, outcome_at, parts_of}
+use Rattle.te_board.proofs.ParkedLists.{one_event}
 use Rattle.te_forms.proofs.Posts.{commits_so}
 
 -- the player at a place stands at such a term

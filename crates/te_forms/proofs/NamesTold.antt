@@ -12,7 +12,7 @@ use Rattle.te_forms.specs.Rings.{IsRing, IsOnRing}
 use Rattle.te_forms.specs.Forms.{offer_of}
 use Rattle.te_forms.specs.Privacy.{ValueAvoids, VariableAvoids, TermAvoids, FitsRing, IsPrivate}
 use Rattle.te_forms.specs.Reading.{role_on, form_in, EntryFits}
-use Rattle.te_forms.proofs.Avoiding.{all_at}
+use Rattle.te_terms.proofs.Lists.{all_at}
 use Rattle.std.proofs.lemmas.Bool.{cases_lt}
 use Rattle.te_forms.proofs.Recognized.{role_found, no_role, is_read, read_is, form_names}
 

@@ -15,7 +15,7 @@ use Rattle.te_forms.specs.Rings.{IsRing, role_before}
 use Rattle.te_forms.specs.Forms.{role_of, IsForm}
 use Rattle.te_forms.specs.Privacy.{TermAvoids, FitsRing}
 use Rattle.te_forms.specs.Handing.{FormMember, NumberOf, none, one_more, as_many, HasRole, AreEven}
-use Rattle.te_forms.proofs.Places.{one_event}
+use Rattle.te_board.proofs.ParkedLists.{one_event}
 use Rattle.te_forms.proofs.Recognized.{one_form, form_names}
 use Rattle.te_forms.proofs.Stages.{begun}
 use Rattle.te_forms.proofs.Seats.{Seat, acting, AllFit, first_seat, first_seats, AllDone}

@@ -11,6 +11,8 @@ use Rattle.te_cert.specs.Play.{Player, Table, Advance, Played, advanced, all_adv
 use Rattle.te_cert.proofs.AllAdvance.{through}
 use Rattle.te_history.specs.State.{parked, State}
 use Rattle.te_history.specs.Follows.{Stands, AreEvents}
+use Rattle.te_board.proofs.ParkedLists.{one_event}
+use Rattle.te_cert.proofs.PlaysReduce.{ends_at}
 
 -- ---- the group
 
@@ -28,10 +30,6 @@ group_at s (n ∷ ns) (g ∷ gs) (suc i) m events at =
     let rest = group_at s ns gs i m events.2 at in record { one = rest.one; is_there = rest.is_there; stands = rest.stands }
 group_at s [] (g ∷ gs) i m events at = absurd events
 group_at s (n ∷ ns) [] i m events at = absurd events
-
--- a caller is parked with one event
-pub one_event : (s : State) (t k : ℕ) (e f : Term) → Stands s t (parked k e) → Stands s t (parked k f) → e ≡ f
-one_event s t k e f stands also = let both : Some (parked k e) ≡ Some (parked k f) = sym stands ∙ also in cc
 
 -- ---- the players
 
@@ -87,11 +85,6 @@ pub record OutcomeAt (os : List Outcome) (p : Player) (i : ℕ) : Type 0 where
   pub is_there : slice_get os i ≡ Some outcome
   pub ends : outcome_of p.member.term ≡ Some outcome
 
-pub ends_so : (i : ℕ) (o : Option Outcome) (letters : List Bool) (r : Outcome) → ending i o letters ≡ Ok r → o ≡ Some r
-ends_so i (Some o) [] r e = let same : o ≡ r = cc in ap Some same
-ends_so i (Some o) (l ∷ ls) r e = absurd cc
-ends_so i None letters r e = absurd cc
-
 pub outcome_at : (k : ℕ) (ps : List Player) (os : List Outcome) (i : ℕ) (p : Player) → endings k ps ≡ Ok os → slice_get ps i ≡ Some p → OutcomeAt os p i
 outcome_at k [] os i p e at = absurd cc
 outcome_at k (q ∷ qs) os zero p e at =
@@ -99,7 +92,7 @@ outcome_at k (q ∷ qs) os zero p e at =
     let others = through (endings (suc k) qs) _ os first.2 in
     let both : first.0 ∷ others.0 ≡ os = let so = others.2 in cc in
     let same : q ≡ p = cc in
-    let ends = ends_so k (outcome_of q.member.term) q.letters first.0 first.1 in
+    let ends = ends_at k (outcome_of q.member.term) q.letters first.0 first.1 in
     record {
       outcome = first.0;
       is_there = ap (λ (xs : List Outcome). slice_get xs 0) (sym both);

@@ -13,6 +13,7 @@ use Rattle.te_history.specs.State.{Standing, idle, parked, given, ended, State, 
 use Rattle.te_history.specs.Follows.{Stands, Commits, LooselyFollows, LooseFrom, IsLoose}
 use Rattle.te_history.proofs.Commits.{same_or_other}
 use Rattle.te_forms.specs.Reading.{posted_by, or_else, last_posted}
+use Rattle.te_terms.proofs.Lists.{in_beginning}
 
 -- ---- one standing is put in place
 
@@ -133,12 +134,6 @@ posted_there t (entry ∷ es) e is = by_rest (last_posted t es) (λ x so. posted
     by_rest None rest so = let here = posts_so t entry e so in record { place = 0; ticket = here.0; is_there = ap Some here.1 }
 
 -- ---- beginnings of histories
-
-pub in_beginning : {X : Type 0} (n : ℕ) (xs : List X) (k : ℕ) (x : X) → slice_get (take n xs) k ≡ Some x → slice_get xs k ≡ Some x
-in_beginning zero xs k x at = absurd cc
-in_beginning (suc n) [] k x at = absurd cc
-in_beginning (suc n) (y ∷ ys) zero x at = at
-in_beginning (suc n) (y ∷ ys) (suc k) x at = in_beginning n ys k x at
 
 follows_from : (callers : ℕ) (before history : List Entry) (n : ℕ) (e : Entry) → LooseFrom callers before history → slice_get history n ≡ Some e
     → LooselyFollows callers (before ++ take n history) e

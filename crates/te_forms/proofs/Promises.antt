@@ -13,10 +13,7 @@ use Rattle.te_forms.specs.Privacy.{IsPrivate}
 use Rattle.te_forms.specs.Handing.{CommitAt, state_before, AreHanded, EachOnce, NobodyElse, GoRound, AreGiven, AreEven}
 use Rattle.te_forms.specs.Reading.{marks_of, pair_in}
 use Rattle.te_forms.proofs.Commits.{Promised, promised}
-
-pub if_ok : {A E : Type 0} (P Q : A → Type 0) (r : Result A E) → ((a : A) → P a → Q a) → IfOk r P → IfOk r Q
-if_ok P Q (Ok a) f h = f a h
-if_ok P Q (Err e) f h = tt
+use Rattle.te_terms.proofs.Lists.{if_ok}
 
 -- the pairs of a certificate's meetings
 abbrev pub pairs_of : List ℕ → History → ℕ → Cert → List Handed

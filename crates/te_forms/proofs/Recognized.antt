@@ -15,17 +15,13 @@ use Rattle.te_forms.specs.Forms.{form_term, role_of, IsForm}
 use Rattle.te_forms.specs.Privacy.{TermAvoids}
 use Rattle.te_forms.specs.Reading.{parts_at, channel_named, constant, sent_so, sent_by, received_by, gives_name, is_unit, gives_unit, form_if, is_on, role_on, last_channel, waits_first, form_after_sending, sends_first, by_end, by_role, by_sent, receives_first, by_first, by_parts, form_in}
 use Rattle.te_forms.proofs.Moves.{in_ring}
+use Rattle.te_terms.proofs.Lists.{both_true}
 
 -- ---- parts of terms
 
 when_true : {A : Type 0} (b : Bool) (o : Option A) (x : A) → cond {A = Option A} b o None ≡ Some x → (b ≡ true) × (o ≡ Some x)
 when_true true o x e = (refl, e)
 when_true false o x e = absurd cc
-
-both_true : (a b : Bool) → (a && b) ≡ true → (a ≡ true) × (b ≡ true)
-both_true true true e = (refl, refl)
-both_true true false e = absurd cc
-both_true false b e = absurd cc
 
 pub empty : (v : List Atom) → (length v == 0) ≡ true → v ≡ []
 empty [] e = refl

@@ -11,7 +11,7 @@ use Rattle.te_forms.specs.Rings.{IsRing}
 use Rattle.te_forms.specs.Forms.{form_term, role_of}
 use Rattle.te_forms.specs.Privacy.{TermAvoids, FitsRing}
 use Rattle.te_forms.proofs.AdvancesAvoid.{advance_avoids}
-use Rattle.te_forms.proofs.Places.{ends_so}
+use Rattle.te_cert.proofs.PlaysReduce.{ends_at as ends_so}
 use Rattle.te_forms.proofs.Stages.{Stage, begun, stage_term, begins, Ended, ends_at}
 
 pub data Seat : Type 0 where

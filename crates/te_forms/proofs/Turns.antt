@@ -13,15 +13,13 @@ use Rattle.te_forms.specs.Forms.{role_of, offer_of}
 use Rattle.te_forms.proofs.Stages.{Stage, begun, halfway, done, after_send, after_receive}
 use Rattle.te_forms.proofs.Seats.{Seat, stranger, acting}
 use Rattle.te_forms.proofs.Moves.{Handing, both_moved}
+use Rattle.te_terms.proofs.Lists.{one_item}
 
 pub form_of_seat : (f g : Form) (s t : Stage) → acting f s ≡ acting g t → f ≡ g
 form_of_seat f g s t e = cc
 
 pub stage_of_seat : (f g : Form) (s t : Stage) → acting f s ≡ acting g t → s ≡ t
 stage_of_seat f g s t e = cc
-
-one_item : {A : Type 0} (o : Option A) (x y : A) → o ≡ Some x → o ≡ Some y → x ≡ y
-one_item o x y e e' = let both : Some x ≡ Some y = sym e ∙ e' in cc
 
 -- no stage is due to both send and receive
 pub not_both : (role : ℕ) (v : List Atom) (s a b : Stage) → after_send role s ≡ Some a → after_receive role v s ≡ Some b → ⊥

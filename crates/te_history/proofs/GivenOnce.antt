@@ -201,7 +201,7 @@ once_after callers t h (Commit by cert outcomes) follows once = by_touch (touch 
 
 -- ---- all histories
 
-all_idle : (n t : ℕ) (x : Standing) → slice_get (replicate n idle) t ≡ Some x → x ≡ idle
+pub all_idle : (n t : ℕ) (x : Standing) → slice_get (replicate n idle) t ≡ Some x → x ≡ idle
 all_idle zero t x is = absurd cc
 all_idle (suc n) zero x is = cc
 all_idle (suc n) (suc t) x is = all_idle n t x is

@@ -11,9 +11,7 @@ use Rattle.te_history.specs.State.{state, parked_list}
 use Rattle.te_history.specs.Follows.{Commits, IsLegal, IsLoose}
 use Rattle.te_history.proofs.NoCommit.{lone_never_commits}
 use Rattle.te_history.proofs.RowsExchange as exchange
-
-some_item : {A : Type 0} {x : A} {xs : List A} → x ∷ xs ≢ []
-some_item e = cc
+use Rattle.te_terms.proofs.Lists.{some_item}
 
 -- ---- the exchange
 

@@ -20,7 +20,9 @@ use Rattle.te_history.specs.Follows.{Stands, AreEvents, LooselyFollows, IsLoose}
 use Rattle.te_history.specs.Histories.{phase_of}
 use Rattle.te_history.specs.Kept.{StateIsKept, to_status, to_post, with_status, seats_given, seats_after, phase_after, resting_after}
 use Rattle.te_history.proofs.AfterEntry.{state-after, counted, posts_by-after, posts_by_at_most, length-state, loose-after}
-use Rattle.te_history.proofs.SeatsAfter.{seat_at, length-changed, length-seats_after, seat_shows-longer, get-last, shows_along, posts_of_seat, AllShow, all_changed, all_restand}
+use Rattle.te_history.proofs.SeatsAfter.{length-changed, length-seats_after, seat_shows-longer, shows_along, posts_of_seat, AllShow, all_changed, all_restand}
+use Rattle.te_terms.proofs.Lists.{get-last}
+use Rattle.te_terms.proofs.Lists.{get_some}
 
 -- ---- members
 
@@ -50,7 +52,7 @@ all_given history posts [] os seats s all within same = all
 all_given history posts (m ∷ ms) [] seats s all within same = all
 all_given history posts (m ∷ ms) (o ∷ os) seats s all within same =
     let low : m.thread < length s.callers = let here = within.0 in omega (arith, here, same) in
-    let old = seat_at s.callers m.thread low in
+    let old = get_some s.callers m.thread low in
     let seats' = with_status m.thread (statuses.Given m.ticket o) seats in
     let longer : length seats' ≡ length seats = length-changed m.thread (to_status (statuses.Given m.ticket o)) (slice_get seats m.thread) seats in
     all_given history posts ms os seats' (with_standing m.thread (given m.ticket o) s)
@@ -70,7 +72,7 @@ all_after : (history : List Entry) (seats : List Seat) (e : Entry) → AllShow h
 all_after history seats (Post by ticket event) all follows =
     let longer : AllShow (history ++ Post by ticket event ∷ []) (λ t. posts_by t history) seats
     (state (length seats) history).callers = λ t. seat_shows-longer history _ _ _ _ (all t) in
-    let at = seat_at seats by (within_callers (length seats) history by idle follows.1) in
+    let at = get_some seats by (within_callers (length seats) history by idle follows.1) in
     all_changed _ (λ t. posts_by t history) (λ t. counted (by == t) (posts_by t history)) seats _ by (to_post ticket (length history)) at.0 idle
     (parked ticket event) longer at.1 follows.1
     (add-one at.0.posts ∙ ap suc (posts_of_seat _ (λ t. posts_by t history) seats _ by at.0 all at.1) ∙ ap (λ (b : Bool). counted b (posts_by by history))
@@ -114,7 +116,7 @@ phase-changed s (Rest by) = refl
 phase-changed s (Stuck by) = refl
 phase-changed s (End by how) = refl
 
-given_resting : (ms : List Member) (os : List Outcome) (s : State) → (with_given ms os s).resting ≡ s.resting
+pub given_resting : (ms : List Member) (os : List Outcome) (s : State) → (with_given ms os s).resting ≡ s.resting
 given_resting [] os s = refl
 given_resting (m ∷ ms) [] s = refl
 given_resting (m ∷ ms) (o ∷ os) s = given_resting ms os (with_standing m.thread (given m.ticket o) s)

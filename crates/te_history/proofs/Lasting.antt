@@ -11,8 +11,9 @@ use Rattle.te_history.specs.Follows.{Stands, IsParkedOrEnded, MayEndAs, LooselyF
 use Rattle.te_history.proofs.AfterEntry.{state-after}
 use Rattle.te_history.proofs.Commits.{same_or_other, stands_put, stands_other, Touch, untouched, touched, touch}
 use Rattle.te_history.proofs.Growing.{grows, later_part}
-use Rattle.te_history.proofs.Places.{by_place}
-use Rattle.te_history.proofs.RoomNeverRises.{stuck_stays, resting_stays}
+use Rattle.te_terms.proofs.Lists.{all_at}
+use Rattle.te_history.proofs.RoomNeverRises.{stuck_stays}
+use Rattle.te_history.proofs.KeptAfter.{given_resting}
 
 -- ---- an ended caller
 
@@ -61,7 +62,7 @@ all_after callers h (Commit by cert outcomes) follows all stuck =
 all_after callers h (Withdraw by ticket) follows all stuck = let runs = follows.0 in absurd cc
 all_after callers h (Take by ticket outcome) follows all stuck = let runs = follows.0 in absurd cc
 all_after callers h (Rest by) follows all stuck = let runs = follows.0 in absurd cc
-all_after callers h (Stuck by) follows all stuck = λ t x stands. by_place IsParkedOrEnded (state callers h).callers t x follows.2 stands
+all_after callers h (Stuck by) follows all stuck = λ t x stands. all_at IsParkedOrEnded (state callers h).callers t x follows.2 stands
 all_after callers h (End by how) follows all stuck = λ t x stands. by_caller t x stands (same_or_other by t)
   where
     old : (how : How) → MayEndAs (state callers h) by how → (x : Standing) × Stands (state callers h) by x
@@ -143,7 +144,7 @@ resting_from s [] is = inl is
 resting_from s (Rest by ∷ es) is = inr (0, by, refl)
 resting_from s (Post by ticket event ∷ es) is = elim (resting_from (changed s (Post by ticket event)) es is) [ inl was ↦ inl was | inr has ↦ inr (later_has Rest _ es has) ]
 resting_from s (Commit by cert outcomes ∷ es) is = elim (resting_from (changed s (Commit by cert outcomes)) es is) [
-  | inl was ↦ inl (sym (resting_stays cert.members outcomes s) ∙ was)
+  | inl was ↦ inl (sym (given_resting cert.members outcomes s) ∙ was)
   | inr has ↦ inr (later_has Rest _ es has)
 ]
 resting_from s (Withdraw by ticket ∷ es) is = elim (resting_from (changed s (Withdraw by ticket)) es is) [ inl was ↦ inl was | inr has ↦ inr (later_has Rest _ es has) ]
@@ -153,7 +154,7 @@ resting_from s (End by how ∷ es) is = elim (resting_from (changed s (End by ho
 
 resting_one : (s : State) (e : Entry) → s.resting ≡ true → (changed s e).resting ≡ true
 resting_one s (Post by ticket event) is = is
-resting_one s (Commit by cert outcomes) is = resting_stays cert.members outcomes s ∙ is
+resting_one s (Commit by cert outcomes) is = given_resting cert.members outcomes s ∙ is
 resting_one s (Withdraw by ticket) is = is
 resting_one s (Take by ticket outcome) is = is
 resting_one s (Stuck by) is = is

@@ -6,6 +6,7 @@ use Rattle.te_terms.specs.declared.event.Outcome.{Outcome}
 use Rattle.te_terms.specs.declared.event.Parked.{Parked}
 use Rattle.te_terms.specs.Steps.{Member, quiet_step, outcome_of}
 use Rattle.te_terms.specs.Joint.{Label, choice, meeting, Action, quiet, labelled, after_choice, with_term, meeting_of, joint_step, after, and_outcome, outcomes_of, Reduces, as_member, CanCommit}
+use Rattle.te_terms.proofs.CannotCommit.{nobody_can_commit}
 
 -- no quiet step, no choice, no meeting with itself, and not final
 pub record IsHopeless (m : Member) : Type 0 where
@@ -51,6 +52,3 @@ lone_part m h false word results some r = some refl
 
 pub lone_never_commits : (p : Parked) → IsHopeless (as_member p) → ¬ CanCommit (p ∷ [])
 lone_never_commits p h c = lone_part (as_member p) h (c.side p.thread) c.word c.results c.is_some c.reduces
-
-pub nobody_commits : ¬ CanCommit []
-nobody_commits c = c.is_some refl

@@ -3,15 +3,12 @@ use Rattle.std.proofs.Common.{◌≡◌, ℕ, zero, suc, ◌+◌, ◌<◌, ◌�
 use Rattle.std.specs.List.{slice_get, AllByRecursion}
 use Rattle.std.proofs.lemmas.Bool.{cases_lt}
 use Rattle.std.proofs.lemmas.Option.{slice_get_past}
+use Rattle.te_terms.proofs.Lists.{all_at}
+use Rattle.te_terms.proofs.Lists.{get_at}
 
 pub all_by_places : {A : Type 0} (P : A → Type 0) (xs : List A) → ((k : ℕ) (x : A) → slice_get xs k ≡ Some x → P x) → AllByRecursion P xs
 all_by_places P [] each = tt
 all_by_places P (x ∷ xs) each = (each 0 x refl, all_by_places P xs (λ k. each (suc k)))
-
-pub by_place : {A : Type 0} (P : A → Type 0) (xs : List A) (k : ℕ) (x : A) → AllByRecursion P xs → slice_get xs k ≡ Some x → P x
-by_place P [] k x all is = absurd cc
-by_place P (y ∷ ys) zero x all is = let same : y ≡ x = cc in subst P same all.0
-by_place P (y ∷ ys) (suc k) x all is = by_place P ys k x all.1 is
 
 -- what holds before a place, and at it, holds before the next
 pub before_next : {A : Type 0} (P : A → Type 0) (xs : List A) (i : ℕ) (x : A) → slice_get xs i ≡ Some x → P x
@@ -43,9 +40,3 @@ same_up_to xs ys n short short' before =
       | inl low ↦ before k low
       | inr past ↦ slice_get_past xs k (omega (arith, past, short)) ∙ sym (slice_get_past ys k (omega (arith, past, short')))
     ])
-
--- what is read at a place
-pub get_at : {A : Type 0} (xs : List A) (i : ℕ) (d : A) → i < length xs → slice_get xs i ≡ Some (get_or xs i d)
-get_at [] i d low = absurd (omega arith)
-get_at (x ∷ xs) zero d low = refl
-get_at (x ∷ xs) (suc i) d low = get_at xs i d (omega arith)

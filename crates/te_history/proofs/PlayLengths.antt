@@ -6,10 +6,7 @@ use Rattle.te_terms.specs.declared.event.Outcome.{Outcome}
 use Rattle.te_terms.specs.Steps.{Member, outcome_of}
 use Rattle.te_cert.specs.declared.cert.Meeting.{Meeting}
 use Rattle.te_cert.specs.Play.{PlayFault, Player, Table, Played, Ends, ◌>>=◌, advanced, all_advanced, met, ends_advance, meets, all_meet, ending, endings, seated, play}
-
-through : {A B : Type 0} (r : Result A PlayFault) (f : A → Result B PlayFault) (b : B) → (r >>= f) ≡ Ok b → (a : A) × (r ≡ Ok a) × (f a ≡ Ok b)
-through (Ok a) f b is = (a, refl, is)
-through (Err e) f b is = absurd cc
+use Rattle.te_cert.proofs.AllAdvance.{through}
 
 length-advanced : (i : ℕ) (ps : List Player) (t : Table) → all_advanced i ps ≡ Ok t → length t.players ≡ length ps
 length-advanced i [] t is = let empty : t.players ≡ [] = cc in ap length empty

@@ -26,7 +26,7 @@ use Rattle.te_history.specs.Histories.{History, now, HasStatus}
 use Rattle.te_history.specs.Refusals.{IsFirstLive, AreCallers, IsFirstStranger, IsFirstStale, AreParked, IsFirstOther, RefusesPost, RefusesWithdraw, RefusesTake, RefusesRest, RefusesStuck, RefusesEnd, RefusesCommit, RefusesEntry, IsEndEntry, IsOpenFor, IsRefused}
 use Rattle.te_history.proofs.AfterEntry.{length-state}
 use Rattle.te_history.proofs.Events.{length-parked}
-use Rattle.te_history.proofs.Places.{by_place}
+use Rattle.te_terms.proofs.Lists.{all_at}
 use Rattle.te_history.proofs.RefusedCommits.{one_status, one_play}
 use Rattle.te_history.proofs.RefusedDontFollow.{parked_or_ended}
 
@@ -35,7 +35,7 @@ use Rattle.te_history.proofs.RefusedDontFollow.{parked_or_ended}
 one_standing : (s : State) (t : ℕ) (a b : Standing) → Stands s t a → Stands s t b → a ≡ b
 one_standing s t a b at at' = let both : Some a ≡ Some b = sym at ∙ at' in cc
 
-statuses_are_one : (s : State) (t : ℕ) (a b : Status) → HasStatus s t a → HasStatus s t b → a ≡ b
+pub statuses_are_one : (s : State) (t : ℕ) (a b : Status) → HasStatus s t a → HasStatus s t b → a ≡ b
 statuses_are_one s t a b has has' = has.2 ∙ sym (one_status s t has.0 b has.1 has')
 
 -- ---- checks of one certificate
@@ -113,7 +113,7 @@ checks_are_one cert events a b found found' checked checked' =
 -- ---- commits
 
 -- the events that members are parked with are one list
-one_list : (s : State) (ms : List Member) (es fs : List Term) → AreParked s ms es → AreParked s ms fs → es ≡ fs
+pub one_list : (s : State) (ms : List Member) (es fs : List Term) → AreParked s ms es → AreParked s ms fs → es ≡ fs
 one_list s [] [] [] all all' = refl
 one_list s (m ∷ ms) (e ∷ es) (f ∷ fs) all all' =
     let both : parked m.ticket e ≡ parked m.ticket f = one_standing s m.thread _ _ all.0 all'.0 in
@@ -323,7 +323,7 @@ one_live s t u a b live live' =
 no_live : (s : State) (t : ℕ) (status : Status) → IsFirstLive s t status → AllByRecursion IsParkedOrEnded s.callers → ⊥
 no_live s t status live all =
     let has = live.stands in
-    parked_or_ended s t status has.0 has.1 has (by_place IsParkedOrEnded s.callers t has.0 all has.1) live.not_parked live.not_ended
+    parked_or_ended s t status has.0 has.1 has (all_at IsParkedOrEnded s.callers t has.0 all has.1) live.not_parked live.not_ended
 
 one_stuck : (s : State) (by : ℕ) (a b : StepFault) → RefusesStuck s by a → RefusesStuck s by b → a ≡ b
 one_stuck s by (faults.Live t x) (faults.Live u y) r q = one_live s t u x y r q

@@ -16,7 +16,7 @@ use Rattle.te_history.specs.Follows.{Stands, IsParkedOrEnded, MayEndAs, LooselyF
 use Rattle.te_history.specs.Histories.{History, now, HasStatus}
 use Rattle.te_history.specs.Refusals.{RefusesPost, RefusesWithdraw, RefusesTake, RefusesRest, RefusesStuck, RefusesEnd, RefusesEntry, IsEndEntry, IsRefused}
 use Rattle.te_history.proofs.AfterEntry.{length-state}
-use Rattle.te_history.proofs.Places.{by_place}
+use Rattle.te_terms.proofs.Lists.{all_at}
 use Rattle.te_history.proofs.RefusedCommits.{one_status, not_commit}
 
 -- ---- each kind of entry
@@ -58,7 +58,7 @@ not_stuck : (s : State) (by ticket : ℕ) (event : _) (fault : StepFault) → Re
     → AllByRecursion IsParkedOrEnded s.callers → ⊥
 not_stuck s by ticket event (faults.Live t status) refuses stands all =
     let has = refuses.stands in
-    parked_or_ended s t status has.0 has.1 has (by_place IsParkedOrEnded s.callers t has.0 all has.1) refuses.not_parked refuses.not_ended
+    parked_or_ended s t status has.0 has.1 has (all_at IsParkedOrEnded s.callers t has.0 all has.1) refuses.not_parked refuses.not_ended
 not_stuck s by ticket event (faults.Other status) refuses stands all = refuses.2 ticket (one_status s by (parked ticket event) status stands refuses.1)
 not_stuck s by ticket event _ refuses stands all = absurd refuses
 

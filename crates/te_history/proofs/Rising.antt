@@ -6,7 +6,7 @@ use Rattle.std.proofs.lemmas.Option.{slice_get_within}
 use Rattle.te_cert.specs.declared.cert.Member.{Member}
 use Rattle.te_cert.specs.Checks.{RiseAfter, ThreadsRise}
 use Rattle.te_history.specs.Refusals.{AreCallers}
-use Rattle.te_history.proofs.SeatsAfter.{seat_at}
+use Rattle.te_terms.proofs.Lists.{get_some}
 
 -- the threads of the first so many members rise from each to the next
 abbrev pub RisesTo : List Member → ℕ → Type 0
@@ -73,7 +73,7 @@ pub few_before : (ms : List Member) (i callers : ℕ) → ThreadsRise ms → i <
     → ((k : ℕ) (m : Member) → k < i → slice_get ms k ≡ Some m → m.thread < callers) → i ≤ callers
 few_before ms zero callers rise within before = omega arith
 few_before ms (suc k) callers rise within before =
-    let at = seat_at ms k (omega arith) in
+    let at = get_some ms k (omega arith) in
     let low = place_at_most ms k at.0 rise at.1 in
     let high = before k at.0 (omega arith) at.1 in
     omega arith
@@ -82,7 +82,7 @@ few_before ms (suc k) callers rise within before =
 pub few_members : (ms : List Member) (callers : ℕ) → ThreadsRise ms → AreCallers callers ms → length ms ≤ callers
 few_members [] callers rise all = omega arith
 few_members (x ∷ xs) callers rise all =
-    let last = seat_at (x ∷ xs) (length xs) (omega arith) in
+    let last = get_some (x ∷ xs) (length xs) (omega arith) in
     let low = place_at_most (x ∷ xs) (length xs) last.0 rise last.1 in
     let high = all (length xs) last.0 last.1 in
     omega arith

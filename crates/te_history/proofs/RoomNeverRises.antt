@@ -14,6 +14,7 @@ use Rattle.te_history.specs.State.{Standing, idle, parked, given, ended, State, 
 use Rattle.te_history.specs.Follows.{Stands, AreEvents, Commits, Needs}
 use Rattle.te_history.specs.Room.{room_of, callers_room, one_unless, room, claimed, freed}
 use Rattle.te_history.proofs.PlayLengths.{length-play}
+use Rattle.te_history.proofs.KeptAfter.{given_resting}
 
 -- a caller that stands otherwise
 room_set : (cs : List Standing) (t : ℕ) (old new : Standing) → slice_get cs t ≡ Some old
@@ -71,11 +72,6 @@ stuck_stays [] os s = refl
 stuck_stays (m ∷ ms) [] s = refl
 stuck_stays (m ∷ ms) (o ∷ os) s = stuck_stays ms os (with_standing m.thread (given m.ticket o) s)
 
-pub resting_stays : (ms : List Member) (os : List Outcome) (s : State) → (with_given ms os s).resting ≡ s.resting
-resting_stays [] os s = refl
-resting_stays (m ∷ ms) [] s = refl
-resting_stays (m ∷ ms) (o ∷ os) s = resting_stays ms os (with_standing m.thread (given m.ticket o) s)
-
 -- ---- all entries
 
 -- the room that a caller gives back when it stands otherwise
@@ -94,7 +90,7 @@ room_commit s by cert outcomes commits =
     let given = room_given s cert.members commits.group outcomes commits.rise commits.events as_many in
     let some = some_there cert.members commits.some_member in
     let stuck = stuck_stays cert.members outcomes s in
-    let resting = resting_stays cert.members outcomes s in
+    let resting = given_resting cert.members outcomes s in
     omega (arith, given, some, ap one_unless stuck, ap one_unless resting)
 
 room_rest : (s : State) → s.resting ≡ false → KeepsRoom s (record s { resting = true })
@@ -132,7 +128,7 @@ room_exactly callers s posts (entries.Commit by cert outcomes) needs =
     let as_many : length outcomes ≡ length cert.members = length-play commits.group (map (λ (m : Member). m.choices) cert.members) cert.meets _ commits.plays
     ∙ as_many_events s cert.members commits.group commits.events in
     let given = room_given s cert.members commits.group outcomes commits.rise commits.events as_many in
-    omega (arith, given, ap one_unless (stuck_stays cert.members outcomes s), ap one_unless (resting_stays cert.members outcomes s))
+    omega (arith, given, ap one_unless (stuck_stays cert.members outcomes s), ap one_unless (given_resting cert.members outcomes s))
 room_exactly callers s posts (entries.Withdraw by ticket) needs =
     let here = room_restand s by (parked ticket needs.1.0) idle needs.1.1 in omega (arith, here)
 room_exactly callers s posts (entries.Take by ticket outcome) needs = let here = room_restand s by (given ticket outcome) idle needs.1 in omega (arith, here)

@@ -13,13 +13,11 @@ use Rattle.te_history.specs.declared.status.Status.TheVariants as statuses
 use Rattle.te_history.specs.declared.seat.Seat.{Seat}
 use Rattle.te_history.specs.State.{Standing, idle, parked, given, ended}
 use Rattle.te_history.specs.Kept.{Shows, SeatShows, seat_changed, to_status, to_post, with_status, seats_given, seats_after}
+use Rattle.te_terms.proofs.Lists.{get_some}
+use Rattle.te_terms.proofs.Lists.{get-longer}
+use Rattle.te_terms.proofs.Lists.{get-last}
 
 -- ---- seats
-
-pub seat_at : {X : Type 0} (xs : List X) (i : ℕ) → i < length xs → (x : X) × (slice_get xs i ≡ Some x)
-seat_at [] i low = absurd (omega arith)
-seat_at (x ∷ xs) zero low = (x, refl)
-seat_at (x ∷ xs) (suc i) low = seat_at xs i (omega arith)
 
 pub length-changed : (t : ℕ) (f : Seat → Seat) (o : Option Seat) (seats : List Seat) → length (seat_changed t f o seats) ≡ length seats
 length-changed t f None seats = refl
@@ -42,15 +40,6 @@ length-seats_after place seats (Stuck by) = refl
 length-seats_after place seats (End by how) = length-changed by (to_status statuses.Ended) (slice_get seats by) seats
 
 -- ---- what seats show goes on in a longer history
-
-get-longer : {X : Type 0} (xs ys : List X) (i : ℕ) (x : X) → slice_get xs i ≡ Some x → slice_get (xs ++ ys) i ≡ Some x
-get-longer [] ys i x is = absurd cc
-get-longer (z ∷ xs) ys zero x is = is
-get-longer (z ∷ xs) ys (suc i) x is = get-longer xs ys i x is
-
-pub get-last : {X : Type 0} (xs : List X) (x : X) → slice_get (xs ++ x ∷ []) (length xs) ≡ Some x
-get-last [] x = refl
-get-last (y ∷ xs) x = get-last xs x
 
 shows-longer : (history rest : List Entry) (place : ℕ) (status : Status) (standing : Standing) → Shows history place status standing
     → Shows (history ++ rest) place status standing
@@ -121,6 +110,6 @@ pub all_restand : (history : List Entry) (posts : ℕ → ℕ) (seats : List Sea
     → AllShow history posts seats standings → slice_get standings by ≡ Some old → by < length seats → ((place : ℕ) → Shows history place status new)
     → AllShow history posts (with_status by status seats) (slice_set standings by new)
 all_restand history posts seats standings by status old new all stands within here =
-    let at = seat_at seats by within in
+    let at = get_some seats by within in
     all_changed history posts posts seats standings by (to_status status) at.0 old new all at.1 stands
     (posts_of_seat history posts seats standings by at.0 all at.1) (here at.0.place) (λ k other. refl)

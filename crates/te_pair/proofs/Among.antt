@@ -4,6 +4,7 @@ use Rattle.std.specs.List.{Contains, IsDistinct, AllByRecursion, list_any}
 use Rattle.std.specs.Cmp.{nat_eq_equiv}
 use Rattle.std.proofs.lemmas.Map.Keys.{IsDistinct-head, IsDistinct-tail, IsDistinct-cons, IsDistinct-push}
 use Rattle.std.proofs.lemmas.List.Elements.{Contains-append_right}
+use Rattle.te_terms.proofs.Lists.{take_all}
 
 -- ---- the last of a list
 
@@ -21,12 +22,6 @@ take_less {A = A} xs ys e n h k = ap (take n) h ∙ go ys n k
     go ys zero k = refl
     go [] (suc n) k = absurd (omega (arith, k))
     go (y ∷ ys) (suc n) k = ap (λ r. y ∷ r) (go ys n (omega (arith, k)))
-
-pub take_all : {A : Type 0} (xs : List A) (n : ℕ) → length xs ≤ n → take n xs ≡ xs
-take_all [] zero h = refl
-take_all [] (suc n) h = refl
-take_all (x ∷ xs) zero h = absurd (omega (arith, h))
-take_all (x ∷ xs) (suc n) h = ap (λ r. x ∷ r) (take_all xs n (omega (arith, h)))
 
 pub next_taken : {A : Type 0} (xs : List A) (i : ℕ) (d : A) → i < length xs → take (i + 1) xs ≡ take i xs ++ get_or xs i d ∷ []
 next_taken [] i d h = absurd (omega (arith, h))

@@ -87,7 +87,7 @@ some_end store p told low stands is only = by (path_there store.paths p low)
         (record { path = p; channel = at.1; sends = at.0 }, refl, seen store p told only (record { path = p; channel = at.1; sends = at.0 }) refl (record { of = x; made = ex; member = (is x ex).0; state = (is x ex).1.state; stands = at.2 })))
 
 -- what is seen at a send or a receive is at an end
-one_state : (o : Option Member) (a b : Member) → o ≡ Some a → o ≡ Some b → a ≡ b
+pub one_state : (o : Option Member) (a b : Member) → o ≡ Some a → o ≡ Some b → a ≡ b
 one_state o a b e f = (let same : Some a ≡ Some b = sym e ∙ f in cc)
 
 pub at_send : (store : Trail) (p c : ℕ) (v : List Atom) (told : Stop) → told ≡ stops.Send c v → IsStop store p told → IsAtEnd store p

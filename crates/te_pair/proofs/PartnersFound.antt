@@ -13,6 +13,8 @@ use Rattle.te_pair.specs.declared.end.End.{End}
 use Rattle.te_pair.specs.Ends.{path_of, paths_kept, IsEnd, AreEnds, is_at, paths_at, IsPartner}
 use Rattle.te_pair.proofs.Among.{nothing_twice, next_taken}
 use Rattle.te_pair.proofs.EndsTold.{path_low, path_there}
+use Rattle.te_terms.proofs.Lists.{both_true}
+use Rattle.te_terms.proofs.Lists.{not_true}
 
 -- ---- what is picked of a list
 
@@ -121,15 +123,6 @@ placed_once test (e ∷ kept) d = by (test e) (placed_once test kept (IsDistinct
     by : (b : Bool) → IsDistinct nat_eq (paths_kept (filter test kept)) → IsDistinct nat_eq (paths_kept (cond b (e ∷ filter test kept) (filter test kept)))
     by true rest = IsDistinct-cons nat_eq e.path (paths_kept (filter test kept)) (all_placed test (λ y. nat_eq e.path y ≡ false) kept (IsDistinct-head nat_eq e.path (paths_kept kept) d)) rest
     by false rest = rest
-
-both_true : (a b : Bool) → (a && b) ≡ true → (a ≡ true) × (b ≡ true)
-both_true true true h = (refl, refl)
-both_true true false h = cc
-both_true false b h = cc
-
-not_true : (b : Bool) → not b ≡ true → b ≡ false
-not_true true h = cc
-not_true false h = refl
 
 pub at_told : (channel : ℕ) (sends : Bool) (e : End) → is_at channel sends e ≡ true → (e.channel ≡ channel) × (e.sends ≡ sends)
 at_told channel true e h = (eqb-true e.channel channel (both_true (nat_eq e.channel channel) e.sends h).0, (both_true (nat_eq e.channel channel) e.sends h).1)

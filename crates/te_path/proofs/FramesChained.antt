@@ -6,9 +6,7 @@ use Rattle.te_path.specs.declared.frames.FrameCell.{FrameCell}
 use Rattle.te_path.specs.Chains.{IsLinked, frame_parent, frames_at}
 use Rattle.te_path.specs.Unwinding.{takes, unwound, or_outer, rest_of}
 use Rattle.te_path.proofs.Chained.{chain_is, chain_past, chain_new}
-
-back : (i : ℕ) → suc i - 1 ≡ i
-back i = omega arith
+use Rattle.te_terms.proofs.Lists.{back}
 
 module _ (cells : List FrameCell) (is_linked : IsLinked frame_parent cells) (o : Outcome) where
   pub is_taken : (k : ℕ) (f : FrameCell) → k ≢ 0 → slice_get cells (k - 1) ≡ Some f → takes f.awaits o ≡ true → rest_of cells (Some f) ≡ unwound o (frames_at cells k)

@@ -32,6 +32,7 @@ use Rattle.te_path.specs.Spots.{spelled, IsSpot}
 use Rattle.te_path.specs.Wents.{GoesOn}
 use Rattle.te_path.proofs.MemberLaws.{alike_by_step}
 use Rattle.te_path.proofs.InLayers.{alike_itself, alike_on, alike_in_layers, fresh_inside, final_is_ended, still_in_layers, head_in_layers}
+use Rattle.te_terms.proofs.Lists.{get_some}
 
 -- a term that rests stands in layers where it stands alone
 stands_in_layers : (ls : List Layer) (t : Term) (stop : Stop) → (outcome_of t ≡ None) ⊎ (ls ≡ []) → StandsAt t stop → StandsAt (in_layers ls t) stop
@@ -44,15 +45,10 @@ stands_in_layers ls t (stops.Recv c) lone at = ap received_on (head_in_layers ls
 stands_in_layers ls t stops.Choice lone at = (at.0, (at.1.0, head_in_layers ls t ∙ at.1.1))
 stands_in_layers ls t stops.Dead lone at = head_in_layers ls t ∙ at
 
-slice_get_some : {A : Type 0} (xs : List A) (i : ℕ) → i < length xs → (x : A) × (slice_get xs i ≡ Some x)
-slice_get_some [] i h = absurd (omega arith)
-slice_get_some (x ∷ xs) zero h = (x, refl)
-slice_get_some (x ∷ xs) (suc i) h = slice_get_some xs i (omega arith)
-
 some_chain : {A : Type 0} (parent : A → ℕ) (cells : List A) (k : ℕ) → k ≢ 0 → ◌<◌ k (suc (length cells)) → chain parent cells k ≢ []
 some_chain parent cells zero some h e = some refl
 some_chain parent cells (suc i) some h e =
-    let at = slice_get_some cells i (omega (arith, h)) in
+    let at = get_some cells i (omega (arith, h)) in
     let both : at.0 ∷ chain_within i parent cells (parent at.0) ≡ [] = sym (ap (linked (chain_within i parent cells) parent) at.1) ∙ e in
     cc
 

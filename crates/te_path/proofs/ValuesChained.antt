@@ -6,10 +6,13 @@ use Rattle.std.proofs.lemmas.Grind.{reverse_onto}
 use Rattle.std.proofs.lemmas.Bool.{cases_order}
 use Rattle.std.proofs.lemmas.Option.{slice_get_within, slice_get_past}
 use Rattle.te_terms.specs.declared.value.Atom.{Atom}
-use Rattle.te_terms.proofs.TermLemmas.{slice_get_front, slice_get_seam}
+use Rattle.te_terms.proofs.TermLemmas.{slice_get_seam}
+use Rattle.te_terms.proofs.Lists.{get_front}
 use Rattle.te_path.specs.declared.values.ValueCell.{ValueCell}
 use Rattle.te_path.specs.Chains.{chain, IsLinked, Extends, value_parent, value_in_cell, inner_at, AreValues}
-use Rattle.te_path.proofs.Chained.{slice_get_new, slice_get_cut, chain_is, chain_grown, chain_new, linked_new, linked_cut, chain_past, chain_short}
+use Rattle.te_path.proofs.Chained.{slice_get_new, chain_is, chain_grown, chain_new, linked_new, linked_cut, chain_past, chain_short}
+use Rattle.te_terms.proofs.Lists.{in_beginning}
+use Rattle.te_terms.proofs.Lists.{back}
 
 turned : (c : ValueCell) (cs : List ValueCell) → reverse (map value_in_cell (c ∷ cs)) ≡ reverse (map value_in_cell cs) ++ c.value ∷ []
 turned c cs = reverse_onto (map value_in_cell cs) c.value []
@@ -50,7 +53,7 @@ pub are_cut : (cells : List ValueCell) → AreValues cells → (m : ℕ) → Are
 are_cut cells are m = record {
   few = omega (arith, are.few, length-append (take m cells) (drop m cells), ap length (take-append-drop m cells));
   linked = linked_cut value_parent cells are.linked m;
-  levels = λ i c e. are.levels i c (slice_get_cut m cells i c e)
+  levels = λ i c e. are.levels i c (in_beginning m cells i c e)
       ∙ ap length (inner_grown (take m cells) cells (linked_cut value_parent cells are.linked m) c.parent (drop m cells, sym (take-append-drop m cells))
       (omega (arith, linked_cut value_parent cells are.linked m i c e, slice_get_within (take m cells) i c e)));
 }
@@ -61,12 +64,9 @@ are_cut cells are m = record {
 pub found_below : (xs : List (List Atom)) (v : List Atom) (n : ℕ) → n ≢ length xs → slice_get (xs ++ v ∷ []) n ≡ slice_get xs n
 found_below xs v n differ = elim (cases_order n (length xs)) [
   | inl same ↦ absurd (differ same)
-  | inr (inl less) ↦ slice_get_front xs (v ∷ []) n less
+  | inr (inl less) ↦ get_front xs (v ∷ []) n less
   | inr (inr more) ↦ slice_get_past (xs ++ v ∷ []) n (omega (arith, length-append xs (v ∷ []))) ∙ sym (slice_get_past xs n (omega arith))
 ]
-
-back : (i : ℕ) → suc i - 1 ≡ i
-back i = omega arith
 
 -- of the link k, whose cell is number k - 1
 module _ (cells : List ValueCell) (are : AreValues cells) where

@@ -14,7 +14,7 @@ use Rattle.te_terms.specs.Kept.{second_level, formed}
 use Rattle.te_terms.proofs.TermLemmas.{term_at-append, term_at_new}
 use Rattle.te_terms.proofs.ChildLemmas.{times_named_push, leaf_is_free, two_free}
 use Rattle.te_terms.proofs.KeptLemmas.{free_earlier}
-use Rattle.te_reader.proofs.NoneNamed.{none_named}
+use Rattle.te_terms.proofs.KeptLemmas.{none_named}
 use Rattle.te_reader.proofs.TallyLemmas.{tally_same}
 use Rattle.te_reader.specs.declared.refusal.Refusal.{Refusal}
 use Rattle.te_reader.specs.declared.refusal.Refusal.TheVariants as faults
@@ -24,6 +24,8 @@ use Rattle.te_reader.specs.NameReads.{Read}
 use Rattle.te_reader.specs.Tallies.{Tally, HasRoom, tally, tally_with_event}
 use Rattle.te_reader.specs.EventReads.{is_within, made, read_leaf, read_one}
 use Rattle.te_reader.specs.Answering.{leaf, IsBuilt, AnswersEvent, Puts}
+use Rattle.te_terms.proofs.ChildLemmas.{times_none}
+use Rattle.te_terms.proofs.Measured.{some_nodes}
 
 -- ---- limits
 
@@ -81,9 +83,6 @@ leaf_over under level (nodes.Then a b) h = absurd cc
 leaf_over under level (nodes.Choose a b) h = absurd cc
 leaf_over under level (nodes.Catch a b) h = absurd cc
 leaf_over under level (nodes.If c a b) h = absurd cc
-
-times_none : (c : ℕ) (cs : List ℕ) → cs ≡ [] → count_by (λ x. x == c) cs ≡ 0
-times_none c cs e = rw e refl
 
 pub leaf_built : (r : Result ℕ Refusal) (level : ℕ) (before after : List Node) (node : Node) (s : Names) (old new : Stream) → children node ≡ [] → Puts r before after node → read_leaf s old.tokens ≡ Some (leaf node, new.tokens) → new.whole ≡ old.whole
     → AnswersEvent r level before after old new (read_one s (tally before) old.tokens)
@@ -192,18 +191,6 @@ not_fresh (nodes.If q c d) a b h = refl
 pub tallied : {level root : ℕ} {before after : List Node} → IsBuilt level before after root → tally after ≡ tally_with_event (tally before) (term_at after level root)
 tallied b = tally_same _ _ b.nodes b.fresh
 
-pub some_node : (t : Term) → 1 ≤ node_count t
-some_node (always e) = omega arith
-some_node never = omega arith
-some_node fresh = omega arith
-some_node (throw e) = omega arith
-some_node (send p e) = omega arith
-some_node (recv p) = omega arith
-some_node (and_then e n f) = omega arith
-some_node (choose e f) = omega arith
-some_node (catch e n f) = omega arith
-some_node (when test p q e f) = omega arith
-
 times_other : (c a b : ℕ) (cs : List ℕ) → cs ≡ a ∷ b ∷ [] → c < a → c < b → count_by (λ x. x == c) cs ≡ 0
 times_other c a b cs e h k = rw (e, zero-add) (by (grind (arith, nat_tests)) (grind (arith, nat_tests))) where
   by : (a == c) ≡ false → (b == c) ≡ false → cond (eqb a c) 1 0 + cond (eqb b c) 1 0 ≡ 0
@@ -211,7 +198,7 @@ times_other c a b cs e h k = rw (e, zero-add) (by (grind (arith, nat_tests)) (gr
 
 module _ (node : Node) (a b level up : ℕ) (before mid last : List Node) (two : children node ≡ a ∷ b ∷ []) (raised : up ≡ second_level node level) (first : IsBuilt level before mid a) (second : IsBuilt up mid last b) where
   apart : a < b
-  apart = omega (arith, first.last, second.last, second.nodes, some_node (term_at last up b))
+  apart = omega (arith, first.last, second.last, second.nodes, some_nodes (term_at last up b))
 
   pub has_free_children : HasFreeChildren last node
   has_free_children =
@@ -268,7 +255,7 @@ module _ (node : Node) (a b level up : ℕ) (before mid last : List Node) (two :
           some_or_none (suc n) = inl (omega arith)
 
         other_new : (c : ℕ) → c < length before → times_in c node ≡ 0
-        other_new c h = times_other c a b (children node) two (omega (arith, h, first.last, first.nodes, some_node (term_at mid level a))) (omega (arith, h, first.last, first.nodes, apart, some_node (term_at mid level a)))
+        other_new c h = times_other c a b (children node) two (omega (arith, h, first.last, first.nodes, some_nodes (term_at mid level a))) (omega (arith, h, first.last, first.nodes, apart, some_nodes (term_at mid level a)))
   joined (Err faults.Refused) after old new o put read whole =
       read ∙ made_beyond (tally before) _ new.tokens elim put [
         | inl many ↦ inl (omega (arith, many, size))

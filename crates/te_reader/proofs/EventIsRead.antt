@@ -27,7 +27,7 @@ pub record Fits (layers : ℕ) (used : Tally) (t : Term) : Type 0 where
   pub low : height t ≤ 32
   pub layered : height t ≤ layers
 
-some_height : (t : Term) → 1 ≤ height t
+pub some_height : (t : Term) → 1 ≤ height t
 some_height (always e) = omega arith
 some_height never = omega arith
 some_height fresh = omega arith

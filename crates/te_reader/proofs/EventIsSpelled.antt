@@ -20,12 +20,9 @@ use Rattle.te_reader.specs.EventReads.{or_recv, or_fresh, or_throw, or_never, or
 use Rattle.te_reader.proofs.NameLemmas.{bind_some, checked_some, bound_is}
 use Rattle.te_reader.proofs.HeadLemmas.{carried, word_is, sign_is, bound_name_is}
 use Rattle.te_reader.proofs.ReadIsSpelled.{scope_of, primitive_read, expression_read}
+use Rattle.te_terms.proofs.Lists.{both_true}
 
 -- ---- limits
-
-both_true : (a b : Bool) → (a && b) ≡ true → (a ≡ true) × (b ≡ true)
-both_true true b e = (refl, e)
-both_true false b e = absurd cc
 
 pub made_some : (used : Tally) (t u : Term) (ts rest : List Token) → made used t ts ≡ Some (u, rest) → (◌≡◌ {A = Read Term} (Some (t, ts)) (Some (u, rest))) × HasRoom used t × (height t ≤ 32)
 unfolding made

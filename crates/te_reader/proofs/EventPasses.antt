@@ -26,6 +26,9 @@ use Rattle.te_reader.specs.Tallies.{Tally, one_node, one_channel, tally_with_eve
 use Rattle.te_reader.proofs.TallyLemmas.{tally_same}
 use Rattle.te_reader.proofs.Passing.{spots_of, dotted, Goes, goes, goes_alone, names_in, at, at_same, reaching_same, not_among}
 use Rattle.te_reader.proofs.SpelledPasses.{IsFew, expression_goes, expression_plain, primitive_goes, operand_is}
+use Rattle.te_reader.proofs.EventIsRead.{some_height}
+use Rattle.te_terms.proofs.Lists.{deeper}
+use Rattle.te_terms.proofs.Lists.{whole_taken}
 
 -- ---- what is reached
 
@@ -36,21 +39,6 @@ reached b t = reaching (b.level + height t - 1) b
 -- behind a brace, its names are out of scope
 abbrev pub cut : Brace → Context → Context
 cut b c = record c { inners = take b.outer c.inners }
-
-pub height_some : (t : Term) → 1 ≤ height t
-height_some (and_then e n f) = omega arith
-height_some (choose e f) = omega arith
-height_some (catch e n h) = omega arith
-height_some (when o p q e f) = omega arith
-height_some (always e) = omega arith
-height_some never = omega arith
-height_some fresh = omega arith
-height_some (throw e) = omega arith
-height_some (send p e) = omega arith
-height_some (recv p) = omega arith
-
-pub deeper : (d l a b : ℕ) → 1 ≤ a → 1 ≤ b → max (max d (suc l + a - 1)) (suc l + b - 1) ≡ max d (l + (1 + max a b) - 1)
-deeper d l a b ha hb = omega arith
 
 -- ---- single tokens
 
@@ -249,10 +237,6 @@ recv_goes p c b bs n wanted ts rest h few low none plain =
 
 -- ---- events with parts
 
-pub take_all : (xs : List (List ℕ)) → take (length xs) xs ≡ xs
-take_all [] = refl
-take_all (x ∷ xs) = ap (λ ys. x ∷ ys) (take_all xs)
-
 pub take_front : (k : ℕ) (xs ys : List (List ℕ)) → k ≤ length xs → take k (xs ++ ys) ≡ take k xs
 take_front zero xs ys h = refl
 take_front (suc k) [] ys h = absurd (omega arith)
@@ -275,7 +259,7 @@ braced_goes e a c b bs n wanted ts rest h few low none =
     goes_alone roles.OpenBranch (parts.Event ∷ parts.Only roles.Close ∷ wanted) (at c b bs n) (sign signs.OpenBrace) ts h.0 h.1 refl refl
     ∙ a c i (b ∷ bs) n (parts.Only roles.Close ∷ wanted) h.0 k.0 k.1 few low none (rw k.2 refl)
     ∙ close_alone c (reached i e) b bs (tally_with_event n e) wanted k.0 rest k.2
-    ∙ ap (λ x. run wanted (at (with_inners c x) (reaching (depth_within (reached i e)) b) bs (tally_with_event n e)) (spots_of rest)) (take_all c.inners)
+    ∙ ap (λ x. run wanted (at (with_inners c x) (reaching (depth_within (reached i e)) b) bs (tally_with_event n e)) (spots_of rest)) (whole_taken c.inners)
     ∙ ap (λ x. run wanted x (spots_of rest)) (at_same c _ _ bs _ _ (reaching_same b _ _ (omega arith)) refl)
 
 -- a part, and what goes on behind it
@@ -304,7 +288,7 @@ part_goes p w tail is e m f a d c b b0 bs n wanted ts rest same h few low none r
     ∙ d more b2 b0 bs (tally_with_event (one_node n) e) wanted ends.0 rest ends.2 few.1 (omega (arith, low.0), omega (arith, low.1)) none (omega (arith, room, length-append c.inners (x ∷ [])))
     ∙ ap (λ y. run wanted (at (with_inners c y) (reaching (depth_within (reached b2 f)) b0) bs (tally_with_event (tally_with_event (one_node n) e) f)) (spots_of rest)) (take_front b.outer c.inners (x ∷ []) room)
     ∙ ap (λ y. run wanted y (spots_of rest))
-    (at_same (cut b c) _ _ bs _ _ (reaching_same b0 _ _ (ap (λ k. max b0.deepest (max b.settled k)) (deeper b.deepest b.level (height e) (height f) (height_some e) (height_some f)))) (tally_same _ _ (omega arith) (omega arith)))
+    (at_same (cut b c) _ _ bs _ _ (reaching_same b0 _ _ (ap (λ k. max b0.deepest (max b.settled k)) (deeper b.deepest b.level (height e) (height f) (some_height e) (some_height f)))) (tally_same _ _ (omega arith) (omega arith)))
 
 do_goes : (e : Term) (m : ℕ) (f : Term) → Alone e → InDo f → Alone (and_then e m f)
 do_goes e m f a d c b bs n wanted ts rest h few low none plain =
@@ -312,10 +296,10 @@ do_goes e m f a d c b bs n wanted ts rest h few low none plain =
     let t = and_then e m f in
     let k = h.2 in
     word_goes words.Do (form (roles.Chain words.Do) (parts.Only roles.OpenChain ∷ parts.Only roles.PartName ∷ bound_event (parts.Parts ∷ []))) refl (at c b bs n) wanted ts h.0 h.1
-    (rw (shallow (length (b ∷ bs)) (height t) low.0 (height_some t)) refl)
+    (rw (shallow (length (b ∷ bs)) (height t) low.0 (some_height t)) refl)
     ∙ goes_alone roles.OpenChain (parts.Only roles.PartName ∷ bound_event (parts.Parts ∷ wanted)) (at c b bs n) (sign signs.OpenBrace) h.0 k.0 k.1 refl refl
     ∙ part_goes (parts.Only roles.PartName) [] (bound_event (parts.Parts ∷ wanted)) part_alone e m f a d c i b bs n wanted k.0 rest refl k.2 few (omega (arith, low.0), omega (arith, low.1)) none (omega arith)
-    ∙ ap (λ y. run wanted (at (with_inners c y) (reaching (depth_within (reached i t)) b) bs (tally_with_event n t)) (spots_of rest)) (take_all c.inners)
+    ∙ ap (λ y. run wanted (at (with_inners c y) (reaching (depth_within (reached i t)) b) bs (tally_with_event n t)) (spots_of rest)) (whole_taken c.inners)
     ∙ ap (λ y. run wanted y (spots_of rest)) (at_same c _ _ bs _ _ (reaching_same b _ _ (omega arith)) refl)
 
 -- a bar, and what goes on behind it
@@ -339,7 +323,7 @@ bar_goes p tail e f a d c b b0 bs n wanted ts rest begins h few low none room =
     a c (fresh_bar b) (b0 ∷ bs) n (p ∷ tail) ts h.0 h.1 few.0 (omega (arith, low.0), omega (arith, low.1)) none (rw k.1 refl)
     ∙ begins c b1 (b0 ∷ bs) (tally_with_event n e) h.0 k.0 k.1
     ∙ d c b2 b0 bs (one_node (tally_with_event n e)) wanted k.0 rest k.2 few.1 (omega (arith, low.0), omega (arith, low.1)) none room
-    ∙ ap (λ y. run wanted y (spots_of rest)) (at_same (cut b c) _ _ bs _ _ (reaching_same b0 _ _ (ap (λ x. max b0.deepest x) (settled_deeper b.settled b.level (height e) (height f) (height_some e) (height_some f)))) (tally_same _ _ (omega arith) (omega arith)))
+    ∙ ap (λ y. run wanted y (spots_of rest)) (at_same (cut b c) _ _ bs _ _ (reaching_same b0 _ _ (ap (λ x. max b0.deepest x) (settled_deeper b.settled b.level (height e) (height f) (some_height e) (some_height f)))) (tally_same _ _ (omega arith) (omega arith)))
 
 choose_goes : (e f : Term) → Alone e → InChoose f → Alone (choose e f)
 choose_goes e f a d c b bs n wanted ts rest h few low none plain =
@@ -347,15 +331,11 @@ choose_goes e f a d c b bs n wanted ts rest h few low none plain =
     let t = choose e f in
     let k = h.2 in
     word_goes words.Choose (form (roles.Chain words.Choose) (parts.Only roles.OpenChain ∷ parts.Event ∷ parts.Only roles.Bar ∷ parts.Event ∷ parts.Bars ∷ [])) refl (at c b bs n) wanted ts h.0 h.1
-    (rw (shallow (length (b ∷ bs)) (height t) low.0 (height_some t)) refl)
+    (rw (shallow (length (b ∷ bs)) (height t) low.0 (some_height t)) refl)
     ∙ goes_alone roles.OpenChain (parts.Event ∷ parts.Only roles.Bar ∷ parts.Event ∷ parts.Bars ∷ wanted) (at c b bs n) (sign signs.OpenBrace) h.0 k.0 k.1 refl refl
     ∙ bar_goes (parts.Only roles.Bar) (parts.Event ∷ parts.Bars ∷ wanted) e f a d c i b bs n wanted k.0 rest (λ c b bs n ts rest e. bar_alone c b bs n (parts.Event ∷ parts.Bars ∷ wanted) ts rest e) k.2 few low none (omega arith)
-    ∙ ap (λ y. run wanted (at (with_inners c y) (reaching (depth_within (reached i t)) b) bs (tally_with_event n t)) (spots_of rest)) (take_all c.inners)
+    ∙ ap (λ y. run wanted (at (with_inners c y) (reaching (depth_within (reached i t)) b) bs (tally_with_event n t)) (spots_of rest)) (whole_taken c.inners)
     ∙ ap (λ y. run wanted y (spots_of rest)) (at_same c _ _ bs _ _ (reaching_same b _ _ (omega arith)) refl)
-
--- two events in braces reach as deep as the deeper one
-pub both_deeper : (d l a b : ℕ) → 1 ≤ a → 1 ≤ b → max (max d (suc l + a - 1)) (suc l + b - 1) ≡ max d (l + (1 + max a b) - 1)
-both_deeper d l a b ha hb = omega (arith, ha, hb)
 
 -- the event of a `catch`, behind its name
 catch_goes : (e : Term) → Alone e → (x : List ℕ) (c : Context) (b : Brace) (bs : List Brace) (n : Tally) (wanted : List Part) (ts rest : List Token) → IsFreeName (names_in c) x → (bound_name x ⨟ in_braces (spells_event true alone (with_inner (names_in c) x) e)) ts rest → AreFew e
@@ -370,7 +350,7 @@ catch_goes e a x c b bs n wanted ts rest free h few low none =
     ∙ goes_alone (roles.Sign signs.OpenBrace) (parts.Event ∷ parts.Only roles.Close ∷ wanted) (at inside i (b ∷ bs) n) (sign signs.OpenBrace) h.0 brace.0 brace.1 refl refl
     ∙ a inside i (b ∷ bs) n (parts.Only roles.Close ∷ wanted) brace.0 k.0 k.1 few low none (rw k.2 refl)
     ∙ close_alone inside (reached i e) b bs (tally_with_event n e) wanted k.0 rest k.2
-    ∙ ap (λ y. run wanted (at (with_inners c y) (reaching (depth_within (reached i e)) b) bs (tally_with_event n e)) (spots_of rest)) (take_front (length c.inners) c.inners (x ∷ []) (omega arith) ∙ take_all c.inners)
+    ∙ ap (λ y. run wanted (at (with_inners c y) (reaching (depth_within (reached i e)) b) bs (tally_with_event n e)) (spots_of rest)) (take_front (length c.inners) c.inners (x ∷ []) (omega arith) ∙ whole_taken c.inners)
     ∙ ap (λ y. run wanted y (spots_of rest)) (at_same c _ _ bs _ _ (reaching_same b _ _ (omega arith)) refl) where
       name_goes : bound_name x ts h.0
           → Goes (parts.Only roles.CatchName ∷ parts.Only (roles.Sign signs.OpenBrace) ∷ parts.Event ∷ parts.Only roles.Close ∷ wanted) (at c b bs n) ts
@@ -390,11 +370,11 @@ try_goes e m f a d c b bs n wanted ts rest h few low none plain =
     (form (roles.Branch words.Try)
     (parts.Only roles.OpenBranch ∷ parts.Event ∷ parts.Only roles.Close ∷ parts.Only (roles.Word words.Catch)
     ∷ parts.Only roles.CatchName ∷ parts.Only (roles.Sign signs.OpenBrace) ∷ parts.Event ∷ parts.Only roles.Close ∷ [])) refl (at c b bs n) wanted ts h.0 h.1
-    (rw (shallow (length (b ∷ bs)) (height t) low.0 (height_some t)) refl)
+    (rw (shallow (length (b ∷ bs)) (height t) low.0 (some_height t)) refl)
     ∙ braced_goes e a c b bs (one_node n) (parts.Only (roles.Word words.Catch) ∷ handler) h.0 k.0 k.1 few.0 (omega (arith, low.0), omega (arith, low.1)) none
     ∙ goes_alone (roles.Word words.Catch) handler (at c b1 bs (tally_with_event (one_node n) e)) (word words.Catch) k.0 l.0 l.1 refl refl
     ∙ catch_goes f d name.0 c b1 bs (tally_with_event (one_node n) e) wanted l.0 rest name.1.0 name.1.1 few.1 (omega (arith, low.0), omega (arith, low.1)) none
-    ∙ ap (λ y. run wanted y (spots_of rest)) (at_same c _ _ bs _ _ (ap (λ x. record b { deepest = x }) (both_deeper b.deepest b.level (height e) (height f) (height_some e) (height_some f))) (tally_same _ _ (omega arith) (omega arith)))
+    ∙ ap (λ y. run wanted y (spots_of rest)) (at_same c _ _ bs _ _ (ap (λ x. record b { deepest = x }) (deeper b.deepest b.level (height e) (height f) (some_height e) (some_height f))) (tally_same _ _ (omega arith) (omega arith)))
 
 test_plain : (o : Test) (ts : List Token) → dotted (sign (test_sign o) ∷ ts) ≡ false
 test_plain tests.Equal ts = refl
@@ -416,14 +396,14 @@ if_goes o p q e f a d c b bs n wanted ts rest h few low none plain =
     (form (roles.Branch words.If)
     (parts.Operand ∷ parts.Test ∷ parts.Operand ∷ parts.Only roles.OpenBranch ∷ parts.Event ∷ parts.Only roles.Close
     ∷ parts.Only (roles.Word words.Else) ∷ parts.Only roles.OpenBranch ∷ parts.Event ∷ parts.Only roles.Close ∷ [])) refl (at c b bs n) wanted ts h.0 h.1
-    (rw (shallow (length (b ∷ bs)) (height t) low.0 (height_some t)) refl)
+    (rw (shallow (length (b ∷ bs)) (height t) low.0 (some_height t)) refl)
     ∙ primitive_goes parts.Operand false [] operand_is p (parts.Test ∷ parts.Operand ∷ both) here h.0 left.0 left.1 refl (rw test.1 (test_plain o test.0))
     ∙ test_goes o here (parts.Operand ∷ both) left.0 test.0 test.1
     ∙ primitive_goes parts.Operand false [] operand_is q both here test.0 right.0 right.1 refl (rw then_part.1.1 refl)
     ∙ braced_goes e a c b bs (one_node n) (parts.Only (roles.Word words.Else) ∷ second) right.0 then_part.0 then_part.1 few.0 (omega (arith, low.0), omega (arith, low.1)) none
     ∙ goes_alone (roles.Word words.Else) second (at c b1 bs (tally_with_event (one_node n) e)) (word words.Else) then_part.0 else_word.0 else_word.1 refl refl
     ∙ braced_goes f d c b1 bs (tally_with_event (one_node n) e) wanted else_word.0 rest else_word.2 few.1 (omega (arith, low.0), omega (arith, low.1)) none
-    ∙ ap (λ y. run wanted y (spots_of rest)) (at_same c _ _ bs _ _ (ap (λ x. record b { deepest = x }) (both_deeper b.deepest b.level (height e) (height f) (height_some e) (height_some f))) (tally_same _ _ (omega arith) (omega arith)))
+    ∙ ap (λ y. run wanted y (spots_of rest)) (at_same c _ _ bs _ _ (ap (λ x. record b { deepest = x }) (deeper b.deepest b.level (height e) (height f) (some_height e) (some_height f))) (tally_same _ _ (omega arith) (omega arith)))
 
 -- ---- every event
 

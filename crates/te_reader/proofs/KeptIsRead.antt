@@ -21,6 +21,7 @@ use Rattle.te_reader.proofs.ListsKept.{all_weaker, all_at}
 use Rattle.te_reader.proofs.ReadIsSpelled.{scope_of}
 use Rattle.te_reader.proofs.SpelledIsRead.{place_found, place_absent, declares, other_sign, InScope, expression_is_read}
 use Rattle.te_reader.proofs.EventIsRead.{Fits, event_is_read}
+use Rattle.te_terms.proofs.Lists.{whole_taken}
 
 -- ---- the first registers
 
@@ -68,10 +69,6 @@ length_taken [] zero h = refl
 length_taken [] (suc w) h = absurd (omega arith)
 length_taken (x ∷ xs) zero h = refl
 length_taken (x ∷ xs) (suc w) h = ap suc (length_taken xs w (omega arith))
-
-pub whole_taken : (xs : List (List ℕ)) → take (length xs) xs ≡ xs
-whole_taken [] = refl
-whole_taken (x ∷ xs) = ap (λ ys. x ∷ ys) (whole_taken xs)
 
 -- a name that is apart from all channels is no channel
 pub no_channel : (n : List ℕ) (channels : List (List ℕ)) → AllByRecursion (λ y. n ≢ y) channels → IsNew n channels
@@ -345,7 +342,7 @@ channels_are_read (n ∷ ns) ts behind middle few distinct h begins =
 
 -- ---- programs
 
-threads_begin : (channels : List (List ℕ)) (threads : List Thread) (ts rest : List Token) → 0 < length threads → spells_threads true channels threads ts rest → (behind : List Token) × (ts ≡ word words.Thread ∷ behind)
+pub threads_begin : (channels : List (List ℕ)) (threads : List Thread) (ts rest : List Token) → 0 < length threads → spells_threads true channels threads ts rest → (behind : List Token) × (ts ≡ word words.Thread ∷ behind)
 threads_begin channels [] ts rest some h = absurd (omega arith)
 threads_begin channels (t ∷ threads) ts rest some h = (h.1.1.0, h.1.1.1)
 

@@ -5,7 +5,7 @@ use Rattle.std.specs.List.{AllByRecursion}
 use Rattle.te_script.specs.declared.script.Stmt.{Stmt}
 use Rattle.te_script.specs.Texts.{RootIsNode}
 use Rattle.te_script.specs.Scripts.{AreDistinct, AreApart}
-use Rattle.te_script.proofs.Appending.{AllByRecursion-append}
+use Rattle.te_terms.proofs.Lists.{AllByRecursion-append}
 use Rattle.te_reader.specs.Grammar.{IsAt, IsNew, IsShortName}
 
 pub all_weaker : {A : Type 0} (P Q : A → Type 0) → ((x : A) → P x → Q x) → (xs : List A) → AllByRecursion P xs → AllByRecursion Q xs

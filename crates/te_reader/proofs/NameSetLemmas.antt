@@ -12,6 +12,7 @@ use Rattle.te_reader.specs.Grammar.{IsAt}
 use Rattle.te_reader.specs.Rules.{is_among}
 use Rattle.te_reader.specs.NameSets.{FindsEachName}
 use Rattle.te_reader.proofs.ListsKept.{at_more, at_last}
+use Rattle.te_reader.proofs.KeptIsRead.{at_inside}
 
 or_true : (a b : Bool) → b ≡ true → (a || b) ≡ true
 or_true true b e = refl
@@ -32,11 +33,6 @@ among_is (x ∷ xs) n e = by (among_is xs n) (bytes_eq x n) (bytes_eq-Decides x 
   by later true same e = (0, ap Some (same refl))
   by later false same e = let h = later e in (suc h.0, h.1)
 
-pub at_below : (names : List (List ℕ)) (i : ℕ) (n : List ℕ) → IsAt names i n → i < length names
-at_below [] i n h = absurd cc
-at_below (x ∷ xs) zero n h = omega arith
-at_below (x ∷ xs) (suc i) n h = omega (arith, at_below xs i n h)
-
 -- a name of a longer list stands among the first ones, or is the last
 at_split : (names : List (List ℕ)) (n : List ℕ) (i : ℕ) (m : List ℕ) → IsAt (names ++ n ∷ []) i m → IsAt names i m ⊎ ((i ≡ length names) × (n ≡ m))
 at_split [] n zero m h = inr (refl, cc)
@@ -56,7 +52,7 @@ module _ (names : List (List ℕ)) (n : List ℕ) (old : BTreeMap (Bor (List ℕ
     by (inr k) =
         let at = among_is names n e in
         let f = found at.0 n at.1 in
-        let below : at.0 < length names = at_below names at.0 n at.1 in (
+        let below : at.0 < length names = at_inside names at.0 n at.1 in (
           f.0,
           subst (λ (x : List ℕ). get_by (λ k. slice_cmp nat_cmp x k.now) old ≡ Some f.0) k.1 f.1,
           omega (arith, below, f.2, k.0),

@@ -14,6 +14,8 @@ use Rattle.te_reader.specs.Rules.{Context, rules, first_broken, context_after}
 use Rattle.te_reader.specs.Faults.{misfit}
 use Rattle.te_reader.specs.Runs.{found, pick, pick_plain, event_form, parts_form, part_form, is_bound, run}
 use Rattle.te_reader.specs.Finding.{form_seen, is_last, is_end, IsPickedAs, LooksAt, EndsSpots, GoesBehind, first_head}
+use Rattle.te_terms.proofs.Lists.{not_true}
+use Rattle.te_terms.proofs.Lists.{not_false}
 
 bound_parts : (h : Head) → is_bound h ≡ true → parts_form h ≡ part_form h
 bound_parts (token (tokens.name n)) e = refl
@@ -32,14 +34,6 @@ last_parts (token (tokens.integer n)) e = refl
 last_parts (token (tokens.sign g)) e = refl
 last_parts over e = refl
 last_parts (strange b) e = refl
-
-not_true : (b : Bool) → not b ≡ true → b ≡ false
-not_true true e = absurd cc
-not_true false e = refl
-
-not_false : (b : Bool) → not b ≡ false → b ≡ true
-not_false true e = refl
-not_false false e = absurd cc
 
 -- the last event and its brace
 last_picked : (p : Part) (h : Head) (d : Bool) → is_last p h ≡ true → pick p h d ≡ option_map (then_also (parts.Only roles.Close)) (pick_plain parts.Event h d)

@@ -26,7 +26,11 @@ use Rattle.te_reader.specs.Runs.{pick, pick_plain, run}
 use Rattle.te_reader.specs.Tallies.{Tally, one_node, one_channel, tally_with_event}
 use Rattle.te_reader.proofs.TallyLemmas.{tally_same}
 use Rattle.te_reader.proofs.Passing.{spots_of, dotted, names_in, at, at_same, reaching_same}
-use Rattle.te_reader.proofs.EventPasses.{reached, cut, height_some, deeper, settled_deeper, both_deeper, fresh_bar, opened_at, with_inners, take_all, take_front, PartAndMore, EventAndMore, ClosedEvent, parts_as_event}
+use Rattle.te_reader.proofs.EventPasses.{reached, cut, settled_deeper, fresh_bar, opened_at, with_inners, take_front, PartAndMore, EventAndMore, ClosedEvent, parts_as_event}
+use Rattle.te_terms.proofs.Lists.{whole_taken}
+
+use Rattle.te_terms.proofs.Lists.{deeper}
+use Rattle.te_reader.proofs.EventIsRead.{some_height}
 use Rattle.te_reader.proofs.PassedExpressions.{Passed, went, kept_first, took_sign, took_word, scope_in, operand_passed, expression_passed}
 
 -- ---- names that may be bound
@@ -144,7 +148,7 @@ braced_passed k a c b bs n more ts short none h =
       rest = last.rest;
       spelled = (first.rest, first.is, (e.rest, e.spelled, last.is));
       scoped = e.scoped;
-      later = sym (ap (λ x. run more (at (with_inners c x) (reaching (depth_within (reached i e.value)) b) bs (tally_with_event n e.value)) (spots_of last.rest)) (take_all c.inners)
+      later = sym (ap (λ x. run more (at (with_inners c x) (reaching (depth_within (reached i e.value)) b) bs (tally_with_event n e.value)) (spots_of last.rest)) (whole_taken c.inners)
           ∙ ap (λ x. run more x (spots_of last.rest)) (at_same c _ _ bs _ _ (reaching_same b _ _ (omega arith)) refl)) ∙ last.later;
       shorter = omega (arith, ap length first.is, e.shorter, ap length last.is);
     }
@@ -183,7 +187,7 @@ part_passed k w x c b b0 bs n more ts m short less none room named kept h =
       scoped_second = scope_more c x f.value f.scoped;
       later = sym (ap (λ y. run more (at (with_inners c y) (reaching (depth_within (reached b2 f.value)) b0) bs (tally_with_event (tally_with_event (one_node n) e.value) f.value)) (spots_of f.rest)) (take_front b.outer c.inners (x ∷ []) room)
           ∙ ap (λ y. run more y (spots_of f.rest))
-          (at_same (cut b c) _ _ bs _ _ (reaching_same b0 _ _ (ap (λ k. max b0.deepest (max b.settled k)) (deeper b.deepest b.level (height e.value) (height f.value) (height_some e.value) (height_some f.value)))) (tally_same _ _ (omega arith) (omega arith)))) ∙ f.later;
+          (at_same (cut b c) _ _ bs _ _ (reaching_same b0 _ _ (ap (λ k. max b0.deepest (max b.settled k)) (deeper b.deepest b.level (height e.value) (height f.value) (some_height e.value) (some_height f.value)))) (tally_same _ _ (omega arith) (omega arith)))) ∙ f.later;
       shorter = omega (arith, less, ap length arrow.is, e.shorter, ap length last.is, f.shorter);
     }
 
@@ -228,7 +232,7 @@ choice_passed k w c b b0 bs n more tail ts m short none room e is h =
       scoped_first = e.scoped;
       scoped_second = f.scoped;
       later = sym (ap (λ y. run more y (spots_of f.rest))
-          (at_same (cut b c) _ _ bs _ _ (reaching_same b0 _ _ (ap (λ x. max b0.deepest x) (settled_deeper b.settled b.level (height e.value) (height f.value) (height_some e.value) (height_some f.value)))) (tally_same _ _ (omega arith) (omega arith)))) ∙ f.later;
+          (at_same (cut b c) _ _ bs _ _ (reaching_same b0 _ _ (ap (λ x. max b0.deepest x) (settled_deeper b.settled b.level (height e.value) (height f.value) (some_height e.value) (some_height f.value)))) (tally_same _ _ (omega arith) (omega arith)))) ∙ f.later;
       shorter = omega (arith, e.shorter, ap length is, f.shorter);
     }
 
@@ -261,7 +265,7 @@ caught k a x c b bs n more ts m short less none named free h =
       free = free;
       spelled = (m, named, (first.rest, first.is, (e.rest, e.spelled, last.is)));
       scoped = scope_more c x e.value e.scoped;
-      later = sym (ap (λ y. run more (at (with_inners c y) (reaching (depth_within (reached i e.value)) b) bs (tally_with_event n e.value)) (spots_of last.rest)) (take_front (length c.inners) c.inners (x ∷ []) (omega arith) ∙ take_all c.inners)
+      later = sym (ap (λ y. run more (at (with_inners c y) (reaching (depth_within (reached i e.value)) b) bs (tally_with_event n e.value)) (spots_of last.rest)) (take_front (length c.inners) c.inners (x ∷ []) (omega arith) ∙ whole_taken c.inners)
           ∙ ap (λ y. run more y (spots_of last.rest)) (at_same c _ _ bs _ _ (reaching_same b _ _ (omega arith)) refl)) ∙ last.later;
       shorter = omega (arith, less, ap length first.is, e.shorter, ap length last.is);
     }
@@ -346,7 +350,7 @@ alone_step k w c b bs n more (word words.Do ∷ ts) short none h =
       rest = p.rest;
       spelled = (ts, refl, (first.rest, first.is, p.spelled));
       scoped = (refl, p.scoped_first, p.scoped_second);
-      later = sym (ap (λ y. run more (at (with_inners c y) (reaching (depth_within (reached i t)) b) bs (tally_with_event n t)) (spots_of p.rest)) (take_all c.inners)
+      later = sym (ap (λ y. run more (at (with_inners c y) (reaching (depth_within (reached i t)) b) bs (tally_with_event n t)) (spots_of p.rest)) (whole_taken c.inners)
           ∙ ap (λ y. run more y (spots_of p.rest)) (at_same c _ _ bs _ _ (reaching_same b _ _ (omega arith)) refl)) ∙ p.later;
       shorter = omega (arith, ap length first.is, p.shorter);
     }
@@ -364,7 +368,7 @@ alone_step k w c b bs n more (word words.Choose ∷ ts) short none h =
       rest = p.rest;
       spelled = (ts, refl, (first.rest, first.is, p.spelled));
       scoped = (p.scoped_first, p.scoped_second);
-      later = sym (ap (λ y. run more (at (with_inners c y) (reaching (depth_within (reached i t)) b) bs (tally_with_event n t)) (spots_of p.rest)) (take_all c.inners)
+      later = sym (ap (λ y. run more (at (with_inners c y) (reaching (depth_within (reached i t)) b) bs (tally_with_event n t)) (spots_of p.rest)) (whole_taken c.inners)
           ∙ ap (λ y. run more y (spots_of p.rest)) (at_same c _ _ bs _ _ (reaching_same b _ _ (omega arith)) refl)) ∙ p.later;
       shorter = omega (arith, ap length first.is, p.shorter);
     }
@@ -384,7 +388,7 @@ alone_step k w c b bs n more (word words.Try ∷ ts) short none h =
       spelled = (ts, refl, (e.rest, e.spelled, (m.rest, m.is, (f.name, (f.free, f.spelled)))));
       scoped = (refl, e.scoped, f.scoped);
       later = sym (ap (λ y. run more y (spots_of f.rest))
-          (at_same c _ _ bs _ _ (ap (λ x. record b { deepest = x }) (both_deeper b.deepest b.level (height e.value) (height f.value) (height_some e.value) (height_some f.value))) (tally_same _ _ (omega arith) (omega arith)))) ∙ f.later;
+          (at_same c _ _ bs _ _ (ap (λ x. record b { deepest = x }) (deeper b.deepest b.level (height e.value) (height f.value) (some_height e.value) (some_height f.value))) (tally_same _ _ (omega arith) (omega arith)))) ∙ f.later;
       shorter = omega (arith, e.shorter, ap length m.is, f.shorter);
     }
 alone_step k w c b bs n more (word words.If ∷ ts) short none h =
@@ -409,7 +413,7 @@ alone_step k w c b bs n more (word words.If ∷ ts) short none h =
       spelled = (ts, refl, (p.rest, p.spelled, (o.1, o.2, (q.rest, q.spelled, (e.rest, e.spelled, (m.rest, m.is, f.spelled))))));
       scoped = (p.scoped, q.scoped, e.scoped, f.scoped);
       later = sym (ap (λ y. run more y (spots_of f.rest))
-          (at_same c _ _ bs _ _ (ap (λ x. record b { deepest = x }) (both_deeper b.deepest b.level (height e.value) (height f.value) (height_some e.value) (height_some f.value))) (tally_same _ _ (omega arith) (omega arith)))) ∙ f.later;
+          (at_same c _ _ bs _ _ (ap (λ x. record b { deepest = x }) (deeper b.deepest b.level (height e.value) (height f.value) (some_height e.value) (some_height f.value))) (tally_same _ _ (omega arith) (omega arith)))) ∙ f.later;
       shorter = omega (arith, p.shorter, long, q.shorter, e.shorter, ap length m.is, f.shorter);
     }
 alone_step k w c b bs n more (t ∷ ts) short none h = absurd cc

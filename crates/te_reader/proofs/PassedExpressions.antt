@@ -27,8 +27,10 @@ use Rattle.te_reader.specs.Forms.{form, place_of_it}
 use Rattle.te_reader.specs.Rules.{Context, Check, check, is_among, is_variable, rules, first_broken, context_after, begun, fifth}
 use Rattle.te_reader.specs.Runs.{Found, pick, pick_plain, alone_form, operand_form, fits, is_word, is_sign, next_found, broken_or, run}
 use Rattle.te_reader.proofs.PickedForms.{word_fits, sign_fits, place_fits}
-use Rattle.te_reader.proofs.NameSetLemmas.{among_is, at_below}
+use Rattle.te_reader.proofs.NameSetLemmas.{among_is}
+use Rattle.te_reader.proofs.KeptIsRead.{at_inside}
 use Rattle.te_reader.proofs.Passing.{spots_of, dotted, names_in, calm}
+use Rattle.te_terms.proofs.Lists.{not_false}
 
 -- nothing is found from here on
 abbrev pub Passed : List Part → Context → List Token → Type 0
@@ -55,10 +57,6 @@ operand_kept b k first c e =
     let one = kept_first b k (fifth first c ∷ []) e in
     let two = kept_first (first && nat_le 4 c.calculations) (causes.Limit limits.Atoms) [] one.1 in
     (one.0, two.0)
-
-not_false : (b : Bool) → not b ≡ false → b ≡ true
-not_false true e = refl
-not_false false e = absurd cc
 
 -- a token of a role that stands alone
 pub record TookAlone (r : Role) (more : List Part) (c : Context) (ts : List Token) : Type 0 where
@@ -136,11 +134,11 @@ or_cases false b e = inr e
 named_variable : (c : Context) (n : List ℕ) (rest : List Token) → not (is_variable c (token (tokens.name n))) ≡ false → HasVariable c (tokens.name n ∷ rest) rest
 named_variable c n rest e = by (or_cases (is_among n c.registers) (is_among n c.inners) (not_false _ e)) where
   by : (is_among n c.registers ≡ true) ⊎ (is_among n c.inners ≡ true) → HasVariable c (tokens.name n ∷ rest) rest
-  by (inl h) = let i = among_is c.registers n h in (register i.0, (n, (i.1, refl)), at_below c.registers i.0 n i.1)
-  by (inr h) = let i = among_is c.inners n h in (name i.0, (n, (i.1, inl refl)), at_below c.inners i.0 n i.1)
+  by (inl h) = let i = among_is c.registers n h in (register i.0, (n, (i.1, refl)), at_inside c.registers i.0 n i.1)
+  by (inr h) = let i = among_is c.inners n h in (name i.0, (n, (i.1, inl refl)), at_inside c.inners i.0 n i.1)
 
 inner_variable : (c : Context) (n : List ℕ) (rest : List Token) → not (is_variable c (token (tokens.inner n))) ≡ false → HasVariable c (tokens.inner n ∷ rest) rest
-inner_variable c n rest e = let i = among_is c.inners n (not_false _ e) in (name i.0, (n, (i.1, inr refl)), at_below c.inners i.0 n i.1)
+inner_variable c n rest e = let i = among_is c.inners n (not_false _ e) in (name i.0, (n, (i.1, inr refl)), at_inside c.inners i.0 n i.1)
 
 -- ---- operands
 
@@ -203,7 +201,7 @@ operand_at first wanted more c (tokens.name n) ts false e h =
       value = chan i.0;
       rest = ts;
       spelled = (n, (i.1, refl));
-      scoped = at_below c.channels i.0 n i.1;
+      scoped = at_inside c.channels i.0 n i.1;
       few = k.1;
       later = u.1;
       shorter = omega arith;

@@ -27,13 +27,16 @@ use Rattle.te_reader.specs.Rules.{Context, nothing_before, is_count, is_among, w
 use Rattle.te_reader.specs.Tallies.{no_node, tally_with_event}
 use Rattle.te_reader.specs.Runs.{pick, pick_plain, run}
 use Rattle.te_reader.proofs.ListsKept.{distinct_push, at_more, at_last, taken, Grows, stays, goes_on, grows_one}
-use Rattle.te_reader.proofs.NameSetLemmas.{among_is, at_below}
+use Rattle.te_reader.proofs.NameSetLemmas.{among_is}
+use Rattle.te_reader.proofs.KeptIsRead.{at_inside}
 use Rattle.te_reader.proofs.PickedForms.{name_fits, integer_fits}
 use Rattle.te_reader.proofs.Passing.{spots_of, dotted, at}
 use Rattle.te_reader.proofs.EventPasses.{reached}
 use Rattle.te_reader.proofs.ScriptPasses.{Rest, stand}
 use Rattle.te_reader.proofs.PassedExpressions.{Passed, unbroken, went, kept_first, took_alone, took_sign, took_word, one_token, expression_passed}
 use Rattle.te_reader.proofs.PassedEvents.{new_name, event_passed}
+use Rattle.te_terms.proofs.Lists.{both_true}
+use Rattle.te_terms.proofs.Lists.{not_false}
 
 -- ---- statements
 
@@ -93,7 +96,7 @@ register_is channels registers st n k = by (is_among n registers) refl k.few whe
   by : (b : Bool) → is_among n registers ≡ b → (not b && nat_le 8 (length registers)) ≡ false → RegisterIs channels registers n
   by true e f =
       let i = among_is registers n e in
-      let below = at_below registers i.0 n i.1 in
+      let below = at_inside registers i.0 n i.1 in
       let before : nat_lt i.0 (length registers) ≡ true = grind (arith, nat_tests, below) in
       record { number = i.0; more = registers; is = rw e refl; grows = stays channels registers; at = i.1; known = omega (arith, below); written = rw before refl }
   by false e f =
@@ -292,14 +295,6 @@ record TimesKept (digits : List ℕ) : Type 0 where
   value : integer_value digits ≡ pos times
   some : 0 < times
   most : times ≤ 10000
-
-both_true : (a b : Bool) → (a && b) ≡ true → (a ≡ true) × (b ≡ true)
-both_true true b e = (refl, e)
-both_true false b e = absurd cc
-
-not_false : (b : Bool) → not b ≡ false → b ≡ true
-not_false true e = refl
-not_false false e = absurd cc
 
 times_kept : (digits : List ℕ) → is_count (integer_value digits) ≡ true → TimesKept digits
 times_kept digits e = by (integer_value digits) refl e where

@@ -322,7 +322,7 @@ variable_true : (s : Spot) → (((n : List ℕ) × (s.head ≡ token (name n))) 
 variable_true s (inl h) = rw h.0.1 h.1
 variable_true s (inr h) = rw h.1 refl
 
-small_true : (z : ℤ) (d : ℕ) → z ≡ pos d → d ≤ 3 → is_small z ≡ true
+pub small_true : (z : ℤ) (d : ℕ) → z ≡ pos d → d ≤ 3 → is_small z ≡ true
 small_true z d e h = rw e (grind (arith, nat_tests))
 
 fits_true : (r : Role) (s : Spot) → FitsRole r s → fits r s.head s.dotted ≡ true

@@ -26,13 +26,15 @@ use Rattle.te_reader.specs.Rules as rules
 use Rattle.te_reader.specs.Rules.{Context, nothing_before, is_among, whole_event, first_broken}
 use Rattle.te_reader.specs.Tallies.{Tally, no_node, tally_with_event}
 use Rattle.te_reader.specs.Runs.{pick, pick_plain, run}
-use Rattle.te_script.proofs.Appending.{AllByRecursion-append}
+use Rattle.te_terms.proofs.Lists.{AllByRecursion-append}
 use Rattle.te_reader.proofs.ListsKept.{all_at}
-use Rattle.te_reader.proofs.KeptIsRead.{at_inside, at_taken, new_behind, next_taken, length_taken, whole_taken, no_channel, Registers}
+use Rattle.te_reader.proofs.KeptIsRead.{at_inside, at_taken, new_behind, next_taken, length_taken, no_channel, Registers}
+use Rattle.te_terms.proofs.Lists.{whole_taken}
 use Rattle.te_reader.proofs.NameSetLemmas.{among_at}
 use Rattle.te_reader.proofs.Passing.{spots_of, dotted, Goes, goes, goes_alone, names_in, at, not_among}
 use Rattle.te_reader.proofs.SpelledPasses.{IsFew, expression_goes}
 use Rattle.te_reader.proofs.EventPasses.{AreFew, reached, event_goes}
+use Rattle.te_reader.proofs.KeptIsRead.{threads_begin}
 
 -- ---- few calculations
 
@@ -341,11 +343,6 @@ thread_kept channels d (t ∷ ts) a b = (
   thread_kept channels d ts a.1 b.1,
 )
 
--- a script without channels begins with its threads
-first_thread : (channels : List (List ℕ)) (ts : List Thread) (tokens rest : List Token) → 0 < length ts → spells_threads true channels ts tokens rest → (m : List Token) × (tokens ≡ word words.Thread ∷ m)
-first_thread channels [] tokens rest some h = absurd (omega arith)
-first_thread channels (t ∷ ts) tokens rest some h = (h.1.1.0, h.1.1.1)
-
 script_as_threads : (c : Context) (ts m : List Token) → ts ≡ word words.Thread ∷ m → run (parts.Script ∷ []) c (spots_of ts) ≡ run (parts.Threads ∷ []) c (spots_of ts)
 unfolding run pick pick_plain
 script_as_threads c ts m e = rw e refl
@@ -367,7 +364,7 @@ module _ (p : Program) (kept : IsProgram p) where
 
     by : (cs : List (List ℕ)) → p.channels ≡ cs → spells_channels true cs ts h.0 → run (parts.Script ∷ []) nothing_before (spots_of ts) ≡ None
     by [] e k =
-        let f = first_thread p.channels p.threads h.0 [] kept.some_thread h.2 in
+        let f = threads_begin p.channels p.threads h.0 [] kept.some_thread h.2 in
         script_as_threads nothing_before ts f.0 (k ∙ f.1)
         ∙ ap (λ x. run (parts.Threads ∷ []) nothing_before (spots_of x)) k
         ∙ ap (λ x. run (parts.Threads ∷ []) (stand x [] [] 0 j) (spots_of h.0)) (sym e)

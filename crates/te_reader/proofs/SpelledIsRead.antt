@@ -10,7 +10,7 @@ use Rattle.te_terms.specs.declared.expr.Arith.{Arith}
 use Rattle.te_terms.specs.declared.expr.Arith.TheVariants as ariths
 use Rattle.te_terms.specs.Expressions.{Variable, register, name, known, Primitive, int, chan, part, Calculation, one, both, Expression, whole, tuple}
 use Rattle.te_script.specs.Scripts.{Scope, IsExpression, AreDistinct}
-use Rattle.te_script.proofs.Appending.{AllByRecursion-append}
+use Rattle.te_terms.proofs.Lists.{AllByRecursion-append}
 use Rattle.te_reader.specs.declared.token.Word.{Word}
 use Rattle.te_reader.specs.declared.token.Sign.{Sign}
 use Rattle.te_reader.specs.declared.token.Sign.TheVariants as signs

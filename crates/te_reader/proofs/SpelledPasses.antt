@@ -18,6 +18,7 @@ use Rattle.te_reader.specs.Rules.{Context, is_among, is_variable, begun}
 use Rattle.te_reader.specs.Runs.{pick, pick_plain, operand_form, expression_form, is_small, run}
 use Rattle.te_reader.proofs.Passing.{spots_of, dotted, Goes, goes, goes_alone, names_in, calm, among_or}
 use Rattle.te_reader.proofs.NameSetLemmas.{among_at}
+use Rattle.te_reader.proofs.PickedForms.{small_true}
 
 -- ---- names and operands
 
@@ -62,9 +63,6 @@ variable_first : (first : Bool) (more : List Part) (t : Token) (d : Bool) → d 
 variable_first first more t d e (inl h) = rw (h.1, e) refl
 variable_first first more t d e (inr h) = rw h.1 refl
 
-small : (z : ℤ) (d : ℕ) → z ≡ pos d → d ≤ 3 → is_small z ≡ true
-small z d e h = rw e (grind (arith, nat_tests))
-
 pub primitive_goes : (p : Part) (first : Bool) (more : List Part) → IsOperand p first more → (q : Primitive) (wanted : List Part) (c : Context) (ts rest : List Token) → spells_primitive true (names_in c) q ts rest
     → (first && nat_le 4 c.calculations) ≡ false → dotted rest ≡ false → Goes (p ∷ wanted) c ts (more ++ wanted) (begun first c) rest
 primitive_goes p first more is (int z) wanted c ts rest h few plain =
@@ -78,7 +76,7 @@ primitive_goes p first more is (part x d) wanted c ts rest h few plain =
     let next = begun first c in
     goes p (form (roles.Variable first) (place_of_it more)) wanted c v.0 ts h.1.0 v.1 (is _ _ _ (variable_first first more v.0 (dotted h.1.0) follows v.3)) (rw (v.2, few) refl)
     ∙ goes_alone (roles.Sign signs.Dot) (parts.Only roles.Place ∷ (more ++ wanted)) next (tokens.sign signs.Dot) h.1.0 dot.0 dot.1 refl refl
-    ∙ goes_alone roles.Place (more ++ wanted) next (tokens.integer dot.2.0) dot.0 rest dot.2.2 (small _ d dot.2.1 h.0) refl
+    ∙ goes_alone roles.Place (more ++ wanted) next (tokens.integer dot.2.0) dot.0 rest dot.2.2 (small_true _ d dot.2.1 h.0) refl
 
 -- ---- tuples
 

@@ -23,18 +23,9 @@ use Rattle.te_reader.proofs.TokensWritten.{Writes, StandsApart, brace_opens, bra
 use Rattle.te_reader.proofs.IntegersWritten.{decimal_writes}
 use Rattle.te_reader.proofs.ExpressionsWritten.{scope_at, at_each, expression_writes}
 use Rattle.te_reader.proofs.EventsWritten.{event_writes}
+use Rattle.te_script.proofs.CoreMoves.{written_within}
 
 -- ---- registers
-
--- a register that is written is there, and those that are written are
-pub written_within : (m n w : ℕ) (ss : List Statement) → AreStatements m n w ss → w ≤ n
-written_within m n w [] h = omega (arith, h)
-written_within m n w (emit e ∷ ss) h = written_within m n w ss h.1
-written_within m n w (repeat times count ∷ ss) h = written_within m n w ss h.1
-written_within m n w (sync r t ∷ ss) h = by (nat_lt r w) refl (written_within m n (with_register w r) ss h.3) where
-  by : (b : Bool) → nat_lt r w ≡ b → (if b then w else suc r) ≤ n → w ≤ n
-  by true e le = le
-  by false e le = grind (arith, nat_tests, e, le)
 
 register_within : (n w r : ℕ) → with_register w r ≤ n → r < n
 register_within n w r = by (nat_lt r w) refl where

@@ -14,7 +14,7 @@ use Rattle.te_terms.specs.Limits.{most_atoms}
 use Rattle.te_terms.specs.Expressions.{Variable, register, name, known, Primitive, int, chan, part, Calculation, one, both, Expression, whole, tuple, in_primitive, in_calculation, in_expression, ◌>>=◌, variable_value, primitive_atom, integer_of, calculation_atom, calculated_atoms, value_of}
 use Rattle.te_terms.specs.Terms.{Term, always, never, fresh, throw, send, recv, and_then, choose, catch, when, replaced, name_to, bound}
 use Rattle.te_terms.specs.Steps.{given_by, raised_by, outcome_of}
-use Rattle.te_history.proofs.Places.{by_place}
+use Rattle.te_terms.proofs.Lists.{all_at}
 use Rattle.te_report.specs.Fitting.{AtomFits, ValueFits, VariableFits, PrimitiveFits, CalculationFits, ExpressionFits, TermFits, OutcomeFits}
 
 ok_found : {A : Type 0} (o : Option A) (t : Trap) (a : A) → ok_or o t ≡ Ok a → o ≡ Some a
@@ -44,7 +44,7 @@ module _ (P : ℕ → Type 0) where
   part_has : (x : Variable) (d : ℕ) (a : Atom) → VariableFits P x → (variable_value x >>= λ v. ok_or (slice_get v d) Kind) ≡ Ok a → AtomFits P a
   part_has (register r) d a h is = absurd cc
   part_has (name n) d a h is = absurd cc
-  part_has (known v) d a h is = by_place (AtomFits P) v d a h.atoms (ok_found (slice_get v d) Kind a is)
+  part_has (known v) d a h is = all_at (AtomFits P) v d a h.atoms (ok_found (slice_get v d) Kind a is)
 
   primitive_has : (p : Primitive) (a : Atom) → PrimitiveFits P p → primitive_atom p ≡ Ok a → AtomFits P a
   primitive_has (int z) a h is = let same : Int z ≡ a = cc in subst (AtomFits P) same h

@@ -22,7 +22,7 @@ use Rattle.te_history.specs.declared.status.How.{How}
 use Rattle.te_history.specs.State.{Standing, idle, parked, given, ended, State, state, changed, with_standing, with_given}
 use Rattle.te_history.specs.Follows.{Stands, AreEvents, Commits, MayEndAs, caller_of, LooselyFollows, IsLoose}
 use Rattle.te_history.proofs.AfterEntry.{state-after, length-state}
-use Rattle.te_history.proofs.Places.{by_place}
+use Rattle.te_terms.proofs.Lists.{all_at}
 use Rattle.te_history.proofs.Commits.{same_or_other, stands_put, stands_other}
 use Rattle.te_report.specs.OfScript.{taken, taken_from, WishedBy, IsOfScript}
 use Rattle.te_report.specs.Fitting.{OutcomeFits, HowFits, EntryIsSpelled}
@@ -31,6 +31,8 @@ use Rattle.te_report.proofs.Growing.{taken_more, grows_wished}
 use Rattle.te_report.proofs.FittingHas.{entries_have}
 use Rattle.te_report.proofs.ChannelsStepped.{Makes, Fits, AllFit, reductions_have}
 use Rattle.te_report.proofs.ChannelsWished.{EventHas, WishHas, wish_has}
+use Rattle.te_history.proofs.GivenOnce.{all_idle}
+use Rattle.te_terms.proofs.Lists.{same_item}
 
 group_rises : (s : State) (low : ℕ) (ms : List Member) (gs : List steps.Member) → RiseAfter low ms → AreEvents s ms gs → RiseFrom low gs
 group_rises s low [] [] rise events = tt
@@ -47,14 +49,6 @@ is_group s (m ∷ ms) [] rise events = absurd events
 is_group s (m ∷ ms) (g ∷ gs) rise events =
     let thread : m.thread ≡ g.thread = ap (λ (x : steps.Member). x.thread) (sym events.0) in
     subst (λ (t : ℕ). RiseFrom t gs) thread (group_rises s m.thread ms gs rise events.2)
-
-same_item : {A : Type 0} (x y : A) (o : Option A) → o ≡ Some x → o ≡ Some y → x ≡ y
-same_item x y o a b = let both : Some x ≡ Some y = sym a ∙ b in cc
-
-all_idle : (n t : ℕ) (x : Standing) → slice_get (replicate n idle) t ≡ Some x → x ≡ idle
-all_idle zero t x is = absurd cc
-all_idle (suc n) zero x is = cc
-all_idle (suc n) (suc t) x is = all_idle n t x is
 
 module _ (P : ℕ → Type 0) (channels : ℕ) (threads : List Thread) (low : (c : ℕ) → c < channels → P c) (each : AllByRecursion (IsThread channels) threads) where
   abbrev pub StandingHas : Standing → Type 0
@@ -129,17 +123,17 @@ module _ (P : ℕ → Type 0) (channels : ℕ) (threads : List Thread) (low : (c
 
   wish_by : (o : Option Thread) (t : ℕ) (outs : List Outcome) (e : Entry) → slice_get threads t ≡ o → AllByRecursion (OutcomeFits P) outs
       → WishedBy o outs e → (w : Wish) × WishHas P w × WishedBy o outs e
-  wish_by (Some x) t outs e is ho w = (wish x outs, wish_has P channels x outs low (by_place (IsThread channels) threads t x each is) ho, w)
+  wish_by (Some x) t outs e is ho w = (wish x outs, wish_has P channels x outs low (all_at (IsThread channels) threads t x each is) ho, w)
   wish_by None t outs e is ho w = absurd w
 
   post_has : (o : Option Thread) (t ticket : ℕ) (event : _) (outs : List Outcome) → slice_get threads t ≡ o → AllByRecursion (OutcomeFits P) outs
       → WishedBy o outs (entries.Post t ticket event) → EventHas P event
-  post_has (Some x) t ticket event outs is ho w = subst (WishHas P) w (wish_has P channels x outs low (by_place (IsThread channels) threads t x each is) ho)
+  post_has (Some x) t ticket event outs is ho w = subst (WishHas P) w (wish_has P channels x outs low (all_at (IsThread channels) threads t x each is) ho)
   post_has None t ticket event outs is ho w = absurd w
 
   end_has : (o : Option Thread) (t : ℕ) (how : How) (outs : List Outcome) → slice_get threads t ≡ o → AllByRecursion (OutcomeFits P) outs → WishedBy o outs (entries.End t how) → HowFits P how
-  end_has (Some x) t (ways.Done values) outs is ho w = subst (WishHas P) w (wish_has P channels x outs low (by_place (IsThread channels) threads t x each is) ho)
-  end_has (Some x) t (ways.Raised value) outs is ho w = subst (WishHas P) w (wish_has P channels x outs low (by_place (IsThread channels) threads t x each is) ho)
+  end_has (Some x) t (ways.Done values) outs is ho w = subst (WishHas P) w (wish_has P channels x outs low (all_at (IsThread channels) threads t x each is) ho)
+  end_has (Some x) t (ways.Raised value) outs is ho w = subst (WishHas P) w (wish_has P channels x outs low (all_at (IsThread channels) threads t x each is) ho)
   end_has (Some x) t ways.Stuck outs is ho w = tt
   end_has None t how outs is ho w = absurd w
 

@@ -8,7 +8,7 @@ use Rattle.te_terms.specs.declared.event.Outcome.{Outcome}
 use Rattle.te_cert.specs.declared.cert.Member.{Member}
 use Rattle.te_cert.specs.declared.cert.Meeting.{Meeting}
 use Rattle.te_cert.specs.declared.cert.Cert.{Cert}
-use Rattle.te_history.proofs.Places.{by_place}
+use Rattle.te_terms.proofs.Lists.{all_at}
 use Rattle.te_script.specs.Names.{is_word_byte}
 use Rattle.te_script.specs.Scripts.{Program, IsScript}
 use Rattle.te_report.specs.declared.saying.Said.TheVariants as says
@@ -170,7 +170,7 @@ module _ (script : Program) (is : IsScript script) where
   unfolding said_place
   place_told ms place hs n =
       let m = n.member in
-      let own : IsMemberOf script m = by_place (IsMemberOf script) ms place m hs n.there in
+      let own : IsMemberOf script m = all_at (IsMemberOf script) ms place m hs n.there in
       let name : member_name script ms place ≡ name_of script m.thread = ap (λ o. name_of script (member_thread o)) n.there in
       let thread : said_thread (called_of script).threads (member_name script ms place) ≡ m.thread = ap (said_thread (called_of script).threads) name ∙ thread_is_told script is m.thread own.0 in
       let passes : (m.thread == m.thread) ≡ true = grind (arith, nat_tests) in
@@ -181,7 +181,7 @@ module _ (script : Program) (is : IsScript script) where
       → (0 < length (member_name script ms place)) × (lacks c (member_name script ms place) ≡ true)
   name_at ms place c sign hs n =
       let m = n.member in
-      let own : IsMemberOf script m = by_place (IsMemberOf script) ms place m hs n.there in
+      let own : IsMemberOf script m = all_at (IsMemberOf script) ms place m hs n.there in
       let name : member_name script ms place ≡ name_of script m.thread = ap (λ o. name_of script (member_thread o)) n.there in
       let named = thread_named script is m.thread own.0 in
       (subst (λ x. 0 < length x) (sym name) (name_some (name_of script m.thread) named), ap (lacks c) name ∙ name_lacks c (name_of script m.thread) sign named)

@@ -8,6 +8,7 @@ use Rattle.te_history.specs.declared.entry.Entry.{Entry}
 use Rattle.te_history.specs.declared.entry.Entry.TheVariants as entries
 use Rattle.te_history.specs.Follows.{caller_of, LooselyFollows, LooseFrom}
 use Rattle.te_report.specs.OfScript.{taken, taken_from, WishedBy, WishedFrom}
+use Rattle.te_terms.proofs.Lists.{take_next}
 
 taken_step : (t : ℕ) (e : Entry) (rest : List Outcome) → taken_from t e rest ≡ taken_from t e [] ++ rest
 taken_step t (entries.Take by ticket outcome) rest = at (eqb by t)
@@ -82,8 +83,3 @@ at_place callers threads before (x ∷ xs) (suc i) e loose wished is =
       loose = (loose.0, rest.loose);
       of_script = (wished.0, rest.of_script);
     }
-
-pub take_next : {A : Type 0} (xs : List A) (i : ℕ) (x : A) → slice_get xs i ≡ Some x → take (suc i) xs ≡ take i xs ++ x ∷ []
-take_next [] i x is = absurd cc
-take_next (y ∷ ys) zero x is = let same : y ≡ x = cc in ap (λ (z : _). z ∷ []) same
-take_next (y ∷ ys) (suc i) x is = ap (λ (zs : List _). y ∷ zs) (take_next ys i x is)

@@ -7,7 +7,7 @@ use Rattle.std.specs.Char.{is_ascii_alphabetic}
 use Rattle.std.specs.Str.{bytes_eq}
 use Rattle.std.proofs.lemmas.Bool.Decides.{nat_tests}
 use Rattle.std.proofs.lemmas.Slice.Eq.{bytes_eq-Decides}
-use Rattle.te_history.proofs.Places.{by_place}
+use Rattle.te_terms.proofs.Lists.{all_at}
 use Rattle.te_script.specs.Names.{is_word_byte, IsIdentifier}
 use Rattle.te_script.specs.Scripts.{Thread, Program, AreDistinct, thread_names}
 use Rattle.te_report.specs.Report.{thread_name, name_of, or_nothing, channel_name}
@@ -67,7 +67,7 @@ none_earlier n [] i d is k y lt there = absurd cc
 none_earlier n (x ∷ xs) zero d is k y lt there = absurd (omega arith)
 none_earlier n (x ∷ xs) (suc i) d is zero y lt there =
     let same : x ≡ y = cc in
-    let apart : x ≢ n = by_place (λ z. x ≢ z) xs i n d.0 is in
+    let apart : x ≢ n = all_at (λ z. x ≢ z) xs i n d.0 is in
     other_name y n (λ e. apart (same ∙ e))
 none_earlier n (x ∷ xs) (suc i) d is (suc k) y lt there = none_earlier n xs i d.1 is k y (omega arith) there
 

@@ -8,15 +8,11 @@ use Rattle.te_history.specs.declared.status.Status.TheVariants as statuses
 use Rattle.te_history.specs.State.{Standing, idle, parked, given, ended, State, parked_by, parked_from}
 use Rattle.te_history.specs.Follows.{Stands}
 use Rattle.te_history.specs.Histories.{HasStatus, status_of}
+use Rattle.te_terms.proofs.Lists.{drop_at}
 
 -- the parked callers from one caller on
 abbrev pub parked_after : ℕ → State → List Parked
 parked_after t s = parked_from t (drop t s.callers)
-
-drop_at : {A : Type 0} (xs : List A) (k : ℕ) (x : A) → slice_get xs k ≡ Some x → drop k xs ≡ x ∷ drop (suc k) xs
-drop_at [] k x is = absurd cc
-drop_at (y ∷ ys) zero x is = let same : y ≡ x = cc in ap (λ z. z ∷ ys) same
-drop_at (y ∷ ys) (suc k) x is = drop_at ys k x is
 
 next_after : (s : State) (t : ℕ) (c : Standing) → Stands s t c → parked_after t s ≡ parked_by t c (parked_after (t + 1) s)
 next_after s t c stands = ap (parked_from t) (drop_at s.callers t c stands) ∙ ap (λ (n : ℕ). parked_by t c (parked_from n (drop n s.callers))) (sym (add-one t))

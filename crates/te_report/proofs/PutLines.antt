@@ -9,7 +9,8 @@ use Rattle.te_history.specs.Follows.{IsLoose}
 use Rattle.te_report.specs.OfScript.{IsOfScript}
 use Rattle.te_report.specs.Report.{second, entry_text, numbered, entry_line, entry_lines, posted_site}
 use Rattle.te_report.specs.Following.{HasCore, cores_from, shown_site, followed}
-use Rattle.te_report.proofs.Growing.{AtPlace, at_place, take_next}
+use Rattle.te_report.proofs.Growing.{AtPlace, at_place}
+use Rattle.te_terms.proofs.Lists.{take_next}
 use Rattle.te_report.proofs.CoresFollow.{has_core, cores_next, sites_shown}
 use Rattle.te_report.proofs.LinesSoFar.{lines_next}
 

@@ -17,7 +17,7 @@ use Rattle.te_history.specs.declared.status.How.TheVariants as ways
 use Rattle.te_history.specs.State.{Standing, idle, parked, given, State, state, posts_by}
 use Rattle.te_history.specs.Follows.{Stands, AreEvents, Commits, MayEndAs, caller_of, LooselyFollows, LooseFrom, IsLoose}
 use Rattle.te_history.proofs.AfterEntry.{loose-after, length-state, posts_by_at_most}
-use Rattle.te_history.proofs.Places.{by_place}
+use Rattle.te_terms.proofs.Lists.{all_at}
 use Rattle.te_history.proofs.PlayLengths.{length-play}
 use Rattle.te_history.proofs.RoomNeverRises.{as_many_events}
 use Rattle.te_report.specs.OfScript.{taken, WishedBy, WishedFrom, IsOfScript}
@@ -81,7 +81,7 @@ module _ (script : Program) (is : IsProgram script) (h : List Entry) (few : leng
   entry_readable (entries.End by how) follows fits = (ended_by by how follows, fits)
 
   post_site : (o : Option Thread) (by ticket : ℕ) (event : _) → slice_get script.threads by ≡ o → WishedBy o (taken by h) (entries.Post by ticket event) → IsSite (site_by o (taken by h))
-  post_site (Some x) by ticket event at w = site_fits (length script.channels) x (taken by h) event (by_place (IsThread (length script.channels)) script.threads by x is.each at) w
+  post_site (Some x) by ticket event at w = site_fits (length script.channels) x (taken by h) event (all_at (IsThread (length script.channels)) script.threads by x is.each at) w
   post_site None by ticket event at w = absurd w
 
   site_readable : (version : Version) (e : Entry) → WishedBy (slice_get script.threads (caller_of e)) (taken (caller_of e) h) e → HasSite version (posted_site script h e) e

@@ -19,6 +19,8 @@ use Rattle.te_history.proofs.Commits.{same_or_other, stands_put, stands_other, T
 use Rattle.te_report.specs.OfScript.{taken, taken_from, WishedBy, WishedFrom}
 use Rattle.te_report.proofs.Growing.{taken_same, not_mine, grows_wished}
 use Rattle.std.proofs.Common.{replicate, zero, suc}
+use Rattle.te_history.proofs.GivenOnce.{all_idle}
+use Rattle.te_terms.proofs.Lists.{same_item}
 
 -- who is parked or given an outcome waits
 abbrev pub Fits : Standing → Next → Type 0
@@ -39,9 +41,6 @@ waits_for emitted (failed v) event e = absurd cc
 
 pub posts_wait : (x : Thread) (outs : List Outcome) (event : Term) → wish x outs ≡ syncs event → IsWaiting (stand_after x outs).next
 posts_wait x outs event is = waits_for (stand_after x outs).emitted (stand_after x outs).next event (wish_after x outs ∙ is)
-
-same_item : {A : Type 0} (x y : A) (o : Option A) → o ≡ Some x → o ≡ Some y → x ≡ y
-same_item x y o a b = let both : Some x ≡ Some y = sym a ∙ b in cc
 
 module _ (callers : ℕ) (threads : List Thread) (h : List Entry) (e : Entry) (all : AllFit callers threads h) where
   -- what holds of the state that the entry leaves
@@ -103,11 +102,6 @@ fits_after callers threads h (entries.End by how) follows wished all =
     stood (ways.Done values) ends = (idle, ends.1)
     stood (ways.Raised value) ends = (idle, ends.1)
     stood ways.Stuck ends = (_, ends.1.2)
-
-all_idle : (n t : ℕ) (x : Standing) → slice_get (replicate n idle) t ≡ Some x → x ≡ idle
-all_idle zero t x is = absurd cc
-all_idle (suc n) zero x is = cc
-all_idle (suc n) (suc t) x is = all_idle n t x is
 
 pub all_fit : (callers : ℕ) (threads : List Thread) (h : List Entry) → LooseFrom callers [] h → WishedFrom threads [] h → AllFit callers threads h
 all_fit callers threads h loose wished =

@@ -10,7 +10,7 @@ use Rattle.te_terms.specs.declared.event.Outcome.{Outcome}
 use Rattle.te_terms.specs.declared.event.Outcome.TheVariants.{Gives, Raises}
 use Rattle.te_terms.specs.Values.{fresh_channel}
 use Rattle.te_terms.specs.Limits.{most_atoms}
-use Rattle.te_history.proofs.Places.{by_place}
+use Rattle.te_terms.proofs.Lists.{all_at}
 use Rattle.te_script.specs.Names.{is_word_byte, IsName, IsIdentifier}
 use Rattle.te_script.specs.Scripts.{Program, HasNames, IsScript}
 use Rattle.te_report.specs.ScriptChannels.{IsChannelOf}
@@ -53,14 +53,14 @@ module _ (script : Program) (is : IsScript script) where
   pub thread_named : (t : ℕ) → t < length script.threads → IsIdentifier (name_of script t)
   thread_named t lt =
       let x = some_thread script.threads t lt in
-      let h = by_place HasNames script.threads t x.0 is.threads x.1 in
+      let h = all_at HasNames script.threads t x.0 is.threads x.1 in
       subst (λ o. IsIdentifier (thread_name o)) (sym x.1) h.name.identifier
 
   pub thread_is_told : (t : ℕ) → t < length script.threads → said_thread (called_of script).threads (name_of script t) ≡ t
   thread_is_told t lt = thread_told script t is.program.names lt
 
   channel_named : (c : ℕ) → c < length script.channels → IsIdentifier (channel_name script c)
-  channel_named c lt = let h = by_place IsName script.channels c (channel_name script c) is.channels (channel_there script.channels c lt) in h.identifier
+  channel_named c lt = let h = all_at IsName script.channels c (channel_name script c) is.channels (channel_there script.channels c lt) in h.identifier
 
   channel_is_name : (c : ℕ) → c < length script.channels → channel_text script c ≡ channel_name script c
   channel_is_name c lt =

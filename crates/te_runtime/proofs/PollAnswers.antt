@@ -23,7 +23,8 @@ use Rattle.te_runtime.specs.Answers.{CallerWaits, IsPolled}
 use Rattle.te_runtime.specs.Turns.{Entered, Left}
 use Rattle.te_runtime.specs.Acts.{Polls}
 use Rattle.te_runtime.proofs.Calling.{called, called_same, board_is, board_same}
-use Rattle.te_runtime.proofs.Refusing.{status_once, runs}
+use Rattle.te_serial.proofs.GroupsGiven.{runs}
+use Rattle.te_history.proofs.RefusalsAreOne.{statuses_are_one}
 
 -- an entry of a caller that is told by its number
 pub appended : {p q r : Knowledge Entry} {b after : BoardLog} (by : ℕ) (entry : ℕ → Entry) → ((k : ℕ) → caller_of (entry k) ≡ k) → Entered p q b
@@ -64,7 +65,7 @@ took b after by ticket outcome a waits =
 not_waiting : (b : BoardLog) (by : ℕ) (f : SyncFault) → RefusesPoll b by f → CallerWaits (state_of b) by → ⊥
 not_waiting b by faults.Stuck cause waits = runs (state_of b) waits.running ((stuck_exactly b.callers b.entries).1 cause)
 not_waiting b by (faults.Other status) cause waits =
-    subst HasNothing (status_once (state_of b) by status (statuses.Parked waits.ticket) cause.0.1 waits.parked) cause.1
+    subst HasNothing (statuses_are_one (state_of b) by status (statuses.Parked waits.ticket) cause.0.1 waits.parked) cause.1
 not_waiting b by _ cause waits = cause
 
 pub waits_told : (answer : Result Polled SyncFault) {p q r : Knowledge Entry} {b : BoardLog} (after : BoardLog) (by : ℕ) → Entered p q b

@@ -19,24 +19,17 @@ use Rattle.te_runtime.specs.Refusals.{HasNothing, RefusesTurn, RefusesDrive}
 use Rattle.te_runtime.specs.Calls.{Called, IsBusy, Refused, RefusedOnce, board_of}
 use Rattle.te_runtime.specs.Turns.{Entered, Left}
 use Rattle.te_runtime.proofs.Calling.{called_same, called_then, board_same}
+use Rattle.te_history.proofs.RefusalsAreOne.{statuses_are_one}
+use Rattle.te_serial.proofs.GroupsGiven.{runs}
 
 -- ---- one status, and a running board
-
-pub status_once : (s : State) (t : ℕ) (a b : Status) → HasStatus s t a → HasStatus s t b → a ≡ b
-status_once s t a b has has' =
-    let both : Some has.0 ≡ Some has'.0 = sym has.1 ∙ has'.1 in
-    let same : has.0 ≡ has'.0 = cc in
-    has.2 ∙ ap status_of same ∙ sym has'.2
-
-pub runs : (s : State) → IsRunning s → s.stuck ≡ true → ⊥
-runs s running stuck = let both : true ≡ false = sym stuck ∙ running in cc
 
 -- ---- what a board can't refuse
 
 pub post_fits : (b : BoardLog) (by : ℕ) (fault : BoardFault) → IsRunning (state_of b) → HasStatus (state_of b) by statuses.Idle → fault ≢ board.Full
     → DeniesPost b by fault → ⊥
 post_fits b by board.Closed running idle other denies = runs (state_of b) running denies
-post_fits b by (board.NotIdle status) running idle other denies = denies.2 (status_once (state_of b) by status statuses.Idle denies.1 idle)
+post_fits b by (board.NotIdle status) running idle other denies = denies.2 (statuses_are_one (state_of b) by status statuses.Idle denies.1 idle)
 post_fits b by board.Full running idle other denies = other refl
 post_fits b by _ running idle other denies = denies
 

@@ -2,6 +2,7 @@
 use Rattle.std.proofs.Common.{ℕ, zero, suc, List, [], ◌∷◌, ◌++◌, sym, subst}
 use Rattle.std.specs.List.{AllByRecursion}
 use Rattle.te_script.specs.Scripts.{Statement, sync, emit, repeat, AreSyncs, IsRepeat, AreStatements, with_register}
+use Rattle.te_terms.proofs.Lists.{AllByRecursion-append}
 
 AreSyncs-append : (count : ℕ) (ss : List Statement) (s : Statement) → AreSyncs count ss → AreSyncs count (ss ++ s ∷ [])
 AreSyncs-append zero ss s h = tt
@@ -19,7 +20,3 @@ AreStatements-append channels registers written (repeat times count ∷ ss) s h 
   record { some_times = h.0.some_times; most = h.0.most; some = h.0.some; body = AreSyncs-append count ss s h.0.body },
   AreStatements-append channels registers written ss s h.1 last,
 )
-
-pub AllByRecursion-append : {A : Type 0} (P : A → Type 0) (xs : List A) (x : A) → AllByRecursion P xs → P x → AllByRecursion P (xs ++ x ∷ [])
-AllByRecursion-append P [] x h last = (last, tt)
-AllByRecursion-append P (y ∷ xs) x h last = (h.0, AllByRecursion-append P xs x h.1 last)

@@ -14,7 +14,8 @@ use Rattle.te_script.specs.Scripts.{Statement, sync, emit, Scope, IsEvent, AreSt
 use Rattle.te_script.specs.Names.{IsName}
 use Rattle.te_script.specs.Generated.{each, rings_of, rounds_of, generated_channel_name, generated_thread_name, starting, passing_event, part_event, event_of, generated_thread, generated}
 use Rattle.te_script.proofs.NamesMade.{numbered_name, letter_name}
-use Rattle.te_script.proofs.Appending.{AreStatements-append, AllByRecursion-append}
+use Rattle.te_script.proofs.Appending.{AreStatements-append}
+use Rattle.te_terms.proofs.Lists.{AllByRecursion-append}
 
 -- ---- lists of so many
 

@@ -11,7 +11,7 @@ use Rattle.te_terms.specs.Terms.{Term, and_then}
 use Rattle.te_terms.proofs.TermLemmas.{term_at_new, term_at-append, slice_get_seam}
 use Rattle.te_script.specs.Nodes.{CodeGrows, HasEvents}
 use Rattle.te_script.specs.Generated.{each}
-use Rattle.te_script.proofs.Appending.{AllByRecursion-append}
+use Rattle.te_terms.proofs.Lists.{AllByRecursion-append}
 
 -- one node more
 pub record Put (before after : List Node) (node : Node) : Type 0 where

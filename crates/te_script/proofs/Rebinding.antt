@@ -7,7 +7,7 @@ use Rattle.te_terms.specs.Terms.{replaced}
 use Rattle.te_script.specs.Wishes.{Step, syncing, emitting}
 use Rattle.te_script.specs.Cores.{register_to, written, without_register, under}
 use Rattle.te_terms.proofs.BindingLaws.{replaced_twice}
-use Rattle.te_script.proofs.Replacing.{expression_twice}
+use Rattle.te_terms.proofs.BindingLaws.{expression_twice}
 
 -- each register keeps its name or has a value; names and values stay
 pub record IsPartial (f : Variable → Variable) : Type 0 where

@@ -6,10 +6,7 @@ use Rattle.te_terms.specs.Expressions.{Variable, register, name, known, Primitiv
 use Rattle.te_terms.specs.Terms.{Term, always, never, fresh, throw, send, recv, and_then, choose, catch, when, replaced}
 use Rattle.te_terms.proofs.BindingLaws.{replaced_twice}
 use Rattle.te_script.specs.Scripts.{Scope, one_deeper, IsVariable, IsPrimitive, IsCalculation, IsExpression, IsEvent}
-
--- replacing twice is replacing once by both, as it is for the event that gives the expression
-pub expression_twice : (g f : Variable → Variable) (e : Expression) → in_expression g (in_expression f e) ≡ in_expression (λ x. g (f x)) e
-expression_twice g f e = let whole_event : always (in_expression g (in_expression f e)) ≡ always (in_expression (λ x. g (f x)) e) = replaced_twice g f (always e) in cc
+use Rattle.te_terms.proofs.BindingLaws.{expression_twice}
 
 -- ---- nothing changes where each variable in scope is kept
 

@@ -20,6 +20,7 @@ use Rattle.te_script.proofs.EmitsDone.{statements_from, nothing_from}
 use Rattle.te_script.proofs.StepsLeft.{at_sync, left_sync, waits_at, none_left}
 use Rattle.te_script.proofs.CoreMoves.{waits_itself}
 use Rattle.te_script.proofs.WishReached.{wish_after}
+use Rattle.te_terms.proofs.Lists.{if_ok}
 
 -- the statement at which a core stands, and those behind it
 pub stands_at : (ss : List Statement) (stmts : List Stmt) (i : ℕ) (s : Stmt) → map statement_of stmts ≡ ss → i < length stmts → s ≡ get_or stmts i s
@@ -73,10 +74,6 @@ pub told_of_text : (t : Thread) (event : Term) (want : Want) → IsOfStatement t
 told_of_text t event (wants.Sync told) of is = subst (IsOfStatement t) is of
 told_of_text t event wants.Done of is = tt
 told_of_text t event (wants.Raised v) of is = tt
-
-pub where_ok : {A E : Type 0} (P Q : A → Type 0) (r : Result A E) → ((x : A) → P x → Q x) → IfOk r P → IfOk r Q
-where_ok P Q (Ok x) f h = f x h
-where_ok P Q (Err e) f h = h
 
 -- where a core is after its outcomes, its wish is that of the whole text
 pub told_after : (a : At) (so_far : List Outcome) (want : Want) → IsWant (wish_at a.stand) want → a ≡ core_after a.thread so_far → IsWant (wish a.thread so_far) want

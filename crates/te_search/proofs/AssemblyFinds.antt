@@ -13,13 +13,15 @@ use Rattle.te_trail.specs.States.{chosen, path_state}
 use Rattle.te_trail.specs.Stores.{Holds, same_path}
 use Rattle.te_trail.specs.Views.{touches, view_of}
 use Rattle.te_trail.proofs.Lines.{above_trans}
-use Rattle.te_trail.proofs.ClockLaws.{eq_same, Agrees, agree_by, clock_self, clock_top, made_planted, made_branched, made_met}
+use Rattle.te_trail.proofs.ClockLaws.{Agrees, agree_by, clock_self, clock_top, made_planted, made_branched, made_met}
+use Rattle.te_terms.proofs.Lists.{eq_same}
 use Rattle.te_trail.proofs.PastsChain.{pasts_true, above_own, same_true, same_self}
 use Rattle.te_search.specs.Groups.{IsFinal}
 use Rattle.te_search.specs.Searching.{Fails, wanting, AllFail}
 use Rattle.te_search.proofs.StepsTaken.{Stepping, stepped_quietly, stepped_by_choice, Joining, stepped_by_meeting, steps_quietly, steps_by_choice, steps_by_meeting}
 use Rattle.te_search.proofs.EveryChainCovered.{Full, Covers, covers}
 use Rattle.te_search.proofs.ChainsSplit.{Uncrossed, part_at, part_put, class_of, class_uncrossed, side_of, side_uncrossed, side_labels}
+use Rattle.te_terms.proofs.Lists.{both}
 
 -- ---- a side of the whole list that is tight
 weave : (side s2 : ℕ → Bool) (w : List Label) → Uncrossed side w → Uncrossed s2 (side_labels side w) → Uncrossed (λ k. cond (side k) (s2 k) false) w
@@ -341,10 +343,6 @@ there_is : (o : Option Member) → is_some o ≡ true → (e : Member) × (o ≡
 there_is None h = cc
 there_is (Some e) h = (e, refl)
 
-both_true : (a b : Bool) → a && b ≡ true → (a ≡ true) × (b ≡ true)
-both_true true b e = (refl, e)
-both_true false b e = cc
-
 -- then nothing can commit
 pub complete : (g : List Member) (store finals : List Path) → Full g (Holds store) → ((x : Path) → Holds store x → IsFinal g x → Holds finals x) → AllFail g finals → ¬ Commits g
 complete g store finals full listed fails co =
@@ -373,7 +371,7 @@ complete g store finals full listed fails co =
 
     stand : (up : Up co.side co.actions g co.end) (cov : Covers g (Holds store) up.end (labels co.actions)) (k : ℕ) → inner k ≡ true → Holds store (cov.path k) × IsFinal g (cov.path k)
     stand up cov k s =
-        let q : (co.side k ≡ true) × (is_some (member_of k g) ≡ true) = both_true (co.side k) (is_some (member_of k g)) s in
+        let q : (co.side k ≡ true) × (is_some (member_of k g) ≡ true) = both (co.side k) (is_some (member_of k g)) s in
         let e : (e : Member) × (member_of k up.end ≡ Some e) = there_is (member_of k up.end) (up.members k ∙ q.1) in
         let there : member_of k co.end ≡ Some e.0 = ap (member_of k) (sym up.parts) ∙ part_at co.side k up.end q.0 ∙ e.1 in
         let f : (o : Outcome) × (outcome_of e.0.term ≡ Some o) = co.finals k e.0 there in
@@ -388,7 +386,7 @@ complete g store finals full listed fails co =
 
     core : (up : Up co.side co.actions g co.end) (cov : Covers g (Holds store) up.end (labels co.actions)) → Last (test cov.path) finals → ⊥
     core up cov last =
-        let p : (side (thread_of last.start) ≡ true) × (same_path last.start (cov.path (thread_of last.start)) ≡ true) = both_true (side (thread_of last.start))
+        let p : (side (thread_of last.start) ≡ true) × (same_path last.start (cov.path (thread_of last.start)) ≡ true) = both (side (thread_of last.start))
         (same_path last.start (cov.path (thread_of last.start))) last.passes in
         let one : last.start ≡ cov.path (thread_of last.start) = same_true last.start (cov.path (thread_of last.start)) p.1 in
         no_fail g store up.end (labels co.actions) cov side (side_uncrossed (labels co.actions) co.member) (λ f. IsFinal g f × Holds (last.front ++ (last.start ∷ [])) f)

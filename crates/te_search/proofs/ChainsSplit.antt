@@ -4,7 +4,7 @@ use Rattle.std.specs.Option.{option_and_then}
 use Rattle.te_terms.specs.Steps.{Member, quiet_step}
 use Rattle.te_terms.specs.Joint.{Label, choice, meeting, Action, quiet, labelled, member_of, with_member, joint_step, after, labels, part}
 use Rattle.te_trail.specs.States.{chosen}
-use Rattle.te_trail.proofs.ClockLaws.{eq_same}
+use Rattle.te_terms.proofs.Lists.{eq_same}
 use Rattle.te_search.proofs.StepsTaken.{Stepping, stepped_quietly, stepped_by_choice, Joining, stepped_by_meeting, steps_quietly, steps_by_choice, steps_by_meeting}
 
 -- the thread of an action: of a meeting the sender's

@@ -11,8 +11,10 @@ use Rattle.te_trail.specs.States.{chosen, members_met, MovedEnds, path_state, Ha
 use Rattle.te_trail.proofs.Lines.{above_self, above_trans, above_both, above_line, rests_move, above_rests}
 use Rattle.te_trail.proofs.ClockLaws.{clock_self, clock_top, Agrees, made_planted}
 use Rattle.te_trail.proofs.MembersMove.{Handing, handing}
-use Rattle.te_trail.proofs.MovesChain.{mapped}
+use Rattle.te_terms.proofs.Lists.{some_map}
 use Rattle.te_trail.proofs.PastsChain.{then_some, parts_of, fits_past}
+use Rattle.te_pair.proofs.EndsTold.{one_state}
+use Rattle.te_terms.proofs.Lists.{never_both}
 
 -- ---- the digits
 
@@ -65,31 +67,25 @@ pub record Receives (g : List Member) (p : Path) : Type 0 where
   pub state : path_state g p ≡ Some member
   pub meets : members_met other member ≡ Some ends
 
-one_member : (o : Option Member) (a b : Member) → o ≡ Some a → o ≡ Some b → a ≡ b
-one_member o a b x y = cc
-
-never_both : {A : Type 0} (o : Option A) (x : A) → o ≡ None → o ≡ Some x → ⊥
-never_both o x e f = cc
-
 pub no_choice_at_send : (g : List Member) (p : Path) → Chooses g p → Sends g p → ⊥
 no_choice_at_send g p c s =
-    let same : c.member ≡ s.member = one_member (path_state g p) c.member s.member c.state s.state in
+    let same : c.member ≡ s.member = one_state (path_state g p) c.member s.member c.state s.state in
     let h : Handing s.member s.other s.ends = handing s.member s.other s.ends s.meets in
     let ch : chosen c.left s.member ≡ Some c.next = subst (λ m. chosen c.left m ≡ Some c.next) same c.chooses in
-    let t = mapped (at_term s.member) (after_choice c.left s.member.term) c.next ch in
+    let t = some_map (at_term s.member) (after_choice c.left s.member.term) c.next ch in
     never_both _ h.message (choice_rests s.member c.left s.member.term t.0 t.1).1 h.sends
 
 pub no_choice_at_receive : (g : List Member) (p : Path) → Chooses g p → Receives g p → ⊥
 no_choice_at_receive g p c r =
-    let same : c.member ≡ r.member = one_member (path_state g p) c.member r.member c.state r.state in
+    let same : c.member ≡ r.member = one_state (path_state g p) c.member r.member c.state r.state in
     let h : Handing r.other r.member r.ends = handing r.other r.member r.ends r.meets in
     let ch : chosen c.left r.member ≡ Some c.next = subst (λ m. chosen c.left m ≡ Some c.next) same c.chooses in
-    let t = mapped (at_term r.member) (after_choice c.left r.member.term) c.next ch in
+    let t = some_map (at_term r.member) (after_choice c.left r.member.term) c.next ch in
     never_both _ h.channel (choice_rests r.member c.left r.member.term t.0 t.1).2 h.receives
 
 pub no_send_at_receive : (g : List Member) (p : Path) → Sends g p → Receives g p → ⊥
 no_send_at_receive g p s r =
-    let same : r.member ≡ s.member = one_member (path_state g p) r.member s.member r.state s.state in
+    let same : r.member ≡ s.member = one_state (path_state g p) r.member s.member r.state s.state in
     let h : Handing s.member s.other s.ends = handing s.member s.other s.ends s.meets in
     let k : Handing r.other r.member r.ends = handing r.other r.member r.ends r.meets in
     let gets = subst (λ m. receiving m.term ≡ Some k.channel) same k.receives in
@@ -98,7 +94,7 @@ no_send_at_receive g p s r =
 branched_from : (g : List Member) (p : Path) (l : Bool) → HasState g (branched p l) → Chooses g p
 branched_from g p l f =
     let a : (m : Member) × (path_state g p ≡ Some m) × (option_map settled (chosen l m) ≡ Some f.0) = then_some (λ m. option_map settled (chosen l m)) (path_state g p) f.0 f.1 in
-    let b : (u : Member) × (chosen l a.0 ≡ Some u) × (settled u ≡ f.0) = mapped settled (chosen l a.0) f.0 a.2 in
+    let b : (u : Member) × (chosen l a.0 ≡ Some u) × (settled u ≡ f.0) = some_map settled (chosen l a.0) f.0 a.2 in
     record { member = a.0; left = l; next = b.0; state = a.1; chooses = b.1 }
 
 -- both ends of a meeting
@@ -228,7 +224,7 @@ module _ (g : List Member) (c : Standing g) where
       go (inl e) = absurd cc
       go (inr f) = sent_from g s r f
 
-root_above : (y : Path) → IsAbove (planted (thread_of y)) y
+pub root_above : (y : Path) → IsAbove (planted (thread_of y)) y
 root_above (planted t) = refl
 root_above (branched p l) = inr (root_above p)
 root_above (sent s r) = inr (root_above s)

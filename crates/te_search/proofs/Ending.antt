@@ -17,7 +17,7 @@ use Rattle.te_trail.specs.Paths.{Path, planted, branched, sent, got}
 use Rattle.te_trail.specs.Stores.{Holds, IsStore, labels_of_move}
 use Rattle.te_trail.specs.Trails.{IsAtChoice, IsPathThread}
 use Rattle.te_trail.specs.States.{chosen, MovedEnds, members_met, path_state}
-use Rattle.te_trail.proofs.MovesChain.{mapped}
+use Rattle.te_terms.proofs.Lists.{some_map}
 use Rattle.te_trail.proofs.MembersMove.{Handing, handing}
 use Rattle.te_search.specs.declared.work.Work.{Work}
 use Rattle.te_search.specs.declared.finals.Final.{Final}
@@ -28,11 +28,14 @@ use Rattle.te_search.specs.Searching.{paths_by, AreUp, NoPathTwice, AllFail, May
 use Rattle.te_trail.specs.Records.{path_at}
 use Rattle.te_search.specs.Works.{AreLow, EndsStand, label_told, pending_of, IsCounted, IsWork, IsWorkOn}
 use Rattle.te_search.specs.Works.{Gains, IsPassed, IsSpentAt, WaitsOn}
-use Rattle.te_search.proofs.ListLaws.{once_both, holds_left, holds_right, holds_which, holds_one, holds_at, once_by_places}
+use Rattle.te_search.proofs.ListLaws.{once_both, holds_left, holds_right, holds_which, holds_one, once_by_places}
+use Rattle.te_trail.proofs.StoresHold.{held}
 use Rattle.te_search.proofs.WorkDone.{IsStep, step_done, final_cannot_choose}
-use Rattle.te_search.proofs.PartialLaws.{all_by}
-use Rattle.te_search.proofs.Trying.{get_low, path_there}
-use Rattle.te_search.proofs.Working.{map_both, get_more, low_both, work_gained}
+use Rattle.te_terms.proofs.Lists.{all_with}
+use Rattle.te_search.proofs.Trying.{path_there}
+use Rattle.te_terms.proofs.Lists.{get_low}
+use Rattle.te_search.proofs.Working.{map_both, low_both, work_gained}
+use Rattle.te_terms.proofs.Lists.{get-longer}
 use Rattle.te_terms.specs.declared.event.Outcome.{Outcome}
 use Rattle.te_terms.specs.Terms.{never}
 use Rattle.te_terms.specs.Steps.{head}
@@ -48,9 +51,11 @@ use Rattle.te_search.specs.Searching.{Fails, wanting}
 use Rattle.te_search.specs.Assemblies.{AssemblyStand, Crew, NamesPaths, Tries, Assembles, IsFound, joint}
 use Rattle.std.proofs.Common.{Vec, Global}
 use Rattle.te_search.specs.Works.{IsHit, StepEndsSo, threads_of}
-use Rattle.te_search.proofs.GroupsSound.{grown_from}
+use Rattle.te_trail.proofs.CallsLeave.{moves_held}
 use Rattle.te_search.proofs.WorkDone.{parent_made, final_cannot_meet, final_is_last}
-use Rattle.te_search.proofs.PartialLaws.{all_both, tries_zero, tries_less, tried_more}
+use Rattle.te_search.proofs.PartialLaws.{tries_zero, tries_less, tried_more}
+use Rattle.te_terms.proofs.Lists.{all_both}
+use Rattle.te_terms.proofs.Lists.{at_last}
 
 -- ---- a store is closed
 
@@ -62,7 +67,7 @@ both_made g paths pending waits finals w s r h =
     (w.meetings s r m.0 m.1 m.2 k.0 k.1 (w.store.sound (sent s r) h).2 m.3 m.4 m.5).1
 
 pub sent_made : (g : List Member) (paths : List Path) → IsStore g paths → (s r : Path) → Holds paths (got s r) → Holds paths (sent s r)
-sent_made g paths store s r h = elim (grown_from paths [] (sent s r) (grown_has paths [] (got s r) store.made h)) [ inl n ↦ absurd n | inr k ↦ k ]
+sent_made g paths store s r h = elim (moves_held paths [] (sent s r) (grown_has paths [] (got s r) store.made h)) [ inl n ↦ absurd n | inr k ↦ k ]
 
 pub past_made : (g : List Member) (paths pending waits finals : List Path) → IsSearch g paths pending waits finals → (y z : Path) → Holds paths y → RestsOn (move_of z) y → Holds paths z
 past_made g paths pending waits finals w (planted t) z h r = subst (Holds paths) (sym (made_planted z t r)) h
@@ -153,7 +158,7 @@ ending old p x threads ex w f th = record {
     before = subst (λ y. IsSearch old.store.events old.store.paths (pending_of old ++ (y ∷ [])) waits finals) (path_there old.store.paths p x ex) w.search
 
     made : (y : Path) → Holds (x ∷ []) y → Holds old.store.paths y
-    made y h = subst (Holds old.store.paths) (sym (holds_one y x h)) (holds_at old.store.paths p x ex)
+    made y h = subst (Holds old.store.paths) (sym (holds_one y x h)) (held old.store.paths p x ex)
 
     new : ¬ Holds finals x
     new = (before.pending_apart x (holds_right (pending_of old) (x ∷ []) x (inl refl))).1
@@ -175,9 +180,9 @@ ending_counted old p x threads count groups w e t is = record {
   are = tried_more old.store.events old.store.paths finals x w.counted.tried count w.counted.are w.counted.starts e.new e.partial t;
   starts = subst (λ l. AllByRecursion (λ q. Holds l q.start) (w.counted.tried ++ (own ∷ t.more))) (sym e.finals_are)
       (all_both (λ q. Holds (finals ++ (x ∷ [])) q.start) w.counted.tried (own ∷ t.more)
-      (all_by (λ q. Holds finals q.start) (λ q. Holds (finals ++ (x ∷ [])) q.start) w.counted.tried (λ q h. holds_left finals (x ∷ []) q.start h) w.counted.starts) (
+      (all_with (λ q. Holds finals q.start) (λ q. Holds (finals ++ (x ∷ [])) q.start) w.counted.tried (λ q h. holds_left finals (x ∷ []) q.start h) w.counted.starts) (
         holds_right finals (x ∷ []) x (inl refl),
-        all_by (IsMore old.store.events old.store.paths x (x ∷ [])) (λ q. Holds (finals ++ (x ∷ [])) q.start) t.more
+        all_with (IsMore old.store.events old.store.paths x (x ∷ [])) (λ q. Holds (finals ++ (x ∷ [])) q.start) t.more
             (λ q h. holds_right finals (x ∷ []) q.start (inl h.start_is)) t.are,
       ));
 }
@@ -260,7 +265,7 @@ end_found old new p x threads out ex w f e st mo fi found = record {
   stand = subst (λ t. AssemblyStand t.events t.paths threads (numbers_of new.finals)) (sym st) (subst (AssemblyStand old.store.events old.store.paths threads) (sym fi) e.stand);
   start = x;
   final = subst (λ t. IsFinal t.events x) (sym st) f;
-  made = subst (λ t. Holds t.paths x) (sym st) (holds_at old.store.paths p x ex);
+  made = subst (λ t. Holds t.paths x) (sym st) (held old.store.paths p x ex);
   found = subst (λ t. IsFound t.events t.paths threads x (x ∷ []) out) (sym st) found;
   told_are = ap (map label_told) mo ∙ w.told_are ∙ ap (λ t. map labels_of_move t.paths) (sym st);
 }
@@ -357,7 +362,7 @@ dead_done old new p x stop ex w h by same = subst IsWork (sym same)
     none_at o a e f = cc
 
     no_choice : (l : Bool) (m u : Member) → path_state old.store.events x ≡ Some m → chosen l m ≡ Some u → ⊥
-    no_choice l m u st c = (let a : (t : Term) × (after_choice l m.term ≡ Some t) × (at_term m t ≡ u) = mapped (at_term m) (after_choice l m.term) u c in none_at
+    no_choice l m u st c = (let a : (t : Term) × (after_choice l m.term ≡ Some t) × (at_term m t ≡ u) = some_map (at_term m) (after_choice l m.term) u c in none_at
         (after_choice l m.term) a.0 (ap (λ k. after_choice l k.term) (sym (the_one m st)) ∙ alone.1 l) a.1)
 
     meets_not : ¬ MayMeet old.store.events x
@@ -397,7 +402,7 @@ taken_in_hand old new p w st mo wa fi gr pe = record {
       (paths_by old.store.paths (paths_kept old.waiting)) (paths_by old.store.paths (numbers_of k))) (sym fi)
       (subst (λ k. IsSearch old.store.events old.store.paths k (paths_by old.store.paths (paths_kept old.waiting)) (paths_by old.store.paths (numbers_of old.finals)))
       (ap (paths_by old.store.paths) pe ∙ map_both (path_at old.store.paths) new.pending.items (p ∷ [])) w.search)));
-  pending_low = subst (λ t. AreLow t.paths new.pending.items) (sym st) (λ i n e. w.pending_low i n (ap (λ k. slice_get k i) pe ∙ get_more new.pending.items (p ∷ []) i n e));
+  pending_low = subst (λ t. AreLow t.paths new.pending.items) (sym st) (λ i n e. w.pending_low i n (ap (λ k. slice_get k i) pe ∙ get-longer new.pending.items (p ∷ []) i n e));
   waits_low = subst (λ t. AreLow t.paths (paths_kept new.waiting)) (sym st) (subst (λ k. AreLow old.store.paths (paths_kept k)) (sym wa) w.waits_low);
   finals_low = subst (λ t. AreLow t.paths (numbers_of new.finals)) (sym st) (subst (λ k. AreLow old.store.paths (numbers_of k)) (sym fi) w.finals_low);
   finals_told = subst (λ t. TellThreads t.paths new.finals) (sym st) (subst (TellThreads old.store.paths) (sym fi) w.finals_told);
@@ -407,10 +412,6 @@ taken_in_hand old new p w st mo wa fi gr pe = record {
       (subst (λ k. IsCounted old.store.events old.store.paths (paths_by old.store.paths (numbers_of k)) new.groups) (sym fi)
       (subst (IsCounted old.store.events old.store.paths (paths_by old.store.paths (numbers_of old.finals))) (sym gr) w.counted));
 }
-
-at_last : (xs : List ℕ) (p : ℕ) → slice_get (xs ++ (p ∷ [])) (length xs) ≡ Some p
-at_last [] p = refl
-at_last (x ∷ xs) p = at_last xs p
 
 pub last_low : (old : Work) (rest : List ℕ) (p : ℕ) → IsWork old → old.pending.items ≡ rest ++ (p ∷ []) → p < length old.store.paths
 last_low old rest p w pe = w.pending_low (length rest) p (ap (λ k. slice_get k (length rest)) pe ∙ at_last rest p)

@@ -7,19 +7,19 @@ use Rattle.te_terms.specs.Joint.{member_of}
 use Rattle.te_trail.specs.Paths.{Path, planted, branched, sent, got}
 use Rattle.te_trail.specs.States.{chosen, MovedEnds, members_met, path_state, HasState}
 use Rattle.te_trail.specs.Stores.{Holds, IsStore}
-use Rattle.te_trail.proofs.MovesChain.{mapped}
+use Rattle.te_terms.proofs.Lists.{some_map}
 use Rattle.te_trail.proofs.PastsChain.{then_some, parts_of}
 use Rattle.te_pair.specs.declared.end.End.{End}
 use Rattle.te_search.specs.Groups.{IsFinal, Partial, IsPartial}
 use Rattle.te_search.specs.Searching.{MayMeet, IsSearch}
 use Rattle.te_search.specs.Works.{EndsStand, WaitsOn, IsCounted}
 use Rattle.te_search.specs.Stacks.{EventsAreAmong}
-use Rattle.te_search.proofs.PartialLaws.{all_by}
+use Rattle.te_terms.proofs.Lists.{all_with}
 use Rattle.te_search.proofs.Ending.{fails_fewer}
 
 -- a path that stands at a member stands there still
 pub state_more : (g h : List Member) → EventsAreAmong g h → (x : Path) (m : Member) → path_state g x ≡ Some m → path_state h x ≡ Some m
-state_more g h among (planted t) m e = (let a : (n : Member) × (member_of t g ≡ Some n) × (settled n ≡ m) = mapped settled (member_of t g) m e in ap (option_map settled)
+state_more g h among (planted t) m e = (let a : (n : Member) × (member_of t g ≡ Some n) × (settled n ≡ m) = some_map settled (member_of t g) m e in ap (option_map settled)
     (among t a.0 a.1) ∙ ap Some a.2)
 state_more g h among (branched p l) m e =
     let a : (n : Member) × (path_state g p ≡ Some n) × (option_map settled (chosen l n) ≡ Some m) = then_some (λ n. option_map settled (chosen l n)) (path_state g p) m e in
@@ -66,7 +66,7 @@ pub counted_more : (g h : List Member) (paths finals : List Path) (n : ℕ) → 
 counted_more g h paths finals n among c = record {
   tried = c.tried;
   count_is = c.count_is;
-  are = record { partial = all_by (IsPartial g paths) (IsPartial h paths) c.tried (partial_more g h paths among) c.are.partial; once = c.are.once };
+  are = record { partial = all_with (IsPartial g paths) (IsPartial h paths) c.tried (partial_more g h paths among) c.are.partial; once = c.are.once };
   starts = c.starts;
 }
 

@@ -8,7 +8,7 @@ use Rattle.te_terms.specs.Joint.{member_of}
 use Rattle.te_trail.specs.Paths.{Path, planted, branched, sent, got}
 use Rattle.te_trail.specs.States.{HasState}
 use Rattle.te_trail.specs.Stores.{Holds, IsStore, labels_of_move}
-use Rattle.te_trail.proofs.MovesChain.{mapped}
+use Rattle.te_terms.proofs.Lists.{some_map}
 use Rattle.te_pair.specs.Ends.{paths_kept}
 use Rattle.te_search.specs.declared.work.Work.{Work}
 use Rattle.te_search.specs.Finals.{numbers_of, TellThreads}
@@ -49,7 +49,7 @@ last_found (m ∷ ms) new t e h = go (last_found ms new t e) (nat_eq m.thread t)
 
 -- the event of a planted path is there
 pub planted_there : (g : List Member) (paths : List Path) (t : ℕ) → IsStore g paths → Holds paths (planted t) → (m : Member) × (member_of t g ≡ Some m)
-planted_there g paths t s h = (let k : HasState g (planted t) = s.state (planted t) h in let a : (n : Member) × (member_of t g ≡ Some n) × (settled n ≡ k.0) = mapped settled
+planted_there g paths t s h = (let k : HasState g (planted t) = s.state (planted t) h in let a : (n : Member) × (member_of t g ≡ Some n) × (settled n ≡ k.0) = some_map settled
     (member_of t g) k.0 k.1 in (a.0, a.1))
 
 pub unplanted_yet : (g : List Member) (paths : List Path) (t : ℕ) → IsStore g paths → member_of t g ≡ None → ¬ Holds paths (planted t)
@@ -168,7 +168,7 @@ all_planted old new paths more m each ev ps t e h = subst (λ l. Holds l (plante
 
 -- ---- what is left to plant
 
-number_more : (ns : List ℕ) (s t : ℕ) → has_number (ns ++ (s ∷ [])) t ≡ has_number ns t || nat_eq s t
+pub number_more : (ns : List ℕ) (s t : ℕ) → has_number (ns ++ (s ∷ [])) t ≡ has_number ns t || nat_eq s t
 number_more [] s t = go (nat_eq s t)
   where
     go : (o : Bool) → o || false ≡ o

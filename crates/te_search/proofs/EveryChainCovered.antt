@@ -12,9 +12,11 @@ use Rattle.te_trail.specs.Clocks.{deeper, clock_of, Agree, IsSound}
 use Rattle.te_trail.specs.States.{chosen, MovedEnds, members_met, path_state}
 use Rattle.te_trail.specs.Views.{view_of}
 use Rattle.te_trail.proofs.Lines.{above_self}
-use Rattle.te_trail.proofs.ClockLaws.{eq_same, eq_apart, deeper_either, Agrees, agree_by}
+use Rattle.te_trail.proofs.ClockLaws.{eq_apart, deeper_either, Agrees, agree_by}
+use Rattle.te_terms.proofs.Lists.{eq_same}
 use Rattle.te_trail.proofs.MembersMove.{found_new, found_other, view_append, Handing, handing}
-use Rattle.te_trail.proofs.MovesChain.{mapped, view_choice, view_choice_other, view_sender, view_receiver, view_other, state_after}
+use Rattle.te_trail.proofs.MovesChain.{view_choice, view_choice_other, view_sender, view_receiver, view_other, state_after}
+use Rattle.te_terms.proofs.Lists.{some_map}
 use Rattle.te_trail.proofs.AgreeIsExact.{agree_flip}
 use Rattle.te_search.proofs.StepsTaken.{Stepping, stepped_quietly, stepped_by_choice, Joining, stepped_by_meeting}
 
@@ -132,7 +134,7 @@ covers_start g made full = record {
 }
 
 chosen_waits : (l : Bool) (m u : Member) → chosen l m ≡ Some u → settled m ≡ m
-chosen_waits l m u e = settled_already m (choice_rests m l m.term (mapped (at_term m) (after_choice l m.term) u e).0 (mapped (at_term m) (after_choice l m.term) u e).1).0.0
+chosen_waits l m u e = settled_already m (choice_rests m l m.term (some_map (at_term m) (after_choice l m.term) u e).0 (some_map (at_term m) (after_choice l m.term) u e).1).0.0
 
 met_waits : (s r : Member) (p : MovedEnds) → members_met s r ≡ Some p → (settled s ≡ s) × (settled r ≡ r)
 met_waits s r p e =

@@ -11,6 +11,7 @@ use Rattle.te_trail.proofs.PastsChain.{pasts_true, true_pasts, Agreeing, grown_h
 use Rattle.te_search.specs.Assemblies.{Reaches, starts, takes}
 use Rattle.te_search.proofs.ChainsSplit.{kept_to, Uncrossed, part_at, split_chain, side_labels, labels_kept}
 use Rattle.te_search.proofs.AssemblyFinds.{past_side}
+use Rattle.te_trail.proofs.CallsLeave.{moves_held}
 
 -- the meetings below are on one side
 abbrev Calm : (ℕ → Bool) → List Path → Type 0
@@ -45,13 +46,6 @@ trail_sides ps side all (m ∷ store) = go (trail_sides ps side all store) m (an
     go ih (branched p l) true e = (ih.0, rw (all (branched p l) e) (ap (λ r. choice (thread_of p) l ∷ r) ih.1))
     go ih (sent s r) true e = ((all (sent s r) e ∙ sym (all (got s r) e), ih.0), rw (all (sent s r) e) (ap (λ q. meeting (thread_of s) (thread_of r) ∷ q) ih.1))
     go ih (got s r) true e = ih
-
-pub grown_from : (rest done : List Path) (y : Path) → Holds (with_moves done rest) y → Holds done y ⊎ Holds rest y
-grown_from [] done y h = inl h
-grown_from (planted t ∷ rest) done y h = elim (grown_from rest (planted t ∷ done) y h) [ inl k ↦ elim k [ inl e ↦ inr (inl e) | inr d ↦ inl d ] | inr k ↦ inr (inr k) ]
-grown_from (branched p l ∷ rest) done y h = elim (grown_from rest (branched p l ∷ done) y h) [ inl k ↦ elim k [ inl e ↦ inr (inl e) | inr d ↦ inl d ] | inr k ↦ inr (inr k) ]
-grown_from (sent s r ∷ rest) done y h = elim (grown_from rest (sent s r ∷ done) y h) [ inl k ↦ elim k [ inl e ↦ inr (inl e) | inr d ↦ inl d ] | inr k ↦ inr (inr k) ]
-grown_from (got s r ∷ rest) done y h = elim (grown_from rest done y h) [ inl k ↦ inl k | inr k ↦ inr (inr k) ]
 
 trail_calm : (ps : List Path) (side : ℕ → Bool) (store : List Path) → Uncrossed side (labels_of (any_rests_on ps) store) → (s r : Path) → Holds store (sent s r)
     → any_rests_on ps (sent s r) ≡ true → side (thread_of s) ≡ side (thread_of r)
@@ -120,7 +114,7 @@ sound g store good start ps team made reach all =
     calm side u s r k = trail_calm ps side store u s r (there (pasts_true ps (sent s r) k)) k
       where
         there : (p : Path) × Holds ps p × RestsOn (sent s r) p → Holds store (sent s r)
-        there (p, hp, rp) = elim (grown_from store [] (sent s r)
+        there (p, hp, rp) = elim (moves_held store [] (sent s r)
             (store_shut store good.made (move_of p) (sent s r) (grown_has store [] p good.made (made p hp)) (rests_made (sent s r) p rp))) [ inl n ↦ absurd n | inr h ↦ h ]
 
     tighten : (side : ℕ → Bool) → Uncrossed side (labels_of (any_rests_on ps) store) → (k : ℕ) → (y : Path) × Holds ps y × (thread_of y ≡ k) → side k ≡ side (thread_of start)

@@ -3,6 +3,8 @@ use Rattle.std.proofs.Common.{◌≡◌, ◌⊎◌, inl, inr, ℕ, zero, suc, Li
 use Rattle.te_trail.specs.Paths.{Path}
 use Rattle.te_trail.specs.Stores.{Holds}
 use Rattle.te_search.specs.Searching.{NoPathTwice}
+use Rattle.te_trail.proofs.StoresHold.{held}
+use Rattle.te_trail.proofs.StoresHold.{place_held}
 
 pub holds_left : (xs ys : List Path) (x : Path) → Holds xs x → Holds (xs ++ ys) x
 holds_left [] ys x h = absurd h
@@ -21,16 +23,6 @@ holds_which (z ∷ xs) ys x (inr h) = elim (holds_which xs ys x h) [ inl k ↦ i
 pub holds_one : (x y : Path) → Holds (y ∷ []) x → x ≡ y
 holds_one x y (inl e) = e
 holds_one x y (inr n) = absurd n
-
-pub holds_at : (xs : List Path) (n : ℕ) (x : Path) → slice_get xs n ≡ Some x → Holds xs x
-holds_at [] n x e = cc
-holds_at (y ∷ xs) zero x e = inl (let one : y ≡ x = cc in sym one)
-holds_at (y ∷ xs) (suc n) x e = inr (holds_at xs n x e)
-
-pub place_of : (xs : List Path) (x : Path) → Holds xs x → (n : ℕ) × (slice_get xs n ≡ Some x)
-place_of [] x h = absurd h
-place_of (y ∷ xs) x (inl e) = (0, ap Some (sym e))
-place_of (y ∷ xs) x (inr h) = let r : (n : ℕ) × (slice_get xs n ≡ Some x) = place_of xs x h in (suc r.0, r.1)
 
 -- ---- none twice
 
@@ -54,13 +46,13 @@ once_apart (z ∷ xs) ys o x (inr h) = once_apart xs ys o.1 x h
 pub once_by_places : (xs : List Path) → ((i j : ℕ) (x : Path) → slice_get xs i ≡ Some x → slice_get xs j ≡ Some x → i ≡ j) → NoPathTwice xs
 once_by_places [] h = tt
 once_by_places (y ∷ xs) h = (
-  (λ k. (let n : (n : ℕ) × (slice_get xs n ≡ Some y) = place_of xs y k in let z : 0 ≡ suc n.0 = h 0 (suc n.0) y refl n.1 in omega (arith, z))),
+  (λ k. (let n : (n : ℕ) × (slice_get xs n ≡ Some y) = place_held xs y k in let z : 0 ≡ suc n.0 = h 0 (suc n.0) y refl n.1 in omega (arith, z))),
   once_by_places xs (λ i j x e f. (let z : suc i ≡ suc j = h (suc i) (suc j) x e f in omega (arith, z))),
 )
 
 pub one_place : (xs : List Path) → NoPathTwice xs → (i j : ℕ) (x : Path) → slice_get xs i ≡ Some x → slice_get xs j ≡ Some x → i ≡ j
 one_place [] o i j x e f = cc
 one_place (y ∷ xs) o zero zero x e f = refl
-one_place (y ∷ xs) o zero (suc j) x e f = (let s : y ≡ x = cc in absurd (o.0 (subst (Holds xs) (sym s) (holds_at xs j x f))))
-one_place (y ∷ xs) o (suc i) zero x e f = (let s : y ≡ x = cc in absurd (o.0 (subst (Holds xs) (sym s) (holds_at xs i x e))))
+one_place (y ∷ xs) o zero (suc j) x e f = (let s : y ≡ x = cc in absurd (o.0 (subst (Holds xs) (sym s) (held xs j x f))))
+one_place (y ∷ xs) o (suc i) zero x e f = (let s : y ≡ x = cc in absurd (o.0 (subst (Holds xs) (sym s) (held xs i x e))))
 one_place (y ∷ xs) o (suc i) (suc j) x e f = ap suc (one_place xs o.1 i j x e f)

@@ -18,11 +18,14 @@ use Rattle.te_search.specs.declared.work.Work.{Work}
 use Rattle.te_search.specs.Searching.{paths_by, AreUp}
 use Rattle.te_trail.specs.Records.{path_at}
 use Rattle.te_search.specs.Works.{label_told, pending_of, IsWorkOf, IsWorkOn, CanMeet, met_paths, WaitsOn, MeetsOne, others_of, IsMeeting}
-use Rattle.te_search.proofs.ListLaws.{holds_left, holds_right, holds_which, holds_at}
-use Rattle.te_search.proofs.Trying.{get_some, path_there}
+use Rattle.te_search.proofs.ListLaws.{holds_left, holds_right, holds_which}
+use Rattle.te_trail.proofs.StoresHold.{held}
+use Rattle.te_search.proofs.Trying.{path_there}
+use Rattle.te_terms.proofs.Lists.{get_some}
 use Rattle.te_search.proofs.Trying as trying
-use Rattle.te_search.proofs.NumbersListed.{got_here}
-use Rattle.te_search.proofs.Working.{get_more, gains_both, ups_more}
+use Rattle.te_terms.proofs.Lists.{found_here}
+use Rattle.te_search.proofs.Working.{gains_both, ups_more}
+use Rattle.te_terms.proofs.Lists.{get-longer}
 
 -- ---- the kept paths of a direction and channel
 
@@ -143,8 +146,8 @@ meeting_more old cur new x y sends others n q hx en ey m (inl (ag, g)) = record 
   gains = gains_both old cur new m.news (met_paths sends x y) m.gains g;
   ups = subst AreUp (sym g.paths) (subst (λ l. AreUp (cur.store.paths ++ l)) (sym (met_is sends x y))
       (ups_met cur.store.paths (sender_of sends x y) (receiver_of sends x y) m.ups
-      (made_of sends cur.store.paths x y (old_in x hx) (old_in y (holds_at old.store.paths q y ey))).0
-      (made_of sends cur.store.paths x y (old_in x hx) (old_in y (holds_at old.store.paths q y ey))).1));
+      (made_of sends cur.store.paths x y (old_in x hx) (old_in y (held old.store.paths q y ey))).0
+      (made_of sends cur.store.paths x y (old_in x hx) (old_in y (held old.store.paths q y ey))).1));
   made = λ j r z h ej ez ag2 w hw. elim (eq-or-lt_of_le (let k : j ≤ n = omega (arith, h) in k)) [
     | inl same_place ↦ holds_right m.news (met_paths sends x y) w
         (subst (λ k. Holds (met_paths sends x k) w) (same_path old.store.paths q r y z (same_number others n j q r same_place en ej) ey ez) hw)
@@ -171,13 +174,13 @@ end_low w pending k i e h = k.waits_low i e.path (number_there w.waiting i e h)
 
 -- what a copy of the others lists
 pub listed_at : (copy lent others : List ℕ) (i q : ℕ) → i < length copy → q ≡ get_or copy i q → copy ≡ lent → lent ≡ others → slice_get others i ≡ Some q
-listed_at copy lent others i q low is a b = subst (λ l. slice_get l i ≡ Some q) (a ∙ b) (got_here copy i q low is)
+listed_at copy lent others i q low is a b = subst (λ l. slice_get l i ≡ Some q) (a ∙ b) (found_here copy i q low is)
 
 -- the path isn't kept yet
 pub not_kept : (w : Work) (p : ℕ) (x : Path) → IsWorkOn w p → slice_get w.store.paths p ≡ Some x → ¬ PathIsKept w.waiting p
 not_kept w p x k ex (i, low, is) =
-    let e : slice_get (paths_kept w.waiting) i ≡ Some p = got_here (paths_kept w.waiting) i p low (sym is) in
-    let h : Holds (paths_by w.store.paths (paths_kept w.waiting)) x = holds_at (paths_by w.store.paths (paths_kept w.waiting)) i x (trying.paths_at w.store.paths (paths_kept w.waiting) i p x e ex) in
+    let e : slice_get (paths_kept w.waiting) i ≡ Some p = found_here (paths_kept w.waiting) i p low (sym is) in
+    let h : Holds (paths_by w.store.paths (paths_kept w.waiting)) x = held (paths_by w.store.paths (paths_kept w.waiting)) i x (trying.paths_at w.store.paths (paths_kept w.waiting) i p x e ex) in
     (k.search.pending_apart x (subst (λ q. Holds (pending_of w ++ (q ∷ [])) x) (sym (path_there w.store.paths p x ex)) (holds_right (pending_of w) (x ∷ []) x (inl refl)))).0 h
 
 pub other_low : (w : Work) (pending : List Path) (channel : ℕ) (sends : Bool) → IsWorkOf w pending → (j q : ℕ) → slice_get (others_of w channel sends) j ≡ Some q → q < length w.store.paths
@@ -258,16 +261,16 @@ pub meeting_ready : (old cur : Work) (p : ℕ) (x y : Path) (channel : ℕ) (sen
     → IsMeeting old cur x sends (others_of old channel sends) n → Agree x y → MatchBool sends (CanMeet cur.store p q) (CanMeet cur.store q p)
 meeting_ready old cur p x y channel true n q w ex ey stands en once m ag =
     let other : WaitsOn old.store.events y channel false = other_stands old (pending_of old ++ (path_at old.store.paths p ∷ [])) channel true w n q y en ey in
-    can_meet cur.store p q x y stands.member other.member (ap (λ k. slice_get k p) m.gains.paths ∙ get_more old.store.paths m.news p x ex)
-    (ap (λ k. slice_get k q) m.gains.paths ∙ get_more old.store.paths m.news q y ey)
+    can_meet cur.store p q x y stands.member other.member (ap (λ k. slice_get k p) m.gains.paths ∙ get-longer old.store.paths m.news p x ex)
+    (ap (λ k. slice_get k q) m.gains.paths ∙ get-longer old.store.paths m.news q y ey)
     (ap (λ g. path_state g x) m.gains.events ∙ stands.state) (ap (λ g. path_state g y) m.gains.events ∙ other.state) (face_by old.store.events x y channel stands other) ag
     (still_unmet old cur p x y true (others_of old channel true) n q w ex ey en once m)
 meeting_ready old cur p x y channel false n q w ex ey stands en once m ag =
     let other : WaitsOn old.store.events y channel true = other_stands old (pending_of old ++ (path_at old.store.paths p ∷ [])) channel false w n q y en ey in
-    let hx : Holds old.store.paths x = holds_at old.store.paths p x ex in
-    let hy : Holds old.store.paths y = holds_at old.store.paths q y ey in
-    can_meet cur.store q p y x other.member stands.member (ap (λ k. slice_get k q) m.gains.paths ∙ get_more old.store.paths m.news q y ey)
-    (ap (λ k. slice_get k p) m.gains.paths ∙ get_more old.store.paths m.news p x ex)
+    let hx : Holds old.store.paths x = held old.store.paths p x ex in
+    let hy : Holds old.store.paths y = held old.store.paths q y ey in
+    can_meet cur.store q p y x other.member stands.member (ap (λ k. slice_get k q) m.gains.paths ∙ get-longer old.store.paths m.news q y ey)
+    (ap (λ k. slice_get k p) m.gains.paths ∙ get-longer old.store.paths m.news p x ex)
     (ap (λ g. path_state g y) m.gains.events ∙ other.state) (ap (λ g. path_state g x) m.gains.events ∙ stands.state) (face_by old.store.events y x channel other stands)
     (agree_flips x y (w.search.store.sound x hx) (w.search.store.sound y hy) ag) (still_unmet old cur p x y false (others_of old channel false) n q w ex ey en once m)
 
@@ -281,5 +284,5 @@ pub old_path : (old cur : Work) (x : Path) (sends : Bool) (others : List ℕ) (n
     → slice_get cur.store.paths p ≡ Some u → slice_get old.store.paths p ≡ Some u
 old_path old cur x sends others n m p u low e =
     let y : (y : Path) × (slice_get old.store.paths p ≡ Some y) = get_some old.store.paths p low in
-    let there : slice_get cur.store.paths p ≡ Some y.0 = ap (λ q. slice_get q p) m.gains.paths ∙ get_more old.store.paths m.news p y.0 y.1 in
+    let there : slice_get cur.store.paths p ≡ Some y.0 = ap (λ q. slice_get q p) m.gains.paths ∙ get-longer old.store.paths m.news p y.0 y.1 in
     y.1 ∙ sym there ∙ e

@@ -17,7 +17,8 @@ use Rattle.te_search.proofs.Trying.{state_member}
 use Rattle.te_search.proofs.NodesRunOut.{moves_fit}
 use Rattle.te_search.proofs.DigitsTell.{letters, Target, targets, Standing, AreAlike, digits_tell}
 use Rattle.te_search.proofs.DigitsCounted.{product, Fit, number, number_low, number_tells, fit_both, fit_length, product_both, product_alike, both_same, padded, padded_fits, padded_tells, AreNumbered, NoneAlike, counted}
-use Rattle.te_search.proofs.NamesCounted.{all_with, all_found, all_at, place_in, place_low, place_tells, IsTarget, target_code, target_low, target_tells, letters_weigh, targets_weigh, are_targets}
+use Rattle.te_search.proofs.NamesCounted.{all_found, all_at, place_in, place_low, place_tells, IsTarget, target_code, target_low, target_tells, letters_weigh, targets_weigh, are_targets}
+use Rattle.te_terms.proofs.Lists.{all_with}
 
 -- ---- a chain's paths
 

@@ -12,7 +12,7 @@ use Rattle.te_terms.specs.Settling.{settled}
 use Rattle.te_trail.specs.Paths.{Path, planted, branched, sent, got, thread_of, own_labels}
 use Rattle.te_trail.specs.States.{chosen, MovedEnds, members_met, path_state, HasState}
 use Rattle.te_trail.specs.Views.{Chain, view_of, Name, path_name_of, IsPathName, IsGroupName}
-use Rattle.te_trail.proofs.ClockLaws.{eq_same}
+use Rattle.te_terms.proofs.Lists.{eq_same}
 use Rattle.te_trail.proofs.MembersMove.{found_thread}
 use Rattle.te_trail.proofs.MovesChain.{state_after}
 use Rattle.te_trail.proofs.PastsChain.{then_some, parts_of}
@@ -22,6 +22,8 @@ use Rattle.te_search.proofs.Trying.{state_member}
 use Rattle.te_search.proofs.NodesRunOut.{moves_weigh, moves_fit}
 use Rattle.te_search.proofs.DigitsTell.{letters, receives, Target, target_of, targets, Standing, AreAlike, digits_tell}
 use Rattle.te_search.proofs.DigitsCounted.{product, Fit, number, number_low, number_tells, fit_both, fit_length, product_both, product_alike, both_same, padded, padded_fits, padded_tells, AreNumbered, NoneAlike, counted}
+use Rattle.te_terms.proofs.Lists.{all_with}
+use Rattle.te_terms.proofs.Lists.{all_both}
 
 -- ---- members
 
@@ -31,10 +33,6 @@ not_below a b h = go (nat_eq a b) refl
     go : (o : Bool) → nat_eq a b ≡ o → o ≡ false
     go false e = refl
     go true e = absurd (omega (arith, h, eqb-true a b e))
-
-pub all_with : {A : Type 0} (P Q : A → Type 0) (xs : List A) → ((x : A) → P x → Q x) → AllByRecursion P xs → AllByRecursion Q xs
-all_with P Q [] f a = tt
-all_with P Q (x ∷ xs) f a = (f x a.0, all_with P Q xs f a.1)
 
 -- the members of a group are found by their threads
 found_from : (low : ℕ) (ms : List Member) → RiseFrom low ms → AllByRecursion (λ m. (low < m.thread) × (member_of m.thread ms ≡ Some m)) ms
@@ -144,10 +142,6 @@ receives_weigh (planted t) = refl
 receives_weigh (branched p l) = omega (arith, receives_weigh p)
 receives_weigh (sent s r) = omega (arith, receives_weigh s)
 receives_weigh (got s r) = omega (arith, receives_weigh r)
-
-all_both : {A : Type 0} (P : A → Type 0) (xs ys : List A) → AllByRecursion P xs → AllByRecursion P ys → AllByRecursion P (xs ++ ys)
-all_both P [] ys a b = b
-all_both P (x ∷ xs) ys a b = (a.0, all_both P xs ys a.1 b)
 
 received : (g : List Member) (s r : Path) → ((a : Member) × (b : Member) × (p : MovedEnds) × (path_state g s ≡ Some a) × (path_state g r ≡ Some b) × (members_met a b ≡ Some p)) → IsTarget g (target_of r)
 received g s r (a, b, p, sa, sb, m) =

@@ -15,7 +15,8 @@ use Rattle.te_terms.proofs.Settles.{settled_is_reached}
 use Rattle.te_trail.specs.Paths.{Path, planted, branched, sent, got, thread_of}
 use Rattle.te_trail.specs.States.{chosen, MovedEnds, members_met, path_state}
 use Rattle.te_trail.proofs.MembersMove.{Handing, handing}
-use Rattle.te_trail.proofs.MovesChain.{mapped, state_branched}
+use Rattle.te_trail.proofs.MovesChain.{state_branched}
+use Rattle.te_terms.proofs.Lists.{some_map}
 use Rattle.te_trail.proofs.PastsChain.{then_some, parts_of}
 
 -- ---- terms
@@ -63,8 +64,8 @@ chosen_less c s r false _ u p = absurd cc
 
 choice_less : (c s r : ℕ) (left : Bool) (m u : Member) → chosen left m ≡ Some u → total (weighing c s r) u.term + c ≤ total (weighing c s r) m.term
 choice_less c s r left m u e =
-    let a : (t : Term) × (after_choice left m.term ≡ Some t) × (at_term m t ≡ u) = mapped (at_term m) (after_choice left m.term) u e in
-    let b : (x : Term) × (chosen_from left (head m.term) ≡ Some x) × (with_head x m.term ≡ a.0) = mapped (λ x. with_head x m.term) (chosen_from left (head m.term)) a.0 a.1 in
+    let a : (t : Term) × (after_choice left m.term ≡ Some t) × (at_term m t ≡ u) = some_map (at_term m) (after_choice left m.term) u e in
+    let b : (x : Term) × (chosen_from left (head m.term) ≡ Some x) × (with_head x m.term ≡ a.0) = some_map (λ x. with_head x m.term) (chosen_from left (head m.term)) a.0 a.1 in
     let one : with_head b.0 m.term ≡ u.term = b.2 ∙ ap (λ n. n.term) a.2 in
     subst (λ t. total (weighing c s r) t + c ≤ total (weighing c s r) m.term) one (head_counts c s r c b.0 m.term (chosen_less c s r left (head m.term) b.0 b.1))
 

@@ -9,6 +9,7 @@ use Rattle.te_search.specs.Works.{threads_of}
 use Rattle.te_search.specs.Findings.{HasThread}
 use Rattle.te_search.specs.Plantings.{has_number}
 use Rattle.te_search.specs.Picks.{RiseAbove, NumbersRise}
+use Rattle.te_terms.proofs.Lists.{found_here}
 
 take_next : {A : Type 0} (xs : List A) (i : ℕ) (x : A) → slice_get xs i ≡ Some x → take (suc i) xs ≡ take i xs ++ (x ∷ [])
 take_next [] i x e = cc
@@ -17,11 +18,6 @@ take_next (y ∷ xs) (suc i) x e = ap (λ r. y ∷ r) (take_next xs i x e)
 
 pub take_one : {A : Type 0} (xs : List A) (i : ℕ) (x : A) → slice_get xs i ≡ Some x → take (i + 1) xs ≡ take i xs ++ (x ∷ [])
 take_one xs i x e = (let n : i + 1 ≡ suc i = omega arith in ap (λ k. take k xs) n ∙ take_next xs i x e)
-
-pub got_here : {A : Type 0} (xs : List A) (i : ℕ) (x : A) → i < length xs → x ≡ get_or xs i x → slice_get xs i ≡ Some x
-got_here [] i x l e = absurd (omega (arith, l))
-got_here (y ∷ xs) zero x l e = ap Some (sym e)
-got_here (y ∷ xs) (suc i) x l e = got_here xs i x (omega (arith, l)) e
 
 -- ---- threads
 

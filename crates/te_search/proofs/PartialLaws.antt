@@ -10,21 +10,16 @@ use Rattle.te_trail.proofs.PastsChain.{Agreeing, true_pasts, team_line}
 use Rattle.te_search.specs.Groups.{IsFinal, Partial, IsPartial, AreOne, NoneIsAnother, AreTried}
 use Rattle.te_search.specs.Searching.{NoPathTwice}
 use Rattle.te_search.specs.Assemblies.{IsMore, Tries, IsThrough, TriesBy}
-use Rattle.te_search.proofs.ListLaws.{one_place, holds_at}
+use Rattle.te_search.proofs.ListLaws.{one_place}
+use Rattle.te_trail.proofs.StoresHold.{held}
 use Rattle.te_search.proofs.WorkDone.{final_is_last}
-
-pub all_both : {A : Type 0} (P : A → Type 0) (xs ys : List A) → AllByRecursion P xs → AllByRecursion P ys → AllByRecursion P (xs ++ ys)
-all_both P [] ys a b = b
-all_both P (x ∷ xs) ys a b = (a.0, all_both P xs ys a.1 b)
-
-pub all_by : {A : Type 0} (P Q : A → Type 0) (xs : List A) → ((x : A) → P x → Q x) → AllByRecursion P xs → AllByRecursion Q xs
-all_by P Q [] f a = tt
-all_by P Q (x ∷ xs) f a = (f x a.0, all_by P Q xs f a.1)
+use Rattle.te_terms.proofs.Lists.{all_with}
+use Rattle.te_terms.proofs.Lists.{all_both}
 
 pub all_across : (P Q : Partial → Type 0) (xs ys : List Partial) → ((x y : Partial) → P x → Q y → ¬ AreOne x y) → AllByRecursion P xs → AllByRecursion Q ys
     → AllByRecursion (λ x. AllByRecursion (λ y. ¬ AreOne x y) ys) xs
 all_across P Q [] ys f a b = tt
-all_across P Q (x ∷ xs) ys f a b = (all_by Q (λ y. ¬ AreOne x y) ys (λ y q. f x y a.0 q) b, all_across P Q xs ys f a.1 b)
+all_across P Q (x ∷ xs) ys f a b = (all_with Q (λ y. ¬ AreOne x y) ys (λ y q. f x y a.0 q) b, all_across P Q xs ys f a.1 b)
 
 pub apart_both : (xs ys : List Partial) → NoneIsAnother xs → NoneIsAnother ys → AllByRecursion (λ x. AllByRecursion (λ y. ¬ AreOne x y) ys) xs → NoneIsAnother (xs ++ ys)
 apart_both [] ys a b c = b
@@ -72,7 +67,7 @@ tries_skip g paths start ps finals t n count r = record {
   more = r.more;
   count_is = r.count_is;
   are = r.are;
-  through = all_by (IsThrough finals t n)
+  through = all_with (IsThrough finals t n)
       (IsThrough finals t (n + 1)) r.more (through_later finals t n) r.through;
   once = r.once;
 }
@@ -110,13 +105,13 @@ pub tries_more : (g : List Member) (paths : List Path) (start : Path) (ps finals
 tries_more g paths start ps finals t n count more f a r s = record {
   more = r.more ++ (own ∷ s.more);
   count_is = length-append r.more (own ∷ s.more) ∙ ap₂ (λ x y. x + suc y) r.count_is s.count_is;
-  are = all_both (IsMore g paths start ps) r.more (own ∷ s.more) r.are (own_more, all_by (IsMore g paths start (f ∷ ps)) (IsMore g paths start ps) s.more narrower s.are);
-  through = all_both (IsThrough finals t (n + 1)) r.more (own ∷ s.more) (all_by (IsThrough finals t n) (IsThrough finals t (n + 1)) r.more (through_later finals t n) r.through)
-      (by_f own (past_own f ps), all_by (IsMore g paths start (f ∷ ps)) (IsThrough finals t (n + 1)) s.more (λ q h. by_f q (h.wider (move_of f) (past_own f ps))) s.are);
-  once = apart_both r.more (own ∷ s.more) r.once (all_by (IsMore g paths start (f ∷ ps)) (λ q. ¬ AreOne own q) s.more beyond s.are, s.once)
+  are = all_both (IsMore g paths start ps) r.more (own ∷ s.more) r.are (own_more, all_with (IsMore g paths start (f ∷ ps)) (IsMore g paths start ps) s.more narrower s.are);
+  through = all_both (IsThrough finals t (n + 1)) r.more (own ∷ s.more) (all_with (IsThrough finals t n) (IsThrough finals t (n + 1)) r.more (through_later finals t n) r.through)
+      (by_f own (past_own f ps), all_with (IsMore g paths start (f ∷ ps)) (IsThrough finals t (n + 1)) s.more (λ q h. by_f q (h.wider (move_of f) (past_own f ps))) s.are);
+  once = apart_both r.more (own ∷ s.more) r.once (all_with (IsMore g paths start (f ∷ ps)) (λ q. ¬ AreOne own q) s.more beyond s.are, s.once)
       (all_across (λ q. IsPartial g paths q × IsThrough finals t n q) (λ q. any_rests_on q.members (move_of f) ≡ true) r.more (own ∷ s.more) apart
-      (together r.more (all_by (IsMore g paths start ps) (IsPartial g paths) r.more (λ q h. h.partial) r.are) r.through)
-      (past_own f ps, all_by (IsMore g paths start (f ∷ ps)) (λ q. any_rests_on q.members (move_of f) ≡ true) s.more (λ q h. h.wider (move_of f) (past_own f ps)) s.are));
+      (together r.more (all_with (IsMore g paths start ps) (IsPartial g paths) r.more (λ q h. h.partial) r.are) r.through)
+      (past_own f ps, all_with (IsMore g paths start (f ∷ ps)) (λ q. any_rests_on q.members (move_of f) ≡ true) s.more (λ q h. h.wider (move_of f) (past_own f ps)) s.are));
 }
   where
     own : Partial
@@ -163,8 +158,8 @@ tries_more g paths start ps finals t n count more f a r s = record {
     apart : (x y : Partial) → IsPartial g paths x × IsThrough finals t n x → any_rests_on y.members (move_of f) ≡ true → ¬ AreOne x y
     apart x y (part, h) e one =
         let here : any_rests_on x.members (move_of f) ≡ true = one.past f a.before a.goes_on ∙ e in
-        let hb : Holds finals h.by = holds_at finals h.place h.by h.is in
-        let hf : Holds finals f = holds_at finals n f a.at in
+        let hb : Holds finals h.by = held finals h.place h.by h.is in
+        let hf : Holds finals f = held finals n f a.at in
         let same : h.by ≡ f = one_final g paths x a.store part h.by f (a.final_made h.by hb) (a.final_made f hf) (a.finals_are h.by hb) (a.finals_are f hf) (h.thread ∙ sym a.thread) h.has here in
         let z : h.place ≡ n = one_place finals a.once h.place n f (h.is ∙ ap Some same) a.at in
         absurd (omega (arith, z, h.early))
@@ -176,10 +171,10 @@ pub tried_more : (g : List Member) (paths finals : List Path) (p : Path) (tried 
     → AllByRecursion (λ q. Holds finals q.start) tried → (¬ Holds finals p)
     → IsPartial g paths (record { start = p; members = p ∷ [] }) → (s : Tries g paths p (p ∷ []) more) → AreTried g paths (tried ++ (record { start = p; members = p ∷ [] } ∷ s.more))
 tried_more g paths finals p tried more t starts new part s = record {
-  partial = all_both (IsPartial g paths) tried (own ∷ s.more) t.partial (part, all_by (IsMore g paths p (p ∷ [])) (IsPartial g paths) s.more (λ q h. h.partial) s.are);
-  once = apart_both tried (own ∷ s.more) t.once (all_by (IsMore g paths p (p ∷ [])) (λ q. ¬ AreOne own q) s.more beyond s.are, s.once)
+  partial = all_both (IsPartial g paths) tried (own ∷ s.more) t.partial (part, all_with (IsMore g paths p (p ∷ [])) (IsPartial g paths) s.more (λ q h. h.partial) s.are);
+  once = apart_both tried (own ∷ s.more) t.once (all_with (IsMore g paths p (p ∷ [])) (λ q. ¬ AreOne own q) s.more beyond s.are, s.once)
       (all_across (λ q. Holds finals q.start) (λ q. q.start ≡ p) tried (own ∷ s.more) (λ x y h e one. new (subst (Holds finals) (one.start ∙ e) h)) starts
-      (refl, all_by (IsMore g paths p (p ∷ [])) (λ q. q.start ≡ p) s.more (λ q h. h.start_is) s.are));
+      (refl, all_with (IsMore g paths p (p ∷ [])) (λ q. q.start ≡ p) s.more (λ q h. h.start_is) s.are));
 }
   where
     own : Partial

@@ -34,7 +34,8 @@ use Rattle.te_search.specs.Stacks.{EventsAreAmong}
 use Rattle.te_search.specs.Plantings.{has_number}
 use Rattle.te_search.specs.Picks.{Picks, touched, members_by, EndsAt, EndSo, thread_of_member, AreMembers, AreGathered, IsJointTrail, AreMeetingsOf, AreMeets, NumbersRise, TellsNamed}
 use Rattle.te_search.proofs.Working.{map_both}
-use Rattle.te_search.proofs.Trying.{above_number, got_or}
+use Rattle.te_search.proofs.Trying.{above_number}
+use Rattle.te_terms.proofs.Lists.{get_at}
 use Rattle.te_search.proofs.JoinedPasts.{joint_in}
 use Rattle.te_search.proofs.GroupsClosed.{past_named}
 use Rattle.te_search.proofs.EventsAdded.{state_more}
@@ -42,6 +43,8 @@ use Rattle.te_search.proofs.PicksOfHits.{hit_picks, picks_more}
 use Rattle.te_search.proofs.MembersPicked.{threads_by, group_part, number_in}
 use Rattle.te_search.proofs.NumbersListed.{take_one, group_numbers}
 use Rattle.te_search.proofs.GroupsCertified.{certified, meetings_in, touched_named}
+use Rattle.te_terms.proofs.Lists.{bool_is}
+use Rattle.te_trail.proofs.PastsTold.{labels_append}
 
 -- ---- moves of the past
 
@@ -53,11 +56,6 @@ above_past : (g : List steps.Member) (paths : List Path) (threads : List ℕ) (j
     → joint ps (thread_of x) ≡ Some z → any_rests_on ps (move_of x) ≡ true → IsAbove x z
 above_past g paths threads joined ps p x z e h = (let k : (z : Path) × (joint ps (thread_of x) ≡ Some z) × IsAbove x z = past_named g (Holds paths)
     (IsFinal g) ps p.crew x h in let one : k.0 ≡ z = (let f : Some k.0 ≡ Some z = sym k.1 ∙ e in cc) in subst (IsAbove x) one k.2)
-
-bool_is : (a b : Bool) → (a ≡ true → b ≡ true) → (b ≡ true → a ≡ true) → a ≡ b
-bool_is true b f k = sym (f refl)
-bool_is false true f k = k refl
-bool_is false false f k = refl
 
 pub had_none : (g : List steps.Member) (paths : List Path) (threads : List ℕ) (joined : List (Option ℕ)) (ps : List Path) (x : Path) (t : ℕ) → Picks g paths threads joined ps
     → thread_of x ≡ t → Numbers paths (joint ps t) None → false ≡ any_rests_on ps (move_of x)
@@ -89,10 +87,6 @@ had_line g paths threads joined ps x t k n answer p ex tx (z, ez, jz) low tells 
 
 -- ---- the trail
 
-labels_both : (has : Path → Bool) (xs ys : List Path) → labels_of has (xs ++ ys) ≡ labels_of has xs ++ labels_of has ys
-labels_both has [] ys = refl
-labels_both has (x ∷ xs) ys = ap (λ r. cond (has x) (labels_of_move x) [] ++ r) (labels_both has xs ys) ∙ sym (append_assoc (cond (has x) (labels_of_move x) []) (labels_of has xs) (labels_of has ys))
-
 told_at : (moves : List (Option Move)) (paths : List Path) (k : ℕ) (m : Option Move) (x : Path) → map label_told moves ≡ map labels_of_move paths → slice_get moves k ≡ Some m
     → slice_get paths k ≡ Some x → label_told m ≡ labels_of_move x
 told_at [] paths k m x e f g = cc
@@ -103,7 +97,7 @@ told_at (n ∷ moves) (y ∷ paths) (suc k) m x e f g = (let h : map label_told 
 -- a move that the past hasn't, or that isn't told, adds nothing
 trail_one : (has : Path → Bool) (paths : List Path) (k : ℕ) (x : Path) (so : List Label) → slice_get paths k ≡ Some x → so ≡ cond (has x) (labels_of_move x) []
     → labels_of has (take (k + 1) paths) ≡ labels_of has (take k paths) ++ so
-trail_one has paths k x so e is = ap (labels_of has) (take_one paths k x e) ∙ labels_both has (take k paths) (x ∷ [])
+trail_one has paths k x so e is = ap (labels_of has) (take_one paths k x e) ∙ labels_append has (take k paths) (x ∷ [])
     ∙ ap (λ r. labels_of has (take k paths) ++ r) (append-nil (cond (has x) (labels_of_move x) []) ∙ sym is)
 
 nothing_told : (o : Bool) (x : Path) → labels_of_move x ≡ [] → [] ≡ cond o (labels_of_move x) []
@@ -259,7 +253,7 @@ final_stop g x stop f only not_done not_raised = go f.outcome f.ends
     go (outcomes.Raises v) e = not_raised v (only f.member (stops.Raised v) f.state e)
 
 pub none_at : (moves : List (Option Move)) (k : ℕ) → k < length moves → ((m : Move) → get_or moves k None ≡ Some m → ⊥) → slice_get moves k ≡ Some None
-none_at moves k l f = got_or moves k None l ∙ ap Some (nothing (get_or moves k None) f)
+none_at moves k l f = get_at moves k None l ∙ ap Some (nothing (get_or moves k None) f)
   where
     nothing : (o : Option Move) → ((m : Move) → o ≡ Some m → ⊥) → o ≡ None
     nothing None f = refl

@@ -13,8 +13,11 @@ use Rattle.te_search.specs.Picks.{Picks, touched}
 use Rattle.te_search.proofs.JoinedPasts.{crew_named, joint_past}
 use Rattle.te_search.proofs.GroupsSound.{taken, taken_true, true_taken}
 use Rattle.te_search.proofs.GroupsClosed.{HoldsThread, Closed, close, past_named}
-use Rattle.te_search.proofs.Trying.{stands_top, joined_threads, get_some, get_low}
+use Rattle.te_search.proofs.Trying.{stands_top, joined_threads}
+use Rattle.te_terms.proofs.Lists.{get_low}
+use Rattle.te_terms.proofs.Lists.{get_some}
 use Rattle.te_search.proofs.EventsAdded.{final_more, state_more, store_more}
+use Rattle.te_terms.proofs.Lists.{bool_is}
 
 holds_number : (threads : List ℕ) (i t : ℕ) → slice_get threads i ≡ Some t → HoldsThread threads t
 holds_number [] i t e = cc
@@ -109,14 +112,9 @@ pub picked_touched : (g : List Member) (paths : List Path) (threads : List ℕ) 
     → Holds ps y → touched ps (thread_of y) ≡ true
 picked_touched g paths threads joined ps p y h = ap is_some (crew_named g (Holds paths) (IsFinal g) ps p.crew y h)
 
-bool_same : (a b : Bool) → (a ≡ true → b ≡ true) → (b ≡ true → a ≡ true) → a ≡ b
-bool_same true b f k = sym (f refl)
-bool_same false true f k = k refl
-bool_same false false f k = refl
-
 -- they are those of the picked paths
 pub taken_touched : (g : List Member) (paths : List Path) (threads : List ℕ) (joined : List (Option ℕ)) (ps : List Path) → Picks g paths threads joined ps → (t : ℕ) → taken ps t ≡ touched ps t
-taken_touched g paths threads joined ps p t = bool_same (taken ps t) (touched ps t)
+taken_touched g paths threads joined ps p t = bool_is (taken ps t) (touched ps t)
     (λ e. (let y : (y : Path) × Holds ps y × (thread_of y ≡ t) = taken_true ps t e in subst (λ k. touched ps k ≡ true) y.2 (picked_touched g paths threads joined ps p y.0 y.1)))
     (λ e. (let x : (x : Path) × (joint ps t ≡ Some x) = touched_path ps t e in let h : Holds ps x.0 = p.all t x.0 x.1 in subst (λ k. taken ps k ≡ true)
     (joint_past g ps p.crew.team t x.0 x.1).1 (true_taken ps x.0 h)))

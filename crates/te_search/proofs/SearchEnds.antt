@@ -25,7 +25,7 @@ use Rattle.te_search.proofs.Trying.{member_place}
 use Rattle.te_search.proofs.Working as working
 use Rattle.te_search.proofs.EventsAdded.{store_more, search_more, partial_more, counted_more}
 use Rattle.te_search.proofs.EventsPlanted.{unplanted_yet}
-use Rattle.te_search.proofs.PartialLaws.{all_by}
+use Rattle.te_terms.proofs.Lists.{all_with}
 use Rattle.te_search.proofs.NumbersListed.{parked_found}
 use Rattle.te_search.proofs.StacksMove.{not_put}
 use Rattle.te_search.proofs.StoresGrow.{plant_grows}
@@ -114,7 +114,7 @@ passed_more g h budget among p = record {
   made = p.made;
   store = store_more g h p.made among p.store;
   tried = p.tried;
-  are = record { partial = all_by (IsPartial g p.made) (IsPartial h p.made) p.tried (partial_more g h p.made among) p.are.partial; once = p.are.once };
+  are = record { partial = all_with (IsPartial g p.made) (IsPartial h p.made) p.tried (partial_more g h p.made among) p.are.partial; once = p.are.once };
   beyond = p.beyond;
 }
 

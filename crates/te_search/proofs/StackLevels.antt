@@ -6,14 +6,17 @@ use Rattle.te_terms.specs.Joint.{IsGroup, member_of, as_group}
 use Rattle.te_trail.specs.declared.moves.Move.{Move}
 use Rattle.te_trail.specs.Paths.{Path}
 use Rattle.te_trail.specs.Trails.{Mark, back_at}
-use Rattle.te_trail.proofs.RecordsRead.{take_low, take_get, take_all}
+use Rattle.te_trail.proofs.RecordsRead.{take_low, take_all}
+use Rattle.te_terms.proofs.Lists.{get_taken}
 use Rattle.te_pair.specs.declared.end.End.{End}
 use Rattle.te_search.specs.declared.finals.Final.{Final}
 use Rattle.te_search.specs.declared.stack.Level.{Level}
 use Rattle.te_search.specs.declared.stack.Stack.{Stack}
 use Rattle.te_search.specs.Works.{threads_of}
 use Rattle.te_search.specs.Stacks.{Lists, lists_of, SearchIsWhole, Extent, extent_of, back_to, IsBefore, extent_at, IsLevel, AreLevels, EventsAreAmong, HasLevels, IsStack}
-use Rattle.te_search.proofs.Trying.{get_low}
+use Rattle.te_terms.proofs.Lists.{get_low}
+use Rattle.te_terms.proofs.Lists.{take_more}
+use Rattle.te_terms.proofs.Lists.{at_or_last}
 
 -- ---- parts of lists
 
@@ -21,11 +24,6 @@ pub length_taken : {A : Type 0} (xs : List A) (n : ℕ) → n ≤ length xs → 
 length_taken xs zero h = refl
 length_taken [] (suc n) h = absurd (omega (arith, h))
 length_taken (x ∷ xs) (suc n) h = ap suc (length_taken xs n (omega (arith, h)))
-
-pub take_more : {A : Type 0} (xs ys : List A) (n : ℕ) → n ≤ length xs → take n (xs ++ ys) ≡ take n xs
-take_more xs ys zero h = refl
-take_more [] ys (suc n) h = absurd (omega (arith, h))
-take_more (x ∷ xs) ys (suc n) h = ap (λ r. x ∷ r) (take_more xs ys n (omega (arith, h)))
 
 map_taken : {A B : Type 0} (f : A → B) (xs : List A) (n : ℕ) → map f (take n xs) ≡ take n (map f xs)
 map_taken f xs zero = refl
@@ -123,15 +121,15 @@ pub levels_back : (now : Lists) (levels : List Level) (marks : List Mark) (i : �
 levels_back now levels marks i l m a el em = record {
   as_long = length_taken levels i (let h : i < length levels = get_low levels l i el in omega (arith, h))
       ∙ sym (length_taken marks i (let h : i < length marks = get_low marks m i em in omega (arith, h)));
-  each = λ j k n ek en. (let tk : (j < i) × (slice_get levels j ≡ Some k) = take_get levels i j k ek in let tn : (j < i) ×
-      (slice_get marks j ≡ Some n) = take_get marks i j n en in let v : IsLevel now j k n = a.each j k n tk.1 tn.1 in let b : IsBefore (extent_at k n)
+  each = λ j k n ek en. (let tk : (j < i) × (slice_get levels j ≡ Some k) = get_taken levels i j k ek in let tn : (j < i) ×
+      (slice_get marks j ≡ Some n) = get_taken marks i j n en in let v : IsLevel now j k n = a.each j k n tk.1 tn.1 in let b : IsBefore (extent_at k n)
       (extent_at l m) = a.rising j i k l n m (let h : j < i = tk.0 in omega (arith, h)) tk.1 el tn.1 em in record {
         events_are = v.events_are;
         before = subst (IsBefore (extent_at k n)) (sym (back_extent (extent_at l m) now (a.each i l m el em).before)) b;
         fewer = v.fewer;
         whole = subst (λ q. SearchIsWhole q k.groups) (sym (back_twice (extent_at k n) (extent_at l m) now b)) v.whole;
       });
-  rising = λ j k p q r s h ep eq er es. a.rising j k p q r s h (take_get levels i j p ep).1 (take_get levels i k q eq).1 (take_get marks i j r er).1 (take_get marks i k s es).1;
+  rising = λ j k p q r s h ep eq er es. a.rising j k p q r s h (get_taken levels i j p ep).1 (get_taken levels i k q eq).1 (get_taken marks i j r er).1 (get_taken marks i k s es).1;
 }
 
 pub cut_stack : (s t : Stack) (i : ℕ) (l : Level) (m : Mark) → HasLevels s → slice_get s.levels.items i ≡ Some l → slice_get s.work.store.marks i ≡ Some m → t.parked ≡ s.parked
@@ -184,12 +182,6 @@ cut_stack s t i l m h el em pa th le st mo wa fi pe gr = record {
     long = ap length th ∙ length_taken s.threads i low
 
 -- ---- a new level
-
-at_or_last : {A : Type 0} (xs : List A) (y : A) (i : ℕ) (o : A) → slice_get (xs ++ (y ∷ [])) i ≡ Some o → ((i ≡ length xs) × (y ≡ o)) ⊎ ((i < length xs) × (slice_get xs i ≡ Some o))
-at_or_last [] y zero o e = inl (refl, cc)
-at_or_last [] y (suc i) o e = cc
-at_or_last (x ∷ xs) y zero o e = inr ((let z : 0 < suc (length xs) = omega arith in z), e)
-at_or_last (x ∷ xs) y (suc i) o e = elim (at_or_last xs y i o e) [ inl a ↦ inl (ap suc a.0, a.1) | inr b ↦ inr ((let z : suc i < suc (length xs) = omega (arith, b.0) in z), b.1) ]
 
 before_self : (x : Extent) → IsBefore x x
 before_self x = record { events = omega arith; paths = omega arith; moves = omega arith; waiting = omega arith; finals = omega arith }

@@ -29,12 +29,13 @@ use Rattle.te_search.proofs.StackLevels.{levels_more, levels_begin}
 use Rattle.te_search.proofs.EventsPlanted.{last_found, planted_work, all_planted, left_fewer}
 use Rattle.te_search.proofs.ListsParked.{put_group, put_among, without_group, without_found}
 use Rattle.te_search.proofs.NumbersListed.{absent, present, parked_found}
+use Rattle.te_search.proofs.ListLaws.{holds_left}
 
 pub on_err : {A E : Type 0} (P : Type 0) (r : Result A E) → P → OnErr r P
 on_err P (Ok a) h = tt
 on_err P (Err e) h = h
 
-by_length : (g : List Member) → length (threads_of g) ≡ length g
+pub by_length : (g : List Member) → length (threads_of g) ≡ length g
 by_length [] = refl
 by_length (x ∷ g) = ap suc (by_length g)
 
@@ -199,11 +200,6 @@ keeps_levels s t h pa th le k = record {
   }) h.levels);
 }
 
-held_more : (xs ys : List Path) (x : Path) → Holds xs x → Holds (xs ++ ys) x
-held_more [] ys x h = absurd h
-held_more (z ∷ xs) ys x (inl e) = inl e
-held_more (z ∷ xs) ys x (inr h) = inr (held_more xs ys x h)
-
 pub settled_stack : (s t : Stack) → IsExploring s → t.parked ≡ s.parked → t.threads ≡ s.threads → t.levels.items ≡ s.levels.items → WorkKeeps s.work t.work → IsWork t.work
     → t.work.pending.items ≡ [] → IsStack t
 settled_stack s t x pa th le k w idle = record {
@@ -220,7 +216,7 @@ settled_stack s t x pa th le k w idle = record {
     ends = w.ends;
     told_are = w.told_are;
     counted = w.counted;
-    planted_all = λ t2 e h. subst (λ l. Holds l (planted t2)) (sym k.paths) (held_more s.work.store.paths k.more_paths (planted t2) (x.planted_all t2 e (ap (member_of t2) (sym k.events) ∙ h)));
+    planted_all = λ t2 e h. subst (λ l. Holds l (planted t2)) (sym k.paths) (holds_left s.work.store.paths k.more_paths (planted t2) (x.planted_all t2 e (ap (member_of t2) (sym k.events) ∙ h)));
   };
   idle = idle;
 }
@@ -369,6 +365,3 @@ at_last (x ∷ g) m = at_last g m
 
 pub last_event : (g h : List Member) (m : Member) (i : ℕ) (n : Member) → h ≡ g ++ (m ∷ []) → i ≡ length g → slice_get h i ≡ Some n → m ≡ n
 last_event g h m i n e f k = (let a : slice_get (g ++ (m ∷ [])) (length g) ≡ Some n = ap₂ slice_get (sym e) (sym f) ∙ k in let b : Some m ≡ Some n = sym (at_last g m) ∙ a in cc)
-
-pub threads_long : (g : List Member) → length (threads_of g) ≡ length g
-threads_long g = by_length g

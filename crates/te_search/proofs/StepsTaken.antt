@@ -7,7 +7,7 @@ use Rattle.te_terms.specs.Joint.{choice, meeting, quiet, labelled, Message, afte
 use Rattle.te_terms.specs.Settling.{here, after_one}
 use Rattle.te_terms.proofs.Settles.{quietly_thread}
 use Rattle.te_trail.specs.States.{chosen, MovedEnds, members_met}
-use Rattle.te_trail.proofs.MovesChain.{mapped}
+use Rattle.te_terms.proofs.Lists.{some_map}
 use Rattle.te_trail.proofs.PastsChain.{then_some}
 use Rattle.te_trail.proofs.MembersMove.{Handing, handing, found_thread}
 
@@ -22,7 +22,7 @@ pub record Stepping (f : Member → Option Member) (i : ℕ) (h k : List Member)
 
 pub stepped_quietly : (i : ℕ) (h k : List Member) → joint_step (quiet i) h ≡ Some k → Stepping quiet_step i h k
 stepped_quietly i h k e =
-    let a : (n : Member) × (option_and_then quiet_step (member_of i h) ≡ Some n) × (with_member n h ≡ k) = mapped (λ m. with_member m h) (option_and_then quiet_step (member_of i h)) k e in
+    let a : (n : Member) × (option_and_then quiet_step (member_of i h) ≡ Some n) × (with_member n h ≡ k) = some_map (λ m. with_member m h) (option_and_then quiet_step (member_of i h)) k e in
     let b : (m : Member) × (member_of i h ≡ Some m) × (quiet_step m ≡ Some a.0) = then_some quiet_step (member_of i h) a.0 a.1 in
     record {
       before = b.0;
@@ -37,7 +37,7 @@ pub stepped_by_choice : (i : ℕ) (left : Bool) (h k : List Member) → joint_st
 stepped_by_choice i left h k e =
     let b : (m : Member) × (member_of i h ≡ Some m) × (option_map (with_term h m) (after_choice left m.term) ≡ Some k) = then_some
     (λ m. option_map (with_term h m) (after_choice left m.term)) (member_of i h) k e in
-    let a : (t : Term) × (after_choice left b.0.term ≡ Some t) × (with_term h b.0 t ≡ k) = mapped (with_term h b.0) (after_choice left b.0.term) k b.2 in
+    let a : (t : Term) × (after_choice left b.0.term ≡ Some t) × (with_term h b.0 t ≡ k) = some_map (with_term h b.0) (after_choice left b.0.term) k b.2 in
     record {
       before = b.0;
       next = at_term b.0 a.0;
@@ -100,7 +100,7 @@ pub steps_quietly : (i : ℕ) (h : List Member) (m n : Member) → member_of i h
 steps_quietly i h m n e q = rw (e, q) refl
 
 pub steps_by_choice : (i : ℕ) (left : Bool) (h : List Member) (m n : Member) → member_of i h ≡ Some m → chosen left m ≡ Some n → joint_step (labelled (choice i left)) h ≡ Some (with_member n h)
-steps_by_choice i left h m n e c = let a : (t : Term) × (after_choice left m.term ≡ Some t) × (at_term m t ≡ n) = mapped (at_term m) (after_choice left m.term) n c in rw (e, a.1, a.2) refl
+steps_by_choice i left h m n e c = let a : (t : Term) × (after_choice left m.term ≡ Some t) × (at_term m t ≡ n) = some_map (at_term m) (after_choice left m.term) n c in rw (e, a.1, a.2) refl
 
 pub steps_by_meeting : (i j : ℕ) (h : List Member) (s r : Member) (ends : MovedEnds) → nat_eq i j ≡ false → member_of i h ≡ Some s → member_of j h ≡ Some r → members_met s r ≡ Some ends
     → joint_step (labelled (meeting i j)) h ≡ Some (with_member ends.receiver (with_member ends.sender h))

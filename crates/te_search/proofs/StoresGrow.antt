@@ -11,12 +11,14 @@ use Rattle.te_trail.specs.Clocks.{Agree, IsSound}
 use Rattle.te_trail.specs.States.{chosen, MovedEnds, members_met, path_state, HasState}
 use Rattle.te_trail.specs.Stores.{Holds, IsNext, with_move, with_moves, AreMade, IsStore}
 use Rattle.te_trail.specs.Trails.{FaceEachOther}
-use Rattle.te_trail.proofs.ClockLaws.{eq_same}
+use Rattle.te_terms.proofs.Lists.{eq_same}
 use Rattle.te_trail.proofs.MovesChain.{state_after}
 use Rattle.te_trail.proofs.PastsChain.{grown_has}
-use Rattle.te_search.proofs.ListLaws.{holds_which, holds_one, holds_at}
-use Rattle.te_search.proofs.GroupsSound.{grown_from}
-use Rattle.te_search.proofs.Working.{get_more, last_or_old}
+use Rattle.te_search.proofs.ListLaws.{holds_which, holds_one}
+use Rattle.te_trail.proofs.StoresHold.{held}
+use Rattle.te_trail.proofs.CallsLeave.{moves_held}
+use Rattle.te_terms.proofs.Lists.{at_or_last}
+use Rattle.te_terms.proofs.Lists.{get-longer}
 use Rattle.te_search.proofs.Ending.{sent_made}
 
 -- ---- one path more, and two
@@ -26,18 +28,18 @@ made_more [] moves news a b = b
 made_more (x ∷ paths) moves news a b = (a.0, made_more paths (with_move moves x) news a.1 b)
 
 made_before : (paths : List Path) (m : Path) → Holds (with_moves [] paths) m → Holds paths m
-made_before paths m h = elim (grown_from paths [] m h) [ inl n ↦ absurd n | inr k ↦ k ]
+made_before paths m h = elim (moves_held paths [] m h) [ inl n ↦ absurd n | inr k ↦ k ]
 
 abbrev HaveOnePlace : List Path → Type 0
 HaveOnePlace paths = (i j : ℕ) (x : Path) → slice_get paths i ≡ Some x → slice_get paths j ≡ Some x → i ≡ j
 
 once_more : (paths : List Path) (y : Path) → HaveOnePlace paths → (¬ Holds paths y) → HaveOnePlace (paths ++ (y ∷ []))
-once_more paths y once new i j x ei ej = go (last_or_old paths y i x ei) (last_or_old paths y j x ej)
+once_more paths y once new i j x ei ej = go (at_or_last paths y i x ei) (at_or_last paths y j x ej)
   where
     go : ((i ≡ length paths) × (y ≡ x)) ⊎ ((i < length paths) × (slice_get paths i ≡ Some x)) → ((j ≡ length paths) × (y ≡ x)) ⊎ ((j < length paths) × (slice_get paths j ≡ Some x)) → i ≡ j
     go (inl a) (inl b) = a.0 ∙ sym b.0
-    go (inl a) (inr b) = absurd (new (subst (Holds paths) (sym a.1) (holds_at paths j x b.1)))
-    go (inr a) (inl b) = absurd (new (subst (Holds paths) (sym b.1) (holds_at paths i x a.1)))
+    go (inl a) (inr b) = absurd (new (subst (Holds paths) (sym a.1) (held paths j x b.1)))
+    go (inr a) (inl b) = absurd (new (subst (Holds paths) (sym b.1) (held paths i x a.1)))
     go (inr a) (inr b) = once i j x a.1 b.1
 
 one_more : (g : List Member) (paths : List Path) (y : Path) → IsStore g paths → IsNext (with_moves [] paths) y → (¬ Holds paths y) → IsSound y → HasState g y
@@ -47,9 +49,9 @@ one_more g paths y store next new sound state no_meeting = record {
   sound = λ x h. elim (holds_which paths (y ∷ []) x h) [ inl a ↦ store.sound x a | inr b ↦ subst IsSound (sym (holds_one x y b)) sound ];
   state = λ x h. elim (holds_which paths (y ∷ []) x h) [ inl a ↦ store.state x a | inr b ↦ subst (HasState g) (sym (holds_one x y b)) state ];
   once = once_more paths y store.once new;
-  pairs = λ i s r e. elim (last_or_old paths y i (sent s r) e) [
+  pairs = λ i s r e. elim (at_or_last paths y i (sent s r) e) [
     | inl a ↦ absurd (no_meeting s r a.1)
-    | inr b ↦ get_more paths (y ∷ []) (suc i) (got s r) (store.pairs i s r b.1)
+    | inr b ↦ get-longer paths (y ∷ []) (suc i) (got s r) (store.pairs i s r b.1)
   ];
 }
 
@@ -74,7 +76,7 @@ two_more g paths s r store hs hr new agree at_sender at_receiver = record {
         | inr b ↦ apart (holds_one (got s r) (sent s r) b)
       ]));
   pairs = λ i a b e. subst (λ l. slice_get l (suc i) ≡ Some (got a b)) joined
-      (pair i a b (last_or_old (paths ++ (sent s r ∷ [])) (got s r) i (sent a b) (ap (λ l. slice_get l i) joined ∙ e)));
+      (pair i a b (at_or_last (paths ++ (sent s r ∷ [])) (got s r) i (sent a b) (ap (λ l. slice_get l i) joined ∙ e)));
 }
   where
     joined : (paths ++ (sent s r ∷ [])) ++ (got s r ∷ []) ≡ paths ++ (sent s r ∷ (got s r ∷ []))
@@ -93,9 +95,9 @@ two_more g paths s r store hs hr new agree at_sender at_receiver = record {
         ⊎ ((i < length (paths ++ (sent s r ∷ []))) × (slice_get (paths ++ (sent s r ∷ [])) i ≡ Some (sent a b)))
         → slice_get ((paths ++ (sent s r ∷ [])) ++ (got s r ∷ [])) (suc i) ≡ Some (got a b)
     pair i a b (inl k) = (let e : got s r ≡ sent a b = k.1 in cc)
-    pair i a b (inr k) = elim (last_or_old paths (sent s r) i (sent a b) k.1) [
+    pair i a b (inr k) = elim (at_or_last paths (sent s r) i (sent a b) k.1) [
       | inl l ↦ last_at (paths ++ (sent s r ∷ [])) (got s r) (suc i) (ap suc l.0 ∙ sym (longer paths)) ∙ ap Some (other_end l.1)
-      | inr m ↦ get_more (paths ++ (sent s r ∷ [])) (got s r ∷ []) (suc i) (got a b) (get_more paths (sent s r ∷ []) (suc i) (got a b) (store.pairs i a b m.1))
+      | inr m ↦ get-longer (paths ++ (sent s r ∷ [])) (got s r ∷ []) (suc i) (got a b) (get-longer paths (sent s r ∷ []) (suc i) (got a b) (store.pairs i a b m.1))
     ]
       where
         longer : (xs : List Path) → length (xs ++ (sent s r ∷ [])) ≡ suc (length xs)

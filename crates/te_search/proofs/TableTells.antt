@@ -2,18 +2,8 @@
 use Rattle.std.proofs.Common.{◌≡◌, ◌<◌, ◌≢◌, ◌⊎◌, inl, inr, ℕ, zero, suc, ◌+◌, List, [], ◌∷◌, ◌++◌, take, length, Bool, true, false, nat_eq, ◌||◌, Some, slice_get}
 use Rattle.std.proofs.Common.{slice_set, refl, ap, sym, ◌∙◌, subst, arith, eqb-true, eq-eqb}
 use Rattle.te_search.specs.Plantings.{has_number, IsTabled}
-
-number_more : (ns : List ℕ) (s t : ℕ) → has_number (ns ++ (s ∷ [])) t ≡ has_number ns t || nat_eq s t
-number_more [] s t = go (nat_eq s t)
-  where
-    go : (o : Bool) → o || false ≡ o
-    go true = refl
-    go false = refl
-number_more (n ∷ ns) s t = go (nat_eq n t) (number_more ns s t)
-  where
-    go : (o : Bool) → has_number (ns ++ (s ∷ [])) t ≡ has_number ns t || nat_eq s t → o || has_number (ns ++ (s ∷ [])) t ≡ (o || has_number ns t) || nat_eq s t
-    go true h = refl
-    go false h = h
+use Rattle.te_terms.proofs.Lists.{at_last}
+use Rattle.te_search.proofs.EventsPlanted.{number_more}
 
 set_here : (table : List Bool) (t : ℕ) (o b : Bool) → slice_get table t ≡ Some o → slice_get (slice_set table t b) t ≡ Some b
 set_here [] t o b e = cc
@@ -40,10 +30,6 @@ earlier : (ns : List ℕ) (s i t : ℕ) → slice_get ns i ≡ Some t → (i < l
 earlier [] s i t e = cc
 earlier (n ∷ ns) s zero t e = ((let l : 0 < suc (length ns) = omega arith in l), e)
 earlier (n ∷ ns) s (suc i) t e = (let r : (i < length ns) × (slice_get (ns ++ (s ∷ [])) i ≡ Some t) = earlier ns s i t e in ((let l : suc i < suc (length ns) = omega (arith, r.0) in l), r.1))
-
-last_here : (ns : List ℕ) (s : ℕ) → slice_get (ns ++ (s ∷ [])) (length ns) ≡ Some s
-last_here [] s = refl
-last_here (n ∷ ns) s = last_here ns s
 
 where_at : (ns : List ℕ) (s i t : ℕ) → slice_get (ns ++ (s ∷ [])) i ≡ Some t → ((i ≡ length ns) × (s ≡ t)) ⊎ ((i < length ns) × (slice_get ns i ≡ Some t))
 where_at [] s zero t e = inl (refl, cc)
@@ -100,7 +86,7 @@ once_less ns table s h i t e = (let r : (i < length ns) × (slice_get (ns ++ (s 
     ap (λ l. has_number l t) (sym (taken_part ns s i r.0)) ∙ h.once i t r.1)
 
 gone : (ns : List ℕ) (table : List Bool) (s : ℕ) → IsTabled (ns ++ (s ∷ [])) table → has_number ns s ≡ false
-gone ns table s h = ap (λ l. has_number l s) (sym (taken_whole ns s)) ∙ h.once (length ns) s (last_here ns s)
+gone ns table s h = ap (λ l. has_number l s) (sym (taken_whole ns s)) ∙ h.once (length ns) s (at_last ns s)
 
 pub tabled_less : (ns : List ℕ) (table : List Bool) (s : ℕ) → IsTabled (ns ++ (s ∷ [])) table → s < 64 → IsTabled ns (slice_set table s false)
 tabled_less ns table s h low = record { once = once_less ns table s h; told = λ t l. go t l (nat_eq s t) refl }

@@ -14,7 +14,7 @@ use Rattle.te_trail.specs.Stores.{Holds, any_rests_on}
 use Rattle.te_trail.specs.Trails.{IsClock, TellsWhether, IsPathThread}
 use Rattle.te_trail.proofs.Lines.{above_depth, above_same, rests_move}
 use Rattle.te_trail.proofs.ClockLaws.{clock_in, clock_thread, clock_top, agree_by}
-use Rattle.te_trail.proofs.MovesChain.{mapped}
+use Rattle.te_terms.proofs.Lists.{some_map}
 use Rattle.te_trail.proofs.PastsChain.{pasts_true, then_some, parts_of}
 use Rattle.te_search.specs.Groups.{IsFinal}
 use Rattle.te_search.specs.Searching.{paths_by, AreUp, Fails}
@@ -22,27 +22,20 @@ use Rattle.te_trail.specs.Records.{path_at}
 use Rattle.te_search.specs.Assemblies.{Tries, TriesBy, Numbers, NamesPaths, later_number, joint, IsTop, Crew, IsLined, AssemblyStand, AreNumbers}
 use Rattle.te_search.specs.Assemblies.{AreNone, TellsFinal, IsOpenAt, IsOfThreads, TellsLined, TakesIn, Reaches, takes, IsFound, Assembles, TriesOnly}
 use Rattle.te_search.proofs.FinalsTold.{HasAllOf}
-use Rattle.te_search.proofs.ListLaws.{holds_at, place_of}
+use Rattle.te_trail.proofs.StoresHold.{place_held}
+use Rattle.te_trail.proofs.StoresHold.{held}
 use Rattle.te_search.proofs.WorkDone.{final_is_last}
 use Rattle.te_search.proofs.JoinedPasts.{joint_in, joint_past, joint_deep, crew_open, crew_more, fails_open}
 use Rattle.te_search.proofs.PartialLaws.{tries_none, tries_skip, tries_all, tries_zero, tries_more, Adding}
+use Rattle.te_terms.proofs.Lists.{get_some}
+use Rattle.te_terms.proofs.Lists.{if_ok}
+use Rattle.te_terms.proofs.Lists.{get_at}
+use Rattle.te_search.proofs.DigitsTell.{root_above}
+use Rattle.te_terms.proofs.Lists.{at_or_last}
+use Rattle.te_terms.proofs.Lists.{get_low}
+use Rattle.te_trail.proofs.PastsTold.{clock_low}
 
 -- ---- places
-
-pub got_or : {A : Type 0} (xs : List A) (k : ℕ) (d : A) → k < length xs → slice_get xs k ≡ Some (get_or xs k d)
-got_or [] k d h = absurd (omega (arith, h))
-got_or (x ∷ xs) zero d h = refl
-got_or (x ∷ xs) (suc k) d h = got_or xs k d (omega (arith, h))
-
-pub get_low : {A : Type 0} (xs : List A) (x : A) (k : ℕ) → slice_get xs k ≡ Some x → k < length xs
-get_low [] x k e = cc
-get_low (y ∷ xs) x zero e = omega arith
-get_low (y ∷ xs) x (suc k) e = (let h : k < length xs = get_low xs x k e in omega (arith, h))
-
-pub get_some : {A : Type 0} (xs : List A) (k : ℕ) → k < length xs → (x : A) × (slice_get xs k ≡ Some x)
-get_some [] k h = absurd (omega (arith, h))
-get_some (x ∷ xs) zero h = (x, refl)
-get_some (x ∷ xs) (suc k) h = get_some xs k (omega (arith, h))
 
 pub path_there : (paths : List Path) (n : ℕ) (x : Path) → slice_get paths n ≡ Some x → path_at paths n ≡ x
 path_there [] n x e = cc
@@ -63,9 +56,9 @@ number_at paths (m ∷ ns) (suc i) x e = number_at paths ns i x e
 pub listed : (paths : List Path) (ns : List ℕ) → ((i n : ℕ) → slice_get ns i ≡ Some n → n < length paths) → (x : Path) → Holds (paths_by paths ns) x
     → (i : ℕ) × (n : ℕ) × (slice_get ns i ≡ Some n) × (slice_get paths n ≡ Some x)
 listed paths ns low x h =
-    let i : (i : ℕ) × (slice_get (paths_by paths ns) i ≡ Some x) = place_of (paths_by paths ns) x h in
+    let i : (i : ℕ) × (slice_get (paths_by paths ns) i ≡ Some x) = place_held (paths_by paths ns) x h in
     let n : (n : ℕ) × (slice_get ns i.0 ≡ Some n) × (path_at paths n ≡ x) = number_at paths ns i.0 x i.1 in
-    (i.0, n.0, n.1, got_or paths n.0 (planted 0) (low i.0 n.0 n.1) ∙ ap Some n.2)
+    (i.0, n.0, n.1, get_at paths n.0 (planted 0) (low i.0 n.0 n.1) ∙ ap Some n.2)
 
 -- ---- numbers on a line
 
@@ -128,7 +121,7 @@ member_place t (x ∷ g) m e = go (member_place t g m) (nat_eq x.thread t) refl 
     go ih false w e = let r : (i : ℕ) × (slice_get (map (λ m. m.thread) g) i ≡ Some t) = ih e in (suc r.0, r.1)
 
 pub state_member : (g : List Member) (x : Path) → HasState g x → (m : Member) × (member_of (thread_of x) g ≡ Some m)
-state_member g (planted t) h = let a : (m : Member) × (member_of t g ≡ Some m) × (settled m ≡ h.0) = mapped settled (member_of t g) h.0 h.1 in (a.0, a.1)
+state_member g (planted t) h = let a : (m : Member) × (member_of t g ≡ Some m) × (settled m ≡ h.0) = some_map settled (member_of t g) h.0 h.1 in (a.0, a.1)
 state_member g (branched p l) h = let b : (m : Member) × (path_state g p ≡ Some m) × (option_map settled (chosen l m) ≡ Some h.0) = then_some (λ m. option_map settled (chosen l m))
     (path_state g p) h.0 h.1 in state_member g p (b.0, b.1)
 state_member g (sent s r) h = let b : (a : Member) × (b : Member) × (p : MovedEnds) × (path_state g s ≡ Some a) × (path_state g r ≡ Some b) × (members_met a b ≡ Some p) = parts_of g s r
@@ -143,11 +136,7 @@ not_some None f = refl
 not_some (Some x) f = absurd (f x refl)
 
 pub none_there : {A : Type 0} (xs : List (Option A)) (i : ℕ) → i < length xs → ((x : A) → ¬ (get_or xs i None ≡ Some x)) → slice_get xs i ≡ Some None
-none_there xs i h no_one = got_or xs i None h ∙ ap Some (not_some (get_or xs i None) no_one)
-
-pub clock_low : (paths : List Path) (p t n : ℕ) → p < length paths → IsClock paths p t (Some n) → n < length paths
-clock_low paths p t n low cl = let x : (x : Path) × (slice_get paths p ≡ Some x) = get_some paths p low in let c : (c : Path) × (slice_get paths n ≡ Some c) ×
-    (clock_of x.0 t ≡ Some c) = cl x.0 x.1 in get_low paths c.0 n c.1
+none_there xs i h no_one = get_at xs i None h ∙ ap Some (not_some (get_or xs i None) no_one)
 
 pub final_not : (g : List Member) (paths : List Path) (p : ℕ) (b : Bool) → TellsFinal g paths p b → b ≡ false → (x : Path) → slice_get paths p ≡ Some x → ¬ IsFinal g x
 final_not g paths p b tells e x ex f = true≢false (sym ((tells x ex).1 f) ∙ e)
@@ -240,12 +229,6 @@ abbrev pub TakesTo : List Path → List ℕ → ℕ → List (Option ℕ) → Li
 TakesTo paths threads p joined out n = (x : Path) (J : ℕ → Option Path) → slice_get paths p ≡ Some x → NamesPaths paths threads J joined → IsLined x J → (i t : ℕ) (o : Option ℕ)
     → i < n → slice_get threads i ≡ Some t → slice_get out i ≡ Some o → Numbers paths (deeper (clock_of x t) (J t)) o
 
-last_or_before : {A : Type 0} (xs : List A) (y : A) (i : ℕ) (o : A) → slice_get (xs ++ (y ∷ [])) i ≡ Some o → ((i ≡ length xs) × (y ≡ o)) ⊎ ((i < length xs) × (slice_get xs i ≡ Some o))
-last_or_before [] y zero o e = inl (refl, cc)
-last_or_before [] y (suc i) o e = cc
-last_or_before (x ∷ xs) y zero o e = inr ((let z : 0 < suc (length xs) = omega arith in z), e)
-last_or_before (x ∷ xs) y (suc i) o e = elim (last_or_before xs y i o e) [ inl a ↦ inl (ap suc a.0, a.1) | inr b ↦ inr ((let z : suc i < suc (length xs) = omega (arith, b.0) in z), b.1) ]
-
 clock_number : (paths : List Path) (p t : ℕ) (x : Path) (o : Option ℕ) → IsClock paths p t o → slice_get paths p ≡ Some x → Numbers paths (clock_of x t) o
 clock_number paths p t x None cl e = cl x e
 clock_number paths p t x (Some n) cl e = cl x e
@@ -254,7 +237,7 @@ pub takes_more : (paths : List Path) (threads : List ℕ) (p : ℕ) (joined out 
     → ((i j : ℕ) (x : Path) → slice_get paths i ≡ Some x → slice_get paths j ≡ Some x → i ≡ j)
     → length out ≡ n → slice_get threads n ≡ Some t → slice_get joined n ≡ Some there → IsClock paths p t own → TakesTo paths threads p joined out n
     → TakesTo paths threads p joined (out ++ (later_number own there ∷ [])) (n + 1)
-takes_more paths threads p joined out n t own there ups once len et ej cl into x J ex nm line i s o h es eo = elim (last_or_before out (later_number own there) i o eo) [
+takes_more paths threads p joined out n t own there ups once len et ej cl into x J ex nm line i s o h es eo = elim (at_or_last out (later_number own there) i o eo) [
   | inl (e, f) ↦ here (e ∙ len) f
   | inr (l, f) ↦ into x J ex nm line i s o (let z : i < n = omega (arith, l, len) in z) es f
 ]
@@ -272,7 +255,7 @@ takes_all paths threads p joined out len into x J ex nm line = record { wide = l
 -- numbers stay numbers
 pub numbers_more : (paths : List Path) (p t : ℕ) (out : List (Option ℕ)) (own there : Option ℕ) → p < length paths → IsClock paths p t own
     → ((m : ℕ) → there ≡ Some m → m < length paths) → AreNumbers paths out → AreNumbers paths (out ++ (later_number own there ∷ []))
-numbers_more paths p t out own there low cl ths nums i m e = elim (last_or_before out (later_number own there) i (Some m) e) [
+numbers_more paths p t out own there low cl ths nums i m e = elim (at_or_last out (later_number own there) i (Some m) e) [
   | inl a ↦ later_low own there (λ n f. clock_low paths p t n low (subst (IsClock paths p t) f cl)) ths m a.1
   | inr b ↦ nums i m b.1
 ]
@@ -357,12 +340,6 @@ root_or_later (branched p l) = inr (p, refl)
 root_or_later (sent s r) = inr (s, refl)
 root_or_later (got s r) = inr (r, refl)
 
-root_above : (x : Path) → IsAbove (planted (thread_of x)) x
-root_above (planted t) = refl
-root_above (branched p l) = inr (root_above p)
-root_above (sent s r) = inr (root_above s)
-root_above (got s r) = inr (root_above r)
-
 -- one more final path may be taken in
 pub record Onward (g : List Member) (paths : List Path) (threads finals : List ℕ) (start : Path) (ps : List Path) (n : ℕ) (x : Path) (t : ℕ) : Type 0 where
   pub crew : Crew g (Holds paths) (IsFinal g) (x ∷ ps)
@@ -378,7 +355,7 @@ onward g paths threads finals joined start ps i t n p x st crew hs nm et op ep e
   reached = λ r. (let q : (any_rests_on ps (move_of w.0) ≡ true) × (thread_of w.0 ≡ t) = joint_past g ps crew.team t w.0 w.1 in takes start ps x w.0 r (q.1 ∙ sym tx) q.0);
   adds = record {
     store = st.store;
-    final_made = λ z h. (let l : (i : ℕ) × (n : ℕ) × (slice_get finals i ≡ Some n) × (slice_get paths n ≡ Some z) = listed paths finals st.finals_low z h in holds_at paths l.1 z l.3);
+    final_made = λ z h. (let l : (i : ℕ) × (n : ℕ) × (slice_get finals i ≡ Some n) × (slice_get paths n ≡ Some z) = listed paths finals st.finals_low z h in held paths l.1 z l.3);
     finals_are = st.finals_final;
     once = st.finals_once;
     at = at_n;
@@ -399,10 +376,10 @@ onward g paths threads finals joined start ps i t n p x st crew hs nm et op ep e
     at_n = paths_at paths finals n p x ep ex
 
     hx : Holds paths x
-    hx = holds_at paths p x ex
+    hx = held paths p x ex
 
     fx : IsFinal g x
-    fx = st.finals_final x (holds_at (paths_by paths finals) n x at_n)
+    fx = st.finals_final x (held (paths_by paths finals) n x at_n)
 
     w : (x : Path) × (joint ps t ≡ Some x) × (¬ IsFinal g x)
     w = open_named g paths threads finals joined ps i t et nm op
@@ -543,7 +520,7 @@ pub none_yet : AreNone []
 none_yet i o e = cc
 
 pub none_more : (joined : List (Option ℕ)) → AreNone joined → AreNone (joined ++ (None ∷ []))
-none_more joined none i o e = elim (last_or_before joined None i o e) [ inl a ↦ sym a.1 | inr b ↦ none i o b.1 ]
+none_more joined none i o e = elim (at_or_last joined None i o e) [ inl a ↦ sym a.1 | inr b ↦ none i o b.1 ]
 
 pub alone_named : (paths : List Path) (threads : List ℕ) (p : ℕ) (none out : List (Option ℕ)) → length none ≡ length threads → AreNone none → TakesIn paths threads p none out
     → (x : Path) → slice_get paths p ≡ Some x → NamesPaths paths threads (joint (x ∷ [])) out
@@ -552,7 +529,3 @@ alone_named paths threads p none out wide are taken x ex = taken x (joint []) ex
   where
     nothing : (c : Path) → None ≡ Some c → ⊥
     nothing c e = cc
-
-pub on_found : {A E : Type 0} (P Q : A → Type 0) (r : Result A E) → ((a : A) → P a → Q a) → IfOk r P → IfOk r Q
-on_found P Q (Ok a) f h = f a h
-on_found P Q (Err e) f h = tt

@@ -9,7 +9,7 @@ use Rattle.te_trail.specs.Paths.{Path, branched, sent, got, thread_of}
 use Rattle.te_trail.specs.Stores.{Holds, IsStore, labels_of_move}
 use Rattle.te_trail.specs.Clocks.{Agree}
 use Rattle.te_trail.specs.States.{chosen, MovedEnds, members_met, path_state}
-use Rattle.te_trail.proofs.MovesChain.{mapped}
+use Rattle.te_terms.proofs.Lists.{some_map}
 use Rattle.te_trail.proofs.MembersMove.{Handing, handing}
 use Rattle.te_pair.specs.Ends.{path_of, paths_kept}
 use Rattle.te_search.specs.declared.work.Work.{Work}
@@ -19,12 +19,18 @@ use Rattle.te_search.specs.Groups.{IsFinal}
 use Rattle.te_search.specs.Searching.{paths_by, AreUp, AllFail, IsSearch}
 use Rattle.te_trail.specs.Records.{path_at}
 use Rattle.te_search.specs.Works.{AreLow, EndsStand, label_told, pending_of, IsCounted, IsWork, IsWorkOn, met_paths, WaitsOn, others_of, IsMeeting}
-use Rattle.te_search.proofs.ListLaws.{holds_left, holds_right, holds_which, holds_one, holds_at, once_by_places}
+use Rattle.te_search.proofs.ListLaws.{holds_left, holds_right, holds_which, holds_one, once_by_places}
+use Rattle.te_trail.proofs.StoresHold.{held}
 use Rattle.te_search.proofs.FinalsTold.{told_more}
 use Rattle.te_search.proofs.WorkDone.{IsStep, step_done}
-use Rattle.te_search.proofs.Trying.{listed, paths_at, get_low, path_there}
-use Rattle.te_search.proofs.Working.{map_both, at_more, get_more, by_more, low_more, low_both, counted_more, last_or_old, ends_more}
+use Rattle.te_search.proofs.Trying.{listed, paths_at, path_there}
+use Rattle.te_terms.proofs.Lists.{get_low}
+use Rattle.te_search.proofs.Working.{map_both, at_more, by_more, low_more, low_both, counted_more, ends_more}
+use Rattle.te_terms.proofs.Lists.{at_or_last}
+use Rattle.te_terms.proofs.Lists.{get-longer}
 use Rattle.te_search.proofs.Meeting.{IsThere, end_of_other, other_of_end, number_there, agree_flips}
+use Rattle.te_pair.proofs.EndsTold.{one_state}
+use Rattle.te_terms.proofs.Lists.{never_both}
 
 -- ---- what stands at a send or a receive does nothing else
 
@@ -32,43 +38,37 @@ stands_alone : (g : List Member) (x : Path) (channel : ℕ) (sends : Bool) → (
 stands_alone g x channel true s = let a = send_is_alone s.member s.member.term s.stands.0 s.stands.1 in (a.0, a.1)
 stands_alone g x channel false s = let a = receive_is_alone s.member s.member.term channel s.stands in (a.0, a.1)
 
-same_member : (o : Option Member) (a b : Member) → o ≡ Some a → o ≡ Some b → a ≡ b
-same_member o a b e f = cc
-
-none_some : {A : Type 0} (o : Option A) (a : A) → o ≡ None → o ≡ Some a → ⊥
-none_some o a e f = cc
-
 waits_choose : (g : List Member) (x : Path) (channel : ℕ) (sends : Bool) → WaitsOn g x channel sends → (l : Bool) (m u : Member) → path_state g x ≡ Some m → chosen l m ≡ Some u → ⊥
 waits_choose g x channel sends s l m u st c =
-    let a : (t : Term) × (after_choice l m.term ≡ Some t) × (at_term m t ≡ u) = mapped (at_term m) (after_choice l m.term) u c in
-    let one : s.member ≡ m = same_member (path_state g x) s.member m s.state st in
-    none_some (after_choice l m.term) a.0 (ap (λ k. after_choice l k.term) (sym one) ∙ (stands_alone g x channel sends s).1 l) a.1
+    let a : (t : Term) × (after_choice l m.term ≡ Some t) × (at_term m t ≡ u) = some_map (at_term m) (after_choice l m.term) u c in
+    let one : s.member ≡ m = one_state (path_state g x) s.member m s.state st in
+    never_both (after_choice l m.term) a.0 (ap (λ k. after_choice l k.term) (sym one) ∙ (stands_alone g x channel sends s).1 l) a.1
 
 waits_end : (g : List Member) (x : Path) (channel : ℕ) (sends : Bool) → WaitsOn g x channel sends → ¬ IsFinal g x
 waits_end g x channel sends s f =
-    let one : s.member ≡ f.member = same_member (path_state g x) s.member f.member s.state f.state in
-    none_some (outcome_of f.member.term) f.outcome (ap (λ k. outcome_of k.term) (sym one) ∙ (stands_alone g x channel sends s).0.1) f.ends
+    let one : s.member ≡ f.member = one_state (path_state g x) s.member f.member s.state f.state in
+    never_both (outcome_of f.member.term) f.outcome (ap (λ k. outcome_of k.term) (sym one) ∙ (stands_alone g x channel sends s).0.1) f.ends
 
 -- which of two that meet is which
 sender_side : (g : List Member) (x : Path) (channel : ℕ) (sends : Bool) (a b : Member) (e : MovedEnds) → WaitsOn g x channel sends → path_state g x ≡ Some a → (h : Handing a b e)
     → (sends ≡ true) × (h.message.channel ≡ channel)
 sender_side g x channel true a b e s st h =
-    let one : s.member ≡ a = same_member (path_state g x) s.member a s.state st in
+    let one : s.member ≡ a = one_state (path_state g x) s.member a s.state st in
     let m : Some s.stands.0 ≡ Some h.message = sym s.stands.1 ∙ ap (λ k. sending k.term) one ∙ h.sends in
     (refl, ap (λ k. k.channel) (let q : h.message ≡ s.stands.0 = cc in q) ∙ s.stands.2)
 sender_side g x channel false a b e s st h =
-    let one : s.member ≡ a = same_member (path_state g x) s.member a s.state st in
-    absurd (none_some (sending a.term) h.message (ap (λ k. sending k.term) (sym one) ∙ (receive_is_alone s.member s.member.term channel s.stands).2) h.sends)
+    let one : s.member ≡ a = one_state (path_state g x) s.member a s.state st in
+    absurd (never_both (sending a.term) h.message (ap (λ k. sending k.term) (sym one) ∙ (receive_is_alone s.member s.member.term channel s.stands).2) h.sends)
 
 receiver_side : (g : List Member) (x : Path) (channel : ℕ) (sends : Bool) (a b : Member) (e : MovedEnds) → WaitsOn g x channel sends → path_state g x ≡ Some b → (h : Handing a b e)
     → (sends ≡ false) × (h.channel ≡ channel)
 receiver_side g x channel false a b e s st h =
-    let one : s.member ≡ b = same_member (path_state g x) s.member b s.state st in
+    let one : s.member ≡ b = one_state (path_state g x) s.member b s.state st in
     let m : Some channel ≡ Some h.channel = sym s.stands ∙ ap (λ k. receiving k.term) one ∙ h.receives in
     (refl, (let q : h.channel ≡ channel = cc in q))
 receiver_side g x channel true a b e s st h =
-    let one : s.member ≡ b = same_member (path_state g x) s.member b s.state st in
-    absurd (none_some (receiving b.term) h.channel (ap (λ k. receiving k.term) (sym one) ∙ (send_is_alone s.member s.member.term s.stands.0 s.stands.1).2) h.receives)
+    let one : s.member ≡ b = one_state (path_state g x) s.member b s.state st in
+    absurd (never_both (receiving b.term) h.channel (ap (λ k. receiving k.term) (sym one) ∙ (send_is_alone s.member s.member.term s.stands.0 s.stands.1).2) h.receives)
 
 pair_first : (s : Bool) (x y : Path) → s ≡ true → Holds (met_paths s x y) (sent x y) × Holds (met_paths s x y) (got x y)
 pair_first true x y e = (inl refl, inr (inl refl))
@@ -156,7 +156,7 @@ wait_done old mid new p x channel sends ex w stands m st mo pe fi gr wa = record
     p_low (suc i) n e = cc
 
     hx : Holds old.store.paths x
-    hx = holds_at old.store.paths p x ex
+    hx = held old.store.paths p x ex
 
     waits_same : paths_by new.store.paths (paths_kept new.waiting) ≡ waits ++ (x ∷ [])
     waits_same = ap₂ paths_by paths numbers ∙ map_both (path_at (old.store.paths ++ m.news)) (paths_kept old.waiting) (p ∷ [])
@@ -170,8 +170,8 @@ wait_done old mid new p x channel sends ex w stands m st mo pe fi gr wa = record
     pending_same = ap₂ paths_by (ap (λ t. t.paths) st) pe ∙ m.gains.pending
 
     ends_are : EndsStand old.store.events (old.store.paths ++ m.news) (old.waiting ++ (own ∷ []))
-    ends_are i e y ei ey = elim (last_or_old old.waiting own i e ei) [
-      | inl a ↦ (let at : slice_get (old.store.paths ++ m.news) p ≡ Some x = get_more old.store.paths m.news p x ex in let here : slice_get
+    ends_are i e y ei ey = elim (at_or_last old.waiting own i e ei) [
+      | inl a ↦ (let at : slice_get (old.store.paths ++ m.news) p ≡ Some x = get-longer old.store.paths m.news p x ex in let here : slice_get
           (old.store.paths ++ m.news) p ≡ Some y = ap (λ k. slice_get (old.store.paths ++ m.news) k.path) a.1
           ∙ ey in let same : x ≡ y = (let k : Some x ≡ Some y = sym at ∙ here in cc) in subst (λ k. WaitsOn old.store.events y k.channel k.sends) a.1
           (subst (λ z. WaitsOn old.store.events z channel sends) same stands))
@@ -253,7 +253,7 @@ wait_done old mid new p x channel sends ex w stands m st mo pe fi gr wa = record
       where
         other_waits : (j q : ℕ) (y : Path) → slice_get (others_of old channel sends) j ≡ Some q → slice_get old.store.paths q ≡ Some y → Holds waits y
         other_waits j q y e ey = (let t : IsThere old.waiting channel (not sends) q = end_of_other old.waiting channel (not sends) j q e in
-            holds_at waits t.place y (paths_at old.store.paths (paths_kept old.waiting) t.place t.end.path y (number_there old.waiting t.place t.end t.is)
+            held waits t.place y (paths_at old.store.paths (paths_kept old.waiting) t.place t.end.path y (number_there old.waiting t.place t.end t.is)
             (ap (slice_get old.store.paths) t.path ∙ ey)))
 
         both_kept : (q r y : Path) → Holds waits y → ((q ≡ x) × (r ≡ y)) ⊎ ((q ≡ y) × (r ≡ x)) → Holds (waits ++ (x ∷ [])) q × Holds (waits ++ (x ∷ [])) r

@@ -10,14 +10,16 @@ use Rattle.te_trail.specs.Clocks.{Agree}
 use Rattle.te_trail.specs.States.{chosen, MovedEnds, members_met, path_state, HasState}
 use Rattle.te_trail.specs.Stores.{Holds, IsStore, same_path}
 use Rattle.te_trail.proofs.ClockLaws.{agree_by}
-use Rattle.te_trail.proofs.MovesChain.{mapped}
+use Rattle.te_terms.proofs.Lists.{some_map}
 use Rattle.te_trail.proofs.PastsChain.{then_some, parts_of, same_true, same_self}
 use Rattle.te_trail.proofs.MembersMove.{Handing, handing}
 use Rattle.te_search.specs.Groups.{IsFinal}
 use Rattle.te_search.specs.Searching.{NoPathTwice, AreUp, AllFail, MayMeet, IsSearch}
 use Rattle.te_search.proofs.EveryChainCovered.{Full}
 use Rattle.te_search.proofs.AssemblyFinds.{Commits, complete}
-use Rattle.te_search.proofs.ListLaws.{holds_left, holds_right, holds_which, holds_one, once_both, once_left, once_right, once_apart, holds_at, place_of}
+use Rattle.te_search.proofs.ListLaws.{holds_left, holds_right, holds_which, holds_one, once_both, once_left, once_right, once_apart}
+use Rattle.te_trail.proofs.StoresHold.{place_held}
+use Rattle.te_trail.proofs.StoresHold.{held}
 
 -- ---- when nothing is left to do
 
@@ -35,8 +37,8 @@ nothing_commits g paths waits finals w plants = complete g paths finals full (λ
 -- ---- new paths, and one that is done
 
 pub parent_made : (paths : List Path) → AreUp paths → (x y : Path) → Holds paths x → parent_of x ≡ Some y → Holds paths y
-parent_made paths ups x y h e = let n : (n : ℕ) × (slice_get paths n ≡ Some x) = place_of paths x h in let r : (r : ℕ) × (r < n.0) ×
-    (slice_get paths r ≡ Some y) = ups n.0 x y n.1 e in holds_at paths r.0 y r.2
+parent_made paths ups x y h e = let n : (n : ℕ) × (slice_get paths n ≡ Some x) = place_held paths x h in let r : (r : ℕ) × (r < n.0) ×
+    (slice_get paths r ≡ Some y) = ups n.0 x y n.1 e in held paths r.0 y r.2
 
 same_or_not : (x y : Path) → (x ≡ y) ⊎ (¬ (x ≡ y))
 same_or_not x y = go (same_path x y) refl
@@ -165,7 +167,7 @@ step_done g paths pending waits finals p news kept ended w s = record {
 no_choice : (g : List Member) (x : Path) (m u : Member) (l : Bool) → IsFinal g x → path_state g x ≡ Some m → chosen l m ≡ Some u → ⊥
 no_choice g x m u l f st c =
     let one : f.member ≡ m = (let e : Some f.member ≡ Some m = sym f.state ∙ st in cc) in
-    let a : (t : _) × (after_choice l m.term ≡ Some t) × (at_term m t ≡ u) = mapped (at_term m) (after_choice l m.term) u c in
+    let a : (t : _) × (after_choice l m.term ≡ Some t) × (at_term m t ≡ u) = some_map (at_term m) (after_choice l m.term) u c in
     let none : after_choice l m.term ≡ None = (end_is_alone m m.term f.outcome (ap (λ k. outcome_of k.term) (sym one) ∙ f.ends)).1 l in
     cc
 
@@ -197,7 +199,7 @@ final_is_last g x (planted t) f h e = sym e
 final_is_last g x (branched p l) f h (inl e) = sym e
 final_is_last g x (branched p l) f h (inr up) =
     let b : (m : Member) × (path_state g p ≡ Some m) × (option_map settled (chosen l m) ≡ Some h.0) = then_some (λ m. option_map settled (chosen l m)) (path_state g p) h.0 h.1 in
-    let u : (u : Member) × (chosen l b.0 ≡ Some u) × (settled u ≡ h.0) = mapped settled (chosen l b.0) h.0 b.2 in
+    let u : (u : Member) × (chosen l b.0 ≡ Some u) × (settled u ≡ h.0) = some_map settled (chosen l b.0) h.0 b.2 in
     let one : p ≡ x = final_is_last g x p f (b.0, b.1) up in
     absurd (no_choice g x b.0 u.0 l f (ap (path_state g) (sym one) ∙ b.1) u.1)
 final_is_last g x (sent s r) f h (inl e) = sym e

@@ -20,11 +20,18 @@ use Rattle.te_search.specs.Groups.{IsFinal, Partial, IsPartial}
 use Rattle.te_search.specs.Searching.{paths_by, AreUp, NoPathTwice, AllFail, MayMeet, IsSearch}
 use Rattle.te_trail.specs.Records.{path_at}
 use Rattle.te_search.specs.Works.{AreLow, EndsStand, label_told, pending_of, IsCounted, IsWork, IsWorkOn, Gains, RunsShort, IsSpentAt}
-use Rattle.te_search.proofs.ListLaws.{holds_left, holds_right, holds_which, holds_one, holds_at, place_of, once_by_places}
+use Rattle.te_search.proofs.ListLaws.{holds_left, holds_right, holds_which, holds_one, once_by_places}
+use Rattle.te_trail.proofs.StoresHold.{place_held}
+use Rattle.te_trail.proofs.StoresHold.{held as holds_at}
 use Rattle.te_search.proofs.FinalsTold.{told_more}
 use Rattle.te_search.proofs.WorkDone.{IsStep, step_done, final_cannot_choose}
-use Rattle.te_search.proofs.PartialLaws.{all_by}
-use Rattle.te_search.proofs.Trying.{get_low, get_some, path_there}
+use Rattle.te_terms.proofs.Lists.{all_with}
+use Rattle.te_search.proofs.Trying.{path_there}
+use Rattle.te_terms.proofs.Lists.{get_low}
+use Rattle.te_terms.proofs.Lists.{get_some}
+use Rattle.te_terms.proofs.Lists.{get-longer}
+use Rattle.te_terms.proofs.Lists.{never_both}
+use Rattle.te_terms.proofs.Lists.{at_or_last}
 
 pub map_both : {A B : Type 0} (f : A → B) (xs ys : List A) → map f (xs ++ ys) ≡ map f xs ++ map f ys
 map_both f [] ys = refl
@@ -36,11 +43,6 @@ pub at_more : (paths more : List Path) (n : ℕ) → n < length paths → path_a
 at_more [] more n h = absurd (omega (arith, h))
 at_more (x ∷ paths) more zero h = refl
 at_more (x ∷ paths) more (suc n) h = at_more paths more n (omega (arith, h))
-
-pub get_more : {A : Type 0} (xs ys : List A) (n : ℕ) (x : A) → slice_get xs n ≡ Some x → slice_get (xs ++ ys) n ≡ Some x
-get_more [] ys n x e = cc
-get_more (y ∷ xs) ys zero x e = e
-get_more (y ∷ xs) ys (suc n) x e = get_more xs ys n x e
 
 low_rest : (paths : List Path) (n : ℕ) (ns : List ℕ) → AreLow paths (n ∷ ns) → AreLow paths ns
 low_rest paths n ns low i m e = low (suc i) m e
@@ -154,7 +156,7 @@ pub counted_more : (g : List Member) (paths more finals : List Path) (n : ℕ) �
 counted_more g paths more finals n c = record {
   tried = c.tried;
   count_is = c.count_is;
-  are = record { partial = all_by (IsPartial g paths) (IsPartial g (paths ++ more)) c.tried (partial_more g paths more) c.are.partial; once = c.are.once };
+  are = record { partial = all_with (IsPartial g paths) (IsPartial g (paths ++ more)) c.tried (partial_more g paths more) c.are.partial; once = c.are.once };
   starts = c.starts;
 }
 
@@ -163,18 +165,12 @@ counted_more g paths more finals n c = record {
 once_of : (g : List Member) (paths : List Path) → IsStore g paths → NoPathTwice paths
 once_of g paths store = once_by_places paths store.once
 
-pub last_or_old : {A : Type 0} (xs : List A) (y : A) (i : ℕ) (o : A) → slice_get (xs ++ (y ∷ [])) i ≡ Some o → ((i ≡ length xs) × (y ≡ o)) ⊎ ((i < length xs) × (slice_get xs i ≡ Some o))
-last_or_old [] y zero o e = inl (refl, cc)
-last_or_old [] y (suc i) o e = cc
-last_or_old (x ∷ xs) y zero o e = inr ((let z : 0 < suc (length xs) = omega arith in z), e)
-last_or_old (x ∷ xs) y (suc i) o e = elim (last_or_old xs y i o e) [ inl a ↦ inl (ap suc a.0, a.1) | inr b ↦ inr ((let z : suc i < suc (length xs) = omega (arith, b.0) in z), b.1) ]
-
 -- a new path whose parent is there
 pub ups_more : (paths : List Path) (x : Path) → AreUp paths → ((y : Path) → parent_of x ≡ Some y → Holds paths y) → AreUp (paths ++ (x ∷ []))
-ups_more paths x ups up k z y e f = elim (last_or_old paths x k z e) [
-  | inl a ↦ (let r : (n : ℕ) × (slice_get paths n ≡ Some y) = place_of paths y (up y (ap parent_of a.1 ∙ f)) in
-      (r.0, (let h : r.0 < length paths = get_low paths y r.0 r.1 in let s : k ≡ length paths = a.0 in omega (arith, h, s)), get_more paths (x ∷ []) r.0 y r.1))
-  | inr b ↦ (let r : (r : ℕ) × (r < k) × (slice_get paths r ≡ Some y) = ups k z y b.1 f in (r.0, r.1, get_more paths (x ∷ []) r.0 y r.2))
+ups_more paths x ups up k z y e f = elim (at_or_last paths x k z e) [
+  | inl a ↦ (let r : (n : ℕ) × (slice_get paths n ≡ Some y) = place_held paths y (up y (ap parent_of a.1 ∙ f)) in
+      (r.0, (let h : r.0 < length paths = get_low paths y r.0 r.1 in let s : k ≡ length paths = a.0 in omega (arith, h, s)), get-longer paths (x ∷ []) r.0 y r.1))
+  | inr b ↦ (let r : (r : ℕ) × (r < k) × (slice_get paths r ≡ Some y) = ups k z y b.1 f in (r.0, r.1, get-longer paths (x ∷ []) r.0 y r.2))
 ]
 
 -- another list of kept ends over more paths
@@ -188,7 +184,7 @@ ends_more g paths more ends low are i e x ee ex = are i e x ee (old (low i e.pat
 
     old : e.path < length paths → slice_get paths e.path ≡ Some x
     old h = let y : (y : Path) × (slice_get paths e.path ≡ Some y) = get_some paths e.path h in let z : slice_get
-        (paths ++ more) e.path ≡ Some y.0 = get_more paths more e.path y.0 y.1 in let same : Some y.0 ≡ Some x = sym z ∙ ex in y.1 ∙ same
+        (paths ++ more) e.path ≡ Some y.0 = get-longer paths more e.path y.0 y.1 in let same : Some y.0 ≡ Some x = sym z ∙ ex in y.1 ∙ same
 
 -- the work after a step that keeps no end and finds no final path
 pub work_gained : (old new : Work) (p : ℕ) (x : Path) (news : List Path) → slice_get old.store.paths p ≡ Some x → IsWorkOn old p → Gains old new news → AreUp new.store.paths
@@ -267,9 +263,6 @@ work_gained old new p x news ex w g ups chooses meets_not final_not branches non
         (paths_by new.store.paths (numbers_of new.finals))) (append-nil waits ∙ sym waits_same)
         (subst (IsSearch old.store.events (old.store.paths ++ news) (pending_of old ++ news) (waits ++ [])) (append-nil finals ∙ sym finals_same) s)))
 
-clash : {A : Type 0} (o : Option A) (a : A) → o ≡ None → o ≡ Some a → ⊥
-clash o a e f = cc
-
 pub branch_done : (old mid new : Work) (p : ℕ) (x : Path) → slice_get old.store.paths p ≡ Some x → IsWorkOn old p → IsAtChoice old.store p → Gains old mid (branched x true ∷ [])
     → Gains mid new (branched x false ∷ []) → IsWork new
 branch_done old mid new p x ex w at a b = work_gained old new p x (branched x true ∷ (branched x false ∷ [])) ex w g ups
@@ -318,10 +311,10 @@ branch_done old mid new p x ex w at a b = work_gained old new p x (branched x tr
     meets_not m = elim m.meets [
       | inl e ↦ (let h : Handing m.own m.other m.ends = handing m.own m.other m.ends e in let same : m.own ≡ st.0 =
           (let k : Some m.own ≡ Some st.0 = sym m.state ∙ st.1 in cc) in let s : sending st.0.term ≡ Some h.message = ap (λ k. sending k.term) (sym same)
-          ∙ h.sends in let n : sending st.0.term ≡ None = alone.1 in absurd (clash (sending st.0.term) h.message n s))
+          ∙ h.sends in let n : sending st.0.term ≡ None = alone.1 in absurd (never_both (sending st.0.term) h.message n s))
       | inr e ↦ (let h : Handing m.other m.own m.ends = handing m.other m.own m.ends e in let same : m.own ≡ st.0 =
           (let k : Some m.own ≡ Some st.0 = sym m.state ∙ st.1 in cc) in let s : receiving st.0.term ≡ Some h.channel = ap (λ k. receiving k.term) (sym same)
-          ∙ h.receives in let n : receiving st.0.term ≡ None = alone.2 in absurd (clash (receiving st.0.term) h.channel n s))
+          ∙ h.receives in let n : receiving st.0.term ≡ None = alone.2 in absurd (never_both (receiving st.0.term) h.channel n s))
     ]
 
     final_not : ¬ IsFinal old.store.events x
@@ -334,7 +327,7 @@ branch_unmade w p l low k x ex h = k.search.branched_from x l h
 
 pub branch_left : (old mid : Work) (p : ℕ) (x : Path) → slice_get old.store.paths p ≡ Some x → IsWorkOn old p → Gains old mid (branched x true ∷ []) → IsUnmade mid.store p false
 branch_left old mid p x ex w a y ey h =
-    let there : slice_get mid.store.paths p ≡ Some x = subst (λ q. slice_get q p ≡ Some x) (sym a.paths) (get_more old.store.paths (branched x true ∷ []) p x ex) in
+    let there : slice_get mid.store.paths p ≡ Some x = subst (λ q. slice_get q p ≡ Some x) (sym a.paths) (get-longer old.store.paths (branched x true ∷ []) p x ex) in
     let same : x ≡ y = (let k : Some x ≡ Some y = sym there ∙ ey in cc) in
     elim (holds_which old.store.paths (branched x true ∷ []) (branched y false) (subst (λ q. Holds q (branched y false)) a.paths h)) [
       | inl o ↦ branch_unmade old p false (get_low old.store.paths x p ex) w x ex (subst (λ z. Holds old.store.paths (branched z false)) (sym same) o)
@@ -348,7 +341,7 @@ branch_left old mid p x ex w a y ey h =
 pub choice_stays : (old mid : Work) (p : ℕ) (news : List Path) → p < length old.store.paths → IsAtChoice old.store p → Gains old mid news → IsAtChoice mid.store p
 choice_stays old mid p news low at a x m ex st =
     let y : (y : Path) × (slice_get old.store.paths p ≡ Some y) = get_some old.store.paths p low in
-    let there : slice_get mid.store.paths p ≡ Some y.0 = subst (λ q. slice_get q p ≡ Some y.0) (sym a.paths) (get_more old.store.paths news p y.0 y.1) in
+    let there : slice_get mid.store.paths p ≡ Some y.0 = subst (λ q. slice_get q p ≡ Some y.0) (sym a.paths) (get-longer old.store.paths news p y.0 y.1) in
     let same : y.0 ≡ x = (let k : Some y.0 ≡ Some x = sym there ∙ ex in cc) in
     at x m (y.1 ∙ ap Some same) (ap (λ e. path_state e x) (sym a.events) ∙ st)
 

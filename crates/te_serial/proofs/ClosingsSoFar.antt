@@ -7,7 +7,7 @@ use Rattle.std.specs.List.{AllByRecursion}
 use Rattle.te_terms.specs.Terms.{Term}
 use Rattle.te_terms.specs.declared.event.Parked.{Parked}
 use Rattle.te_script.proofs.Places.{slice_get_set_same}
-use Rattle.te_script.proofs.Appending.{AllByRecursion-append}
+use Rattle.te_terms.proofs.Lists.{AllByRecursion-append}
 use Rattle.te_history.specs.declared.status.How.TheVariants as ways
 use Rattle.te_history.specs.declared.entry.Entry.{Entry}
 use Rattle.te_history.specs.declared.entry.Entry.TheVariants as entries
@@ -21,7 +21,9 @@ use Rattle.te_serial.specs.Houses.{grown}
 use Rattle.te_serial.specs.Runs.{ShowsPlace, HasEndedAll, HasClosed}
 use Rattle.te_serial.proofs.Continuing.{grown_twice}
 use Rattle.te_serial.proofs.BoardStates.{state_grown}
-use Rattle.te_serial.proofs.RoundsSoFar.{Callers, slice_at_cut, drop_next, take_next, drop_set, take_set, take-past}
+use Rattle.te_serial.proofs.RoundsSoFar.{Callers, slice_at_cut, drop_next, drop_set, take_set}
+use Rattle.te_terms.proofs.Lists.{take_all}
+use Rattle.te_terms.proofs.Lists.{take_next}
 
 -- ---- the parked list, one caller more
 
@@ -45,7 +47,7 @@ pub record LookedSoFar (s : State) (t : ℕ) (lowest : Option ℕ) : Type 0 wher
   pub settled : AllByRecursion IsParkedOrEnded (take t s.callers)
   pub lowest_is : lowest_of (parked_from 0 (take t s.callers)) ≡ lowest
 
-front_length : (s : State) (t : ℕ) (x : Standing) → Stands s t x → 0 + length (take t s.callers) ≡ t
+pub front_length : (s : State) (t : ℕ) (x : Standing) → Stands s t x → 0 + length (take t s.callers) ≡ t
 front_length s t x stood = let lt = slice_get_within s.callers t x stood in omega (arith, length-take t s.callers)
 
 lowest_more : (ps qs : List Parked) (t : ℕ) → lowest_of ps ≡ Some t → lowest_of (ps ++ qs) ≡ Some t
@@ -184,9 +186,9 @@ shown_past old now t None places.Ended h settled e shows ne = absurd shows
 pub ended_all : (old now : BoardLog) (t : ℕ) → EndedSoFar old now t → length (Callers old) ≤ t → length (Callers now) ≤ t → HasEndedAll old now
 ended_all old now t h le le' = record {
   ends = h.ends;
-  are_ends = subst (λ (cs : List Standing). EndsOf (parked_from 0 cs) h.ends) (take-past (Callers old) t le) h.are_ends;
+  are_ends = subst (λ (cs : List Standing). EndsOf (parked_from 0 cs) h.ends) (take_all (Callers old) t le) h.are_ends;
   grows = h.grows;
-  whole = subst (λ (cs : List Standing). AllByRecursion (λ c. c ≡ ended) cs) (take-past (Callers now) t le') h.behind;
+  whole = subst (λ (cs : List Standing). AllByRecursion (λ c. c ≡ ended) cs) (take_all (Callers now) t le') h.behind;
 }
 
 -- ---- the close of a round

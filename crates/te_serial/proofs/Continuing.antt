@@ -6,10 +6,7 @@ use Rattle.te_script.specs.Cores.{At}
 use Rattle.te_history.specs.declared.entry.Entry.{Entry}
 use Rattle.te_board.specs.Boards.{BoardLog}
 use Rattle.te_serial.specs.Houses.{texts_of, IsHouse, grown, MayAppend, Continues}
-
-pub all_append : {A : Type 0} (P : A → Type 0) (xs ys : List A) → AllByRecursion P xs → AllByRecursion P ys → AllByRecursion P (xs ++ ys)
-all_append P [] ys h k = k
-all_append P (x ∷ xs) ys h k = (h.0, all_append P xs ys h.1 k)
+use Rattle.te_terms.proofs.Lists.{all_both}
 
 pub grown_nothing : (board : BoardLog) → board ≡ grown board []
 grown_nothing board = λ i. record { callers = board.callers; entries = sym (append-nil board.entries) i }
@@ -36,7 +33,7 @@ pub goes_on : (a b c : BoardLog) (f g k : List At) → Continues a f b g → Con
 goes_on a b c f g k h l = record {
   entries = h.entries ++ l.entries;
   grows = l.grows ∙ ap (λ (x : BoardLog). grown x l.entries) h.grows ∙ grown_twice a h.entries l.entries;
-  each = all_append MayAppend h.entries l.entries h.each l.each;
+  each = all_both MayAppend h.entries l.entries h.each l.each;
   texts = l.texts ∙ h.texts;
   house = l.house;
 }

@@ -19,7 +19,7 @@ use Rattle.te_terms.proofs.QuietSteps.{OfEachStep, of_every_step}
 use Rattle.te_cert.proofs.MembersReplaced.{found_thread, found_new, found_other}
 use Rattle.te_history.proofs.Commits.{same_or_other}
 use Rattle.te_serial.specs.FreshChannels.{made_at, made_by, made_in, made_behind, made_along, NoneTwice}
-use Rattle.te_serial.proofs.Continuing.{all_append}
+use Rattle.te_terms.proofs.Lists.{all_both}
 
 -- ---- a member stands at `fresh`
 
@@ -264,7 +264,7 @@ first_own (quiet t) g fine = by_member (member_of t g) refl
 pub all_own : (as' : List Action) (g : List Member) → Fine g → AllByRecursion (Owns g) (made_along as' g)
 all_own [] g fine = tt
 all_own (a ∷ as') g fine =
-    all_append (Owns g) (made_in a g) (made_behind (made_along as') (joint_step a g)) (first_own a g fine) (behind (joint_step a g) refl (λ k fine'. all_own as' k fine'))
+    all_both (Owns g) (made_in a g) (made_behind (made_along as') (joint_step a g)) (first_own a g fine) (behind (joint_step a g) refl (λ k fine'. all_own as' k fine'))
   where
     behind : (o : Option (List Member)) → joint_step a g ≡ o → ((k : List Member) → Fine k → AllByRecursion (Owns k) (made_along as' k)) → AllByRecursion (Owns g) (made_behind (made_along as') o)
     behind None e rest = tt

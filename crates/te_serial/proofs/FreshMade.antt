@@ -18,7 +18,8 @@ use Rattle.te_history.specs.Follows.{Stands, AreEvents, caller_of, LooselyFollow
 use Rattle.te_history.proofs.AfterEntry.{posts_by_at_most, length-state}
 use Rattle.te_history.proofs.GivenOnce.{ticket_below}
 use Rattle.te_history.proofs.Growing.{legal_is_loose}
-use Rattle.te_history.proofs.Places.{all_by_places, by_place}
+use Rattle.te_history.proofs.Places.{all_by_places}
+use Rattle.te_terms.proofs.Lists.{all_at}
 use Rattle.te_report.specs.OfScript.{taken, WishedBy, WishedFrom, IsOfScript}
 use Rattle.te_report.specs.Fitting.{EntryIsSpelled}
 use Rattle.te_report.proofs.Growing.{grows_wished, AtPlace, at_place}
@@ -27,9 +28,12 @@ use Rattle.te_report.proofs.ChannelsStepped.{Makes}
 use Rattle.te_report.proofs.ChannelsOfScript.{StandingHas, SoFar, MembersMake, goes_on, first}
 use Rattle.te_serial.specs.FreshChannels.{HasMemberAt, IsMadeByMember, ChannelsAreMade}
 use Rattle.te_serial.proofs.ChannelsMore.{term_more, outcome_more, outcomes_more, entry_more, entries_more}
-use Rattle.te_serial.proofs.GroupsGiven.{last_there}
-use Rattle.te_serial.proofs.TakesSoFar.{get_grown}
-use Rattle.te_serial.proofs.RoundsSoFar.{take-past}
+use Rattle.te_terms.proofs.Lists.{get-last}
+use Rattle.te_terms.proofs.Lists.{get-longer}
+use Rattle.te_terms.proofs.Lists.{take_all}
+use Rattle.te_terms.proofs.Lists.{take_more}
+use Rattle.te_terms.proofs.Lists.{get_front}
+use Rattle.te_terms.proofs.Lists.{get_taken}
 
 -- the channel is a fresh one of a member of a commit
 pub record IsMade (h : List Entry) (c : ℕ) : Type 0 where
@@ -44,35 +48,13 @@ made_more : (h more : List Entry) (c : ℕ) → IsMade h c → IsMade (h ++ more
 made_more h more c m = record {
   at = m.at;
   member = m.member;
-  has = (m.has.0, m.has.1, m.has.2, m.has.3, get_grown h more m.at (entries.Commit m.has.0 m.has.1 m.has.2) m.has.4, m.has.5);
+  has = (m.has.0, m.has.1, m.has.2, m.has.3, get-longer h more m.at (entries.Commit m.has.0 m.has.1 m.has.2) m.has.4, m.has.5);
   count = m.count;
   few = m.few;
   number = m.number;
 }
 
 -- ---- lists cut behind a place
-
-take_front : {A : Type 0} (xs ys : List A) (n : ℕ) → n ≤ length xs → take n (xs ++ ys) ≡ take n xs
-take_front [] ys zero le = take_none ys
-  where
-    take_none : {A : Type 0} (zs : List A) → take 0 zs ≡ []
-    take_none [] = refl
-    take_none (z ∷ zs) = refl
-take_front [] ys (suc n) le = absurd (omega arith)
-take_front (x ∷ xs) ys zero le = refl
-take_front (x ∷ xs) ys (suc n) le = ap (λ zs. x ∷ zs) (take_front xs ys n (omega arith))
-
-get_front : {A : Type 0} (xs ys : List A) (i : ℕ) → i < length xs → slice_get (xs ++ ys) i ≡ slice_get xs i
-get_front [] ys i lt = absurd (omega arith)
-get_front (x ∷ xs) ys zero lt = refl
-get_front (x ∷ xs) ys (suc i) lt = get_front xs ys i (omega arith)
-
-get_taken : {A : Type 0} (xs : List A) (n i : ℕ) (x : A) → slice_get (take n xs) i ≡ Some x → (i < n) × (slice_get xs i ≡ Some x)
-get_taken [] zero i x is = absurd cc
-get_taken [] (suc n) i x is = absurd cc
-get_taken (y ∷ ys) zero i x is = absurd cc
-get_taken (y ∷ ys) (suc n) zero x is = (omega arith, is)
-get_taken (y ∷ ys) (suc n) (suc i) x is = let rest = get_taken ys n i x is in let lt = rest.0 in (omega arith, rest.1)
 
 module _ (channels : ℕ) (threads : List Thread) (each : AllByRecursion (IsThread channels) threads) where
   -- a channel of the script, or one that was made by then
@@ -105,7 +87,7 @@ module _ (channels : ℕ) (threads : List Thread) (each : AllByRecursion (IsThre
   makes : (h : List Entry) (e : Entry) → MembersMake (Known (h ++ e ∷ [])) channels threads (low (h ++ e ∷ [])) each e
   makes h (entries.Commit by cert outcomes) =
       all_by_places (λ (m : Member). Makes (Known (h ++ entries.Commit by cert outcomes ∷ [])) m.thread m.ticket) cert.members (λ i m is count few.
-      inr (record { at = length h; member = m; has = (by, cert, outcomes, i, last_there h (entries.Commit by cert outcomes), is); count = count; few = few; number = refl }))
+      inr (record { at = length h; member = m; has = (by, cert, outcomes, i, get-last h (entries.Commit by cert outcomes), is); count = count; few = few; number = refl }))
   makes h (entries.Post by ticket event) = tt
   makes h (entries.Withdraw by ticket) = tt
   makes h (entries.Take by ticket outcome) = tt
@@ -126,10 +108,10 @@ module _ (channels : ℕ) (threads : List Thread) (each : AllByRecursion (IsThre
       at : (place : ℕ) (x : Entry) → slice_get (h ++ e ∷ []) place ≡ Some x → (place < length h) ⊎ (length h ≤ place) → EntryIsSpelled (Known (take (suc place) (h ++ e ∷ []))) x
       at place x is (inl lt) =
           let was = holds.places place x (sym (get_front h (e ∷ []) place lt) ∙ is) in
-          subst (λ (k : List Entry). EntryIsSpelled (Known k) x) (sym (take_front h (e ∷ []) (suc place) (omega arith))) was
+          subst (λ (k : List Entry). EntryIsSpelled (Known k) x) (sym (take_more h (e ∷ []) (suc place) (omega arith))) was
       at place x is (inr le) =
-          let whole = take-past (h ++ e ∷ []) (suc place) (let n = length-append h (e ∷ []) in omega arith) in
-          subst (λ (k : List Entry). EntryIsSpelled (Known k) x) (sym whole) (by_place (EntryIsSpelled (Known (h ++ e ∷ []))) (h ++ e ∷ []) place x next.entries_so is)
+          let whole = take_all (h ++ e ∷ []) (suc place) (let n = length-append h (e ∷ []) in omega arith) in
+          subst (λ (k : List Entry). EntryIsSpelled (Known k) x) (sym whole) (all_at (EntryIsSpelled (Known (h ++ e ∷ []))) (h ++ e ∷ []) place x next.entries_so is)
 
   holds_all : (history : List Entry) → IsLoose (length threads) history → WishedFrom threads [] history → Holds history
   holds_all history loose wished =

@@ -36,6 +36,8 @@ use Rattle.te_serial.proofs.HousesKept.{house_free}
 use Rattle.te_serial.proofs.Continuing.{grown_twice, by_one}
 use Rattle.te_serial.proofs.BoardStates.{state_grown, caller_within}
 use Rattle.te_serial.proofs.ParkedChanges.{has_parked, placed_stands, parked_without}
+use Rattle.te_history.proofs.RefusalsAreOne.{one_list}
+use Rattle.te_terms.proofs.Lists.{get-last}
 
 -- ---- the members are parked
 
@@ -55,17 +57,6 @@ parked_all s [] [] h = tt
 parked_all s [] (e ∷ es) h = absurd h
 parked_all s (m ∷ ms) [] h = absurd h
 parked_all s (m ∷ ms) (e ∷ es) h = ((e, h.0), parked_all s ms es h.1)
-
-one_list : (s : State) (ms : List Member) (es fs : List Term) → AreParked s ms es → AreParked s ms fs → es ≡ fs
-one_list s [] [] [] h k = refl
-one_list s [] [] (f ∷ fs) h k = absurd k
-one_list s [] (e ∷ es) fs h k = absurd h
-one_list s (m ∷ ms) [] fs h k = absurd h
-one_list s (m ∷ ms) (e ∷ es) [] h k = absurd k
-one_list s (m ∷ ms) (e ∷ es) (f ∷ fs) h k =
-    let first = one_event s m.thread m.ticket e f h.0 k.0 in
-    let rest = one_list s ms es fs h.1 k.1 in
-    λ i. first i ∷ rest i
 
 module _ (s : State) (cert : Cert) (outcomes : List Outcome) (h : IsGroupOf (parked_list s) cert outcomes) where
   pub group_parked : AreParked s cert.members h.events
@@ -112,7 +103,7 @@ group_caller board cert outcomes by h low = lowest_caller board cert.members by 
 
 -- ---- the commit isn't refused
 
-runs : (s : State) → IsRunning s → s.stuck ≡ true → ⊥
+pub runs : (s : State) → IsRunning s → s.stuck ≡ true → ⊥
 runs s running stuck = let both : true ≡ false = sym stuck ∙ running in cc
 
 module _ (board : BoardLog) (cert : Cert) (outcomes : List Outcome) (running : IsRunning (state_of board)) (may : Commits (state_of board) cert outcomes) where
@@ -180,10 +171,6 @@ each_given s (m ∷ ms) (o ∷ os) parked_so rise many =
     let stays = others_stay next ms os m.thread (after_lower m.thread ms rise) in
     ((m.ticket, o, stays ∙ here), each_given next ms os (still_parked s m.thread (given m.ticket o) ms rise parked_so.1) (rise_rest m.thread ms rise) (omega arith))
 
-pub last_there : {A : Type 0} (xs : List A) (x : A) → slice_get (xs ++ x ∷ []) (length xs) ≡ Some x
-last_there [] x = refl
-last_there (y ∷ ys) x = last_there ys x
-
 -- ---- the board with the commit
 
 module _ (old mid : BoardLog) (cert : Cert) (outcomes : List Outcome) (h : IsGroupOf (parked_list (state_of old)) cert outcomes) (k : AppendsCommit old mid cert outcomes) where
@@ -191,7 +178,7 @@ module _ (old mid : BoardLog) (cert : Cert) (outcomes : List Outcome) (h : IsGro
   committed_state = state_grown old mid (entries.Commit k.by cert outcomes) k.grows
 
   pub commit_there : slice_get mid.entries (length old.entries) ≡ Some (entries.Commit k.by cert outcomes)
-  commit_there = ap (λ (b : BoardLog). slice_get b.entries (length old.entries)) k.grows ∙ last_there old.entries (entries.Commit k.by cert outcomes)
+  commit_there = ap (λ (b : BoardLog). slice_get b.entries (length old.entries)) k.grows ∙ get-last old.entries (entries.Commit k.by cert outcomes)
 
   -- its members are to take
   pub to_take : IsToTake mid (length old.entries)

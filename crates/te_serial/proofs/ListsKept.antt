@@ -13,8 +13,10 @@ use Rattle.te_serial.specs.declared.place.Place.{Place}
 use Rattle.te_serial.specs.declared.place.Place.TheVariants as places
 use Rattle.te_serial.specs.Runs.{ShowsPlace, IsKeptOf, IsParkedAt}
 use Rattle.te_serial.proofs.ParkedChanges.{IsUnparked, entry_of, unparked_by, put_later}
-use Rattle.te_serial.proofs.RoundsSoFar.{take_next, take-past}
+use Rattle.te_terms.proofs.Lists.{take_all}
+use Rattle.te_terms.proofs.Lists.{take_next}
 use Rattle.te_serial.proofs.ClosingsSoFar.{parked_more, shown_parked}
+use Rattle.te_serial.proofs.ClosingsSoFar.{front_length}
 
 -- the parked callers before t are kept
 abbrev pub KeptSoFar : BoardLog → List Parked → ℕ → Type 0
@@ -50,9 +52,6 @@ apart_so_far board kept t is = subst (λ (ps : List Parked). ¬ HasThread ps t) 
 pub is_parked : (board : BoardLog) (t : ℕ) (p : Place) → ShowsPlace (slice_get (state_of board).callers t) p → p ≡ places.Parked → IsParkedAt (state_of board) t
 is_parked board t p shows is = shown_parked (state_of board) t (slice_get (state_of board).callers t) refl (subst (λ (q : Place). ShowsPlace (slice_get (state_of board).callers t) q) is shows)
 
-front_length : (s : State) (t : ℕ) (x : Standing) → Stands s t x → 0 + length (take t s.callers) ≡ t
-front_length s t x stood = let lt = slice_get_within s.callers t x stood in omega (arith, length-take t s.callers)
-
 pub kept_next : (board : BoardLog) (kept after : List Parked) (t : ℕ) → KeptSoFar board kept t → IsParkedAt (state_of board) t
     → ((ticket : ℕ) (event : Term) → Stands (state_of board) t (parked ticket event) → after ≡ put_in (entry_of t ticket event) kept) → KeptSoFar board after (t + 1)
 kept_next board kept after t is at puts =
@@ -83,7 +82,7 @@ skipped_standing s t p shows other = by_standing (slice_get s.callers t) refl p 
     by_standing _ e places.Given shows other = absurd shows
     by_standing _ e places.Ended shows other = absurd shows
 
-not_parked : (p : Place) → (p ≡ places.Idle) ⊎ (p ≡ places.Given) ⊎ (p ≡ places.Ended) → p ≢ places.Parked
+pub not_parked : (p : Place) → (p ≡ places.Idle) ⊎ (p ≡ places.Given) ⊎ (p ≡ places.Ended) → p ≢ places.Parked
 not_parked p (inl is) e = cc
 not_parked p (inr (inl is)) e = cc
 not_parked p (inr (inr is)) e = cc
@@ -100,7 +99,7 @@ kept_skip board kept t p is shows other =
     is ∙ sym more ∙ ap (λ (k : ℕ). parked_from 0 (take k s.callers)) n
 
 pub kept_all : (board : BoardLog) (kept : List Parked) (t : ℕ) → KeptSoFar board kept t → length (state_of board).callers ≤ t → IsKeptOf kept board
-kept_all board kept t is le = is ∙ ap (parked_from 0) (take-past (state_of board).callers t le)
+kept_all board kept t is le = is ∙ ap (parked_from 0) (take_all (state_of board).callers t le)
 
 pub kept_none : (board : BoardLog) (kept : List Parked) → kept ≡ [] → KeptSoFar board kept 0
 kept_none board kept is = is ∙ ap (parked_from 0) (sym (take-zero (state_of board).callers))

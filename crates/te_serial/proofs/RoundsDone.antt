@@ -19,7 +19,8 @@ use Rattle.te_history.specs.Follows.{IsRunning, IsParkedOrEnded, IsLegal}
 use Rattle.te_history.proofs.AfterEntry.{length-state}
 use Rattle.te_history.proofs.Growing.{legal_is_loose}
 use Rattle.te_history.proofs.Lasting.{stuck_waits}
-use Rattle.te_history.proofs.Places.{all_by_places, by_place}
+use Rattle.te_history.proofs.Places.{all_by_places}
+use Rattle.te_terms.proofs.Lists.{all_at}
 use Rattle.te_report.specs.Whole.{IsWhole}
 use Rattle.te_board.specs.Boards.{BoardLog, state_of}
 use Rattle.te_serial.specs.Rounds.{IsBlock, IsStuckDue, IsStuckAndEnds, IsLowestParked, EndsOf, EndsStuck, ClosesSo, Round, IsRound, before_closing, entries_of, AreRounds, IsInRounds}
@@ -261,7 +262,7 @@ stuck_settled board legal stuck = all_by_places IsParkedOrEnded (state_of board)
 
 -- where all are parked or have ended nobody holds an outcome
 pub settled_none : (board : BoardLog) → AllByRecursion IsParkedOrEnded (state_of board).callers → NoneGiven (state_of board)
-settled_none board h = λ t ticket o stood. by_place IsParkedOrEnded (state_of board).callers t (given ticket o) h stood
+settled_none board h = λ t ticket o stood. all_at IsParkedOrEnded (state_of board).callers t (given ticket o) h stood
 
 -- a board that is shown stuck is so
 pub shown_stuck : (b : Bool) → phases.Stuck ≡ phase_by b → b ≡ true

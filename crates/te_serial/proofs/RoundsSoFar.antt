@@ -8,7 +8,7 @@ use Rattle.te_terms.specs.declared.event.Outcome.{Outcome}
 use Rattle.te_terms.specs.Joint.{CanCommit}
 use Rattle.te_script.specs.Cores.{Stand}
 use Rattle.te_script.proofs.Places.{slice_get_set_same}
-use Rattle.te_script.proofs.Appending.{AllByRecursion-append}
+use Rattle.te_terms.proofs.Lists.{AllByRecursion-append}
 use Rattle.te_history.specs.declared.entry.Entry.{Entry}
 use Rattle.te_serial.specs.declared.place.Place.{Place}
 use Rattle.te_serial.specs.declared.place.Place.TheVariants as places
@@ -20,6 +20,8 @@ use Rattle.te_serial.specs.Houses.{grown}
 use Rattle.te_serial.specs.Runs.{ShowsPlace, NoneGiven, HasOpened, HasOpenedAll, HasCommittedBlock, HasCommittedAll}
 use Rattle.te_serial.proofs.Continuing.{grown_twice}
 use Rattle.te_serial.proofs.BoardStates.{opened_state, opens_idle, opens_other, blocks_more}
+use Rattle.te_terms.proofs.Lists.{take_next}
+use Rattle.te_terms.proofs.Lists.{take_all}
 
 -- the threads before t have opened, and the others stand as at the start
 pub record OpenedSoFar (old now : BoardLog) (t : ℕ) : Type 0 where
@@ -52,11 +54,6 @@ drop_next [] (suc i) = refl
 drop_next (x ∷ xs) zero = refl
 drop_next (x ∷ xs) (suc i) = drop_next xs i
 
-pub take_next : {A : Type 0} (xs : List A) (i : ℕ) (x : A) → slice_get xs i ≡ Some x → take (suc i) xs ≡ take i xs ++ x ∷ []
-take_next [] i x e = absurd cc
-take_next (y ∷ ys) zero x e = let same : y ≡ x = cc in ap (λ z. z ∷ []) same
-take_next (y ∷ ys) (suc i) x e = ap (λ zs. y ∷ zs) (take_next ys i x e)
-
 pub drop_set : {A : Type 0} (xs : List A) (i : ℕ) (x : A) → drop (suc i) (slice_set xs i x) ≡ drop (suc i) xs
 drop_set [] i x = refl
 drop_set (y ∷ ys) zero x = refl
@@ -66,12 +63,6 @@ pub take_set : {A : Type 0} (xs : List A) (i : ℕ) (x : A) → take i (slice_se
 take_set [] i x = refl
 take_set (y ∷ ys) zero x = refl
 take_set (y ∷ ys) (suc i) x = ap (λ zs. y ∷ zs) (take_set ys i x)
-
-pub take-past : {A : Type 0} (xs : List A) (i : ℕ) → length xs ≤ i → take i xs ≡ xs
-take-past [] zero le = refl
-take-past [] (suc i) le = refl
-take-past (x ∷ xs) zero le = absurd (omega arith)
-take-past (x ∷ xs) (suc i) le = ap (λ ys. x ∷ ys) (take-past xs i (omega arith))
 
 -- ---- one thread more
 
@@ -118,10 +109,10 @@ opened_one old now new t stand h stood k =
 pub all_opened : (old now : BoardLog) (t : ℕ) → OpenedSoFar old now t → length (Callers old) ≤ t → length (Callers now) ≤ t → HasOpenedAll old now
 all_opened old now t h le le' = record {
   entries = h.entries;
-  opens = subst (λ (cs : List Standing). OpensFrom 0 cs h.entries) (take-past (Callers old) t le) h.opens;
+  opens = subst (λ (cs : List Standing). OpensFrom 0 cs h.entries) (take_all (Callers old) t le) h.opens;
   grows = h.grows;
   running = h.running;
-  settled = subst (λ (cs : List Standing). AllByRecursion IsParkedOrEnded cs) (take-past (Callers now) t le') h.behind;
+  settled = subst (λ (cs : List Standing). AllByRecursion IsParkedOrEnded cs) (take_all (Callers now) t le') h.behind;
 }
 
 -- where nobody holds an outcome, a thread that isn't idle is parked or ended

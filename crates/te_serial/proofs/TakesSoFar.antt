@@ -31,21 +31,15 @@ use Rattle.te_serial.proofs.BoardStates.{caller_within, TakenState, taken_state,
 use Rattle.te_serial.proofs.ParkedChanges.{parked_same}
 use Rattle.te_serial.proofs.GroupsGiven.{after_lower}
 use Rattle.te_serial.proofs.Openings.{appends_grown}
-use Rattle.te_serial.proofs.RoundsSoFar.{take_next, take-past}
+use Rattle.te_terms.proofs.Lists.{take_all}
+use Rattle.te_terms.proofs.Lists.{take_next}
+use Rattle.te_terms.proofs.Lists.{drop_at}
+use Rattle.te_board.proofs.TakesFollow.{given_so}
+use Rattle.te_terms.proofs.Lists.{get_some}
+use Rattle.te_terms.proofs.Lists.{get-longer}
+use Rattle.te_terms.proofs.Lists.{AllByRecursion-append}
 
 -- ---- one take
-
-given_so : (s : State) (t ticket : ℕ) (o : Outcome) → HasStatus s t (statuses.Given ticket o) → Stands s t (given ticket o)
-given_so s t ticket o has = by_standing has.0 has.1 has.2
-  where
-    by_standing : (x : Standing) → Stands s t x → statuses.Given ticket o ≡ status_of x → Stands s t (given ticket o)
-    by_standing idle stands is = absurd cc
-    by_standing (parked under event) stands is = absurd cc
-    by_standing (given under due) stands is =
-        let ticket_is : ticket ≡ under = cc in
-        let due_is : o ≡ due = cc in
-        rw (ticket_is, due_is) stands
-    by_standing ended stands is = absurd cc
 
 -- the core of a caller that holds an outcome waits for it
 pub core_waits : (board : BoardLog) (cores : List At) (t : ℕ) (c : At) → IsHouse board cores → IsLegal board.callers board.entries → IsGivenIn (state_of board) t
@@ -182,22 +176,11 @@ none_taken board place h = record {
   others = λ t ticket o stands. (stands, subst (λ (ms : List Member). AllByRecursion (λ (m : Member). t ≢ m.thread) ms) (sym (take-none h.cert.members)) tt);
 }
 
--- an entry stays where it stands
-pub get_grown : {A : Type 0} (xs ys : List A) (i : ℕ) (x : A) → slice_get xs i ≡ Some x → slice_get (xs ++ ys) i ≡ Some x
-get_grown [] ys i x is = absurd cc
-get_grown (z ∷ zs) ys zero x is = is
-get_grown (z ∷ zs) ys (suc i) x is = get_grown zs ys i x is
-
 pub still_there : (start now : BoardLog) (place i : ℕ) (h : MembersTaken start now place i) → slice_get now.entries place ≡ Some (entries.Commit h.by h.cert h.outcomes)
-still_there start now place i h = ap (λ (b : BoardLog). slice_get b.entries place) h.grows ∙ get_grown start.entries h.takes place (entries.Commit h.by h.cert h.outcomes) h.is
+still_there start now place i h = ap (λ (b : BoardLog). slice_get b.entries place) h.grows ∙ get-longer start.entries h.takes place (entries.Commit h.by h.cert h.outcomes) h.is
 
 pub has_member : (start now : BoardLog) (place i : ℕ) (h : MembersTaken start now place i) → i < length h.cert.members → HasMember now.entries place i
 has_member start now place i h lt = record { by = h.by; cert = h.cert; outcomes = h.outcomes; is = still_there start now place i h; within = lt }
-
-drop_at : {A : Type 0} (xs : List A) (i : ℕ) (x : A) → slice_get xs i ≡ Some x → drop i xs ≡ x ∷ drop (suc i) xs
-drop_at [] i x e = absurd cc
-drop_at (y ∷ ys) zero x e = let same : y ≡ x = cc in ap (λ z. z ∷ ys) same
-drop_at (y ∷ ys) (suc i) x e = drop_at ys i x e
 
 rise_part : (ms : List Member) (i : ℕ) → ThreadsRise ms → ThreadsRise (drop i ms)
 rise_part [] zero rise = tt
@@ -210,10 +193,6 @@ takes_more [] [] m e h k = (k, tt)
 takes_more [] (x ∷ es) m e h k = absurd h
 takes_more (n ∷ ms) [] m e h k = absurd h
 takes_more (n ∷ ms) (x ∷ es) m e h k = (h.0, takes_more ms es m e h.1 k)
-
-all_more : {A : Type 0} (P : A → Type 0) (xs : List A) (x : A) → AllByRecursion P xs → P x → AllByRecursion P (xs ++ x ∷ [])
-all_more P [] x h k = (k, tt)
-all_more P (y ∷ ys) x h k = (h.0, all_more P ys x h.1 k)
 
 -- the members above still hold theirs
 still_all : (old new : State) (t : ℕ) (ms : List Member) → TakenState old new t → AllByRecursion (λ m. t ≢ m.thread) ms
@@ -254,12 +233,12 @@ module _ (start now : BoardLog) (place i : ℕ) (h : MembersTaken start now plac
         others = λ u ticket o stands.
             let other = not_given (state_of now) (state_of new) m.thread u ticket o after within stands in
             let was = h.others u ticket o (after_take (state_of now) (state_of new) m.thread u (given ticket o) after other stands) in
-            (was.0, subst (λ (ns : List Member). AllByRecursion (λ (n : Member). u ≢ n.thread) ns) (sym next) (all_more (λ (n : Member). u ≢ n.thread) (take i ms) m was.1 other));
+            (was.0, subst (λ (ns : List Member). AllByRecursion (λ (n : Member). u ≢ n.thread) ns) (sym next) (AllByRecursion-append (λ (n : Member). u ≢ n.thread) (take i ms) m was.1 other));
       }
 
 pub members_done : (start now : BoardLog) (place i : ℕ) (h : MembersTaken start now place i) → length h.cert.members ≤ i → HasTakenAll start now place
 members_done start now place i h le =
-    let whole = take-past h.cert.members i le in
+    let whole = take_all h.cert.members i le in
     record {
       by = h.by;
       cert = h.cert;
@@ -273,18 +252,13 @@ members_done start now place i h le =
       others = λ t ticket o stands. let was = h.others t ticket o stands in (was.0, subst (λ (ms : List Member). AllByRecursion (λ (m : Member). t ≢ m.thread) ms) whole was.1);
     }
 
-item_within : {A : Type 0} (xs : List A) (i : ℕ) → i < length xs → (x : A) × (slice_get xs i ≡ Some x)
-item_within [] i lt = absurd (omega arith)
-item_within (x ∷ xs) zero lt = (x, refl)
-item_within (x ∷ xs) (suc i) lt = item_within xs i (omega arith)
-
 -- a turn of the loop, by what is told of the members at the place
 module _ (start now : BoardLog) (place i count : ℕ) (h : MembersTaken start now place i) (tells : TellsCount start.entries place count) where
   within : i < count → i < length h.cert.members
   within lt = let many = tells h.by h.cert h.outcomes h.is in omega arith
 
   member : (lt : i < count) → (m : Member) × (slice_get h.cert.members i ≡ Some m)
-  member lt = item_within h.cert.members i (within lt)
+  member lt = get_some h.cert.members i (within lt)
 
   pub member_there : i < count → HasMember now.entries place i
   member_there lt = has_member start now place i h (within lt)

@@ -17,6 +17,7 @@ use Rattle.te_serial.specs.Runs.{ShowsPlace, NoneGiven, HasOpened, HasOpenedAll,
 use Rattle.te_history.proofs.AfterEntry.{length-state}
 use Rattle.te_serial.proofs.RoundsSoFar.{OpenedSoFar, Callers, skipped, opened_one, shown_idle, shown_settled, none_while, all_opened}
 use Rattle.te_serial.proofs.ClosingsSoFar.{LookedSoFar, looked_first, looked_other, looked_ended, EndedSoFar, ended_one, ended_skip, ended_all, shown_parked, shown_ended, shown_past}
+use Rattle.te_serial.proofs.ListsKept.{not_parked}
 
 turn_of : (t : ℕ) → suc t ≡ t + 1
 turn_of t = omega arith
@@ -57,11 +58,6 @@ pub ended_next : (old now new last : BoardLog) (t : ℕ) (p : Place) → EndedSo
 ended_next old now new last t p h shows is k same =
     let stood = shown_parked (state_of now) t (slice_get (Callers now) t) refl (subst (λ (q : Place). ShowsPlace (slice_get (Callers now) t) q) is shows) in
     subst (λ n. EndedSoFar old last n) (turn_of t) (subst (λ (r : BoardLog). EndedSoFar old r (suc t)) (sym same) (ended_one old now new t stood.0 stood.1 h stood.2 k))
-
-not_parked : (p : Place) → (p ≡ places.Idle) ⊎ (p ≡ places.Given) ⊎ (p ≡ places.Ended) → p ≢ places.Parked
-not_parked p (inl is) e = cc
-not_parked p (inr (inl is)) e = cc
-not_parked p (inr (inr is)) e = cc
 
 pub ended_past : (old now last : BoardLog) (t : ℕ) (p : Place) → EndedSoFar old now t → AllByRecursion IsParkedOrEnded (Callers old)
     → ShowsPlace (slice_get (Callers now) t) p → (p ≡ places.Idle) ⊎ (p ≡ places.Given) ⊎ (p ≡ places.Ended) → last ≡ now → EndedSoFar old last (t + 1)

@@ -7,7 +7,8 @@ use Rattle.std.proofs.lemmas.Bool.Decides.{nat_tests}
 use Rattle.te_terms.specs.declared.value.Atom.{Atom}
 use Rattle.te_terms.specs.Expressions.{Variable, register, name, known, Primitive, int, chan, part, Calculation, one, both, Expression, whole, tuple, in_primitive, in_calculation, in_expression}
 use Rattle.te_terms.specs.Terms.{Term, always, never, fresh, throw, send, recv, and_then, choose, catch, when, replaced, bound, name_to, or_register, or_name, registers_to, closed, scoped}
-use Rattle.te_terms.proofs.TermLemmas.{slice_get_front, slice_get_seam}
+use Rattle.te_terms.proofs.TermLemmas.{slice_get_seam}
+use Rattle.te_terms.proofs.Lists.{get_front}
 
 primitive_twice : (f g : Variable → Variable) (p : Primitive) → in_primitive f (in_primitive g p) ≡ in_primitive (λ x. f (g x)) p
 primitive_twice f g (int z) = refl
@@ -22,7 +23,7 @@ calculations_twice : (f g : Variable → Variable) (cs : List Calculation) → m
 calculations_twice f g [] = refl
 calculations_twice f g (c ∷ cs) = rw (calculation_twice f g c, calculations_twice f g cs) refl
 
-expression_twice : (f g : Variable → Variable) (e : Expression) → in_expression f (in_expression g e) ≡ in_expression (λ x. f (g x)) e
+pub expression_twice : (f g : Variable → Variable) (e : Expression) → in_expression f (in_expression g e) ≡ in_expression (λ x. f (g x)) e
 expression_twice f g (whole x) = refl
 expression_twice f g (tuple cs) = ap tuple (calculations_twice f g cs)
 
@@ -64,7 +65,7 @@ any_name inner v m = elim (cases_order m (length inner)) [
   | inl same ↦
       let P : ℕ → Type 0 = λ k. name_to (length inner) v (or_name (slice_get inner k) k) ≡ or_name (slice_get (inner ++ v ∷ []) k) k in
       subst P (sym same) (next_name inner v)
-  | inr (inl less) ↦ rw (slice_get_front inner (v ∷ []) m less, slice_get-get_or inner m v less) refl
+  | inr (inl less) ↦ rw (get_front inner (v ∷ []) m less, slice_get-get_or inner m v less) refl
   | inr (inr more) ↦
       rw (slice_get_past inner m (omega arith), slice_get_past (inner ++ v ∷ []) m (omega (arith, length-append inner (v ∷ [])))) (other_name (length inner) m v (λ e. omega arith))
 ]

@@ -11,7 +11,7 @@ use Rattle.te_terms.specs.Steps.{Member, IsSettled, quiet_step}
 use Rattle.te_terms.specs.Joint.{Label, choice, meeting, Action, quiet, labelled, with_member, with_term, meeting_of, joint_step, after, after_choice, outcomes_of, and_outcome, as_member, Reduces, CanCommit}
 use Rattle.te_terms.specs.Settling.{CannotChoose, IsOpen}
 
-nobody_can_commit : ¬ CanCommit []
+pub nobody_can_commit : ¬ CanCommit []
 nobody_can_commit commits = commits.is_some refl
 
 -- ---- one member
@@ -66,7 +66,7 @@ lone_cannot_commit p rest still open_end commits =
 abbrev alone : Term → Parked
 alone t = record { thread = 0; ticket = 0; event = t }
 
-still_never : CannotChoose never
+pub still_never : CannotChoose never
 still_never true = refl
 still_never false = refl
 

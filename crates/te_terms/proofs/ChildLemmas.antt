@@ -16,7 +16,7 @@ pub times_named_push : (c : ℕ) (code : List Node) (node : Node) → times_name
 times_named_push c code node = sum_by_push (times_in c) code node
 
 -- a leaf names no child
-times_none : (c : ℕ) (cs : List ℕ) → cs ≡ [] → count_by (λ x. x == c) cs ≡ 0
+pub times_none : (c : ℕ) (cs : List ℕ) → cs ≡ [] → count_by (λ x. x == c) cs ≡ 0
 times_none c cs e = rw e refl
 
 pub leaf_is_free : (code : List Node) (node : Node) → children node ≡ [] → HasFreeChildren code node

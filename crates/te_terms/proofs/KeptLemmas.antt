@@ -16,26 +16,27 @@ use Rattle.te_terms.specs.Measures.{height, choice_count, send_count, receive_co
 use Rattle.te_terms.specs.Limits.{most_nodes, greatest_height, most_fresh}
 use Rattle.te_terms.specs.Shape.{children, times_in, times_named, one_if_fresh, fresh_nodes, NamesEarlier, IsForest, HasFreeChildren, term_over}
 use Rattle.te_terms.specs.Kept.{MarkTells, TellsNew, IsLow, own_weighing, IsKept, IsFree, open_count, nodes_under, fresh_of, as_child, adopted}
-use Rattle.te_terms.proofs.TermLemmas.{IsEarlier, slice_get_front, slice_get_seam, term_at-append, term_at_new}
+use Rattle.te_terms.proofs.TermLemmas.{IsEarlier, slice_get_seam, term_at-append, term_at_new}
+use Rattle.te_terms.proofs.Lists.{get_front}
 use Rattle.te_terms.proofs.ChildLemmas.{times_named_push, no_or_two_children, two_differ, first_free, second_free}
 use Rattle.te_terms.proofs.AdoptLemmas.{length-adopted, kept-adopted, is_child-adopted, open_two_less, adopted_front}
 use Rattle.te_terms.proofs.Measured.{weights_are_nodes}
 use Rattle.te_terms.proofs.SizeLemmas.{leaf_sizes, two_sizes}
 
 -- a list of numbers below n has none from n on
-none_from : (n c : ℕ) (cs : List ℕ) → AllByRecursion (λ x. x < n) cs → n ≤ c → count_by (λ x. x == c) cs ≡ 0
+pub none_from : (n c : ℕ) (cs : List ℕ) → AllByRecursion (λ x. x < n) cs → n ≤ c → count_by (λ x. x == c) cs ≡ 0
 none_from n c [] h le = refl
 none_from n c (x ∷ cs) h le =
     let less : x < n = h.0 in
     sum_by-cons (λ y. cond (y == c) 1 0) x cs ∙ grind (arith, nat_tests, none_from n c cs h.1 le, less)
 
-never_named : (c : ℕ) (code : List Node) → ((i : ℕ) (node : Node) → slice_get code i ≡ Some node → times_in c node ≡ 0) → times_named c code ≡ 0
+pub never_named : (c : ℕ) (code : List Node) → ((i : ℕ) (node : Node) → slice_get code i ≡ Some node → times_in c node ≡ 0) → times_named c code ≡ 0
 never_named c [] h = refl
 never_named c (node ∷ code) h =
     sum_by-cons (times_in c) node code ∙ omega (arith, h 0 node refl, never_named c code (λ i n e. h (suc i) n e))
 
 -- a number from the code's length on has no parent in it
-none_named : (code : List Node) (c : ℕ) → IsEarlier code → length code ≤ c → times_named c code ≡ 0
+pub none_named : (code : List Node) (c : ℕ) → IsEarlier code → length code ≤ c → times_named c code ≡ 0
 none_named code c earlier le =
     never_named c code (λ i node e. none_from i c (children node) (earlier i node e) (omega (arith, slice_get_within code i node e)))
 
@@ -56,7 +57,7 @@ place : (code : List Node) (node other : Node) (i : ℕ) → slice_get (code ++ 
 place code node other i e =
     let within : i < length (code ++ node ∷ []) = slice_get_within (code ++ node ∷ []) i other e in
     elim (cases_lt i (length code)) [
-      | inl less ↦ inl (less, sym (slice_get_front code (node ∷ []) i less) ∙ e)
+      | inl less ↦ inl (less, sym (get_front code (node ∷ []) i less) ∙ e)
       | inr le ↦
           let last : i ≡ length code = omega (arith, length-append code (node ∷ [])) in
           let some : Some node ≡ Some other = sym (slice_get_seam code node []) ∙ ap (slice_get (code ++ node ∷ [])) (sym last) ∙ e in

@@ -1,3 +1,4 @@
+pub mod Lists
 pub mod PaddingLemmas
 pub mod PackedLemmas
 pub mod Evaluating

@@ -8,6 +8,7 @@ use Rattle.te_terms.specs.Limits.{most_atoms}
 use Rattle.te_terms.specs.Padding.{padded}
 use Rattle.te_terms.specs.Packed.{word_of, is_channel, atom_in, atoms_in, words_of, kinds_of, IsNarrow, AreNarrow, IsPacked}
 use Rattle.te_terms.proofs.PaddingLemmas.{padded_set}
+use Rattle.te_terms.proofs.Lists.{not_false}
 
 -- ---- back from the packed form
 
@@ -101,10 +102,6 @@ fields_same p p' e = record {
 
 pub fields_tell : {len len' : ℕ} {ws ws' : List ℤ} {ks ks' : List Bool} → len ≡ len' → ws ≡ ws' → ks ≡ ks' → atoms_in len ws ks ≡ atoms_in len' ws' ks'
 fields_tell {len' = len'} {ws = ws} {ws' = ws'} {ks = ks} e f g = ap (λ n. atoms_in n ws ks) e ∙ ap (λ xs. atoms_in len' xs ks) f ∙ ap (λ xs. atoms_in len' ws' xs) g
-
-pub not_false : (b : Bool) → not b ≡ false → b ≡ true
-not_false true e = refl
-not_false false e = absurd cc
 
 -- two tests of one fact
 pub tests_agree : {P Q : Type 0} (a b : Bool) → Decides a P → Decides b Q → (P → Q) → (Q → P) → a ≡ b

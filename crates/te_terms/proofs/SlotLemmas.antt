@@ -15,6 +15,7 @@ use Rattle.te_terms.specs.declared.slot.Form.{Form}
 use Rattle.te_terms.specs.declared.slot.Form.TheVariants as forms
 use Rattle.te_terms.specs.declared.slot.Slot.{Slot}
 use Rattle.te_terms.specs.Slots.{outline_of, form_of, listed_in, calculations_of, primitive_in, expression_in, node_in, node_of, nodes_of, count_in, needed, IsFew, IsWithin, IsStored}
+use Rattle.te_terms.proofs.Lists.{AllByRecursion-append}
 
 -- ---- a node comes back
 
@@ -101,10 +102,6 @@ within_more (s ∷ slots) list more a = (record { within = omega (arith, a.0.wit
 
 -- ---- one node more
 
-all_more : {X : Type 0} (P : X → Type 0) (xs : List X) (x : X) → AllByRecursion P xs → P x → AllByRecursion P (xs ++ x ∷ [])
-all_more P [] x a p = (p, tt)
-all_more P (y ∷ xs) x a p = (a.0, all_more P xs x a.1 p)
-
 pub record Appended (slots : List Slot) (list : List Calc) (n : Node) : Type 0 where
   pub nodes : nodes_of (slots ++ record { form = form_of n; from = length list } ∷ []) (list ++ calculations_of n) ≡ nodes_of slots list ++ n ∷ []
   pub stored : IsStored (slots ++ record { form = form_of n; from = length list } ∷ []) (list ++ calculations_of n)
@@ -119,7 +116,7 @@ appended slots list n s f =
       nodes = map-append (node_of (list ++ calculations_of n)) slots (slot ∷ []) ∙
           ap (λ ns. ns ++ node_of (list ++ calculations_of n) slot ∷ []) (nodes_more slots list (calculations_of n) s.each) ∙ ap (λ m. nodes_of slots list ++ m ∷ []) last;
       stored = record {
-        each = all_more (IsWithin (list ++ calculations_of n)) slots slot (within_more slots list (calculations_of n) s.each) (record { within = omega (arith, long, needs); few = f });
+        each = AllByRecursion-append (IsWithin (list ++ calculations_of n)) slots slot (within_more slots list (calculations_of n) s.each) (record { within = omega (arith, long, needs); few = f });
         short = omega (arith, s.short, long, needs, few_needed (form_of n) f, length-append slots (slot ∷ []));
       };
     }

@@ -6,6 +6,7 @@ use Rattle.te_terms.specs.declared.code.Node.TheVariants as nodes
 use Rattle.te_terms.specs.Terms.{Term}
 use Rattle.te_terms.specs.Codes.{over, term_within, term_at}
 use Rattle.te_terms.specs.Shape.{NamesEarlier}
+use Rattle.te_terms.proofs.Lists.{get_front}
 
 -- each node names earlier ones
 abbrev pub IsEarlier : List Node → Type 0
@@ -42,11 +43,6 @@ term_at_is code earlier level i =
     over_option (term_within i code) (term_at code) level i (slice_get code i) (earlier i)
     (λ l c less. within_same code earlier i (suc c) l c less (omega arith))
 
-pub slice_get_front : {A : Type 0} (xs ys : List A) (i : ℕ) → i < length xs → slice_get (xs ++ ys) i ≡ slice_get xs i
-slice_get_front [] ys i h = absurd (omega arith)
-slice_get_front (x ∷ xs) ys zero h = refl
-slice_get_front (x ∷ xs) ys (suc i) h = slice_get_front xs ys i (omega arith)
-
 pub slice_get_seam : {A : Type 0} (xs : List A) (y : A) (ys : List A) → slice_get (xs ++ y ∷ ys) (length xs) ≡ Some y
 slice_get_seam [] y ys = refl
 slice_get_seam (x ∷ xs) y ys = slice_get_seam xs y ys
@@ -55,7 +51,7 @@ slice_get_seam (x ∷ xs) y ys = slice_get_seam xs y ys
 within_append : (code more : List Node) → IsEarlier code → (n level i : ℕ) → i < length code → term_within n (code ++ more) level i ≡ term_within n code level i
 within_append code more earlier zero level i h = refl
 within_append code more earlier (suc n) level i h =
-    rw (slice_get_front code more i h) (over_option (term_within n (code ++ more)) (term_within n code) level i (slice_get code i) (earlier i)
+    rw (get_front code more i h) (over_option (term_within n (code ++ more)) (term_within n code) level i (slice_get code i) (earlier i)
     (λ l c less. within_append code more earlier n l c (omega arith)))
 
 pub term_at-append : (code more : List Node) → IsEarlier code → (level i : ℕ) → i < length code → term_at (code ++ more) level i ≡ term_at code level i

@@ -27,20 +27,25 @@ use Rattle.te_trail.specs.Records.{origin_at, member_of_event, members_of, paths
 use Rattle.te_trail.proofs.ClockLaws.{Agrees, agrees_by}
 use Rattle.te_trail.proofs.PastsChain.{grown_has}
 use Rattle.te_trail.proofs.MovesChain.{state_after}
-use Rattle.te_trail.proofs.RecordsRead.{get_some, get_low, got_there, got_or, take_get, length_paths, record_there}
+use Rattle.te_trail.proofs.RecordsRead.{got_or, length_paths, record_there}
+use Rattle.te_terms.proofs.Lists.{get_taken}
+use Rattle.te_terms.proofs.Lists.{get_low}
+use Rattle.te_terms.proofs.Lists.{found_here}
+use Rattle.te_terms.proofs.Lists.{get_some}
 use Rattle.te_trail.proofs.RecordsPut.{AreNew, Missing}
 use Rattle.te_trail.proofs.NewPaths.{planted_record, plant_new, branched_record, SideIs, branch_new, sender_record, receiver_record, met_records, meet_new}
 use Rattle.te_trail.proofs.EventsFound.{event_found, members_put}
 use Rattle.te_trail.proofs.StoresHold.{held, place_held, is_store}
 use Rattle.te_trail.proofs.StoresKeep.{AreAdded, whole_pushed, whole_marked, whole_cut}
-use Rattle.te_trail.proofs.SpotsMove.{some_same, branch_state}
+use Rattle.te_trail.proofs.SpotsMove.{branch_state}
+use Rattle.te_terms.proofs.Lists.{one_item}
 
 abbrev pub viewed : List Planned → List PathRecord → List StoreMark → Trail
 viewed events records marks = record { events = members_of events; paths = paths_of records; marks = map mark_seen marks }
 
 -- ---- moves that are there
 
-moves_held : (rest moves : List Path) (m : Path) → Holds (with_moves moves rest) m → Holds moves m ⊎ Holds rest m
+pub moves_held : (rest moves : List Path) (m : Path) → Holds (with_moves moves rest) m → Holds moves m ⊎ Holds rest m
 moves_held [] moves m h = inl h
 moves_held (x ∷ rest) moves m h = elim (moves_held rest (with_move moves x) m h) [ inl a ↦ one x a | inr b ↦ inr (inr b) ]
   where
@@ -94,7 +99,7 @@ plant_leaves events cells records ticks marks old w v i e ae spot is spells free
     event_at = slice_get-map member_of_event events i ∙ ap (option_map member_of_event) ae
 
     same : (m : Member) → slice_get old.events i ≡ Some m → e.thread ≡ m.thread
-    same m em = let there : slice_get (members_of events) i ≡ Some m = ap (λ o. slice_get o.events i) v ∙ em in ap (λ z. z.thread) (some_same (slice_get (members_of events) i) (member_of_event e) m event_at there)
+    same m em = let there : slice_get (members_of events) i ≡ Some m = ap (λ o. slice_get o.events i) v ∙ em in ap (λ z. z.thread) (one_item (slice_get (members_of events) i) (member_of_event e) m event_at there)
 
     none : ¬ Holds (paths_of records) (planted e.thread)
     none = subst (λ o. ¬ Holds o.paths (planted e.thread)) (sym v) (free (member_of_event e) (ap (λ o. slice_get o.events i) (sym v) ∙ event_at))
@@ -250,13 +255,13 @@ pub cut_leaves : (events : List Planned) (cells : Cells) (records : List PathRec
 cut_leaves events cells records ticks marks old w v i m h e = (r.0, λ k ek. view ∙ ap (back_at old i) (seen k ek))
   where
     em : slice_get marks i ≡ Some m
-    em = got_there marks i m (subst (λ n. i < n) (length-map marks mark_seen) (subst (λ o. i < length o.marks) (sym v) h)) e
+    em = found_here marks i m (subst (λ n. i < n) (length-map marks mark_seen) (subst (λ o. i < length o.marks) (sym v) h)) e
 
     r : StoreIsWhole (take m.events events) (cut_to m.cells cells) (take m.paths records) (take m.ticks ticks) (take i marks) × (paths_of (take m.paths records) ≡ take m.paths (paths_of records))
     r = whole_cut events cells records ticks marks i m w em
 
     seen : (k : Mark) → slice_get old.marks i ≡ Some k → mark_seen m ≡ k
-    seen k ek = let there : slice_get (map mark_seen marks) i ≡ Some (mark_seen m) = slice_get-map mark_seen marks i ∙ ap (option_map mark_seen) em in let also : slice_get (map mark_seen marks) i ≡ Some k = ap (λ o. slice_get o.marks i) v ∙ ek in some_same (slice_get (map mark_seen marks) i) (mark_seen m) k there also
+    seen k ek = let there : slice_get (map mark_seen marks) i ≡ Some (mark_seen m) = slice_get-map mark_seen marks i ∙ ap (option_map mark_seen) em in let also : slice_get (map mark_seen marks) i ≡ Some k = ap (λ o. slice_get o.marks i) v ∙ ek in one_item (slice_get (map mark_seen marks) i) (mark_seen m) k there also
 
     view : viewed (take m.events events) (take m.paths records) (take i marks) ≡ back_at old i (mark_seen m)
     view = ap (λ g. record { events = g; paths = paths_of (take m.paths records); marks = map mark_seen (take i marks) }) (map_take member_of_event m.events events) ∙ ap₂ (λ p k. record { events = take m.events (members_of events); paths = p; marks = k }) r.1 (map_take mark_seen i marks) ∙ ap (λ o. back_at o i (mark_seen m)) v
@@ -273,7 +278,7 @@ cut_done events cells records ticks marks old w v i m h e events2 cells2 records
 -- ---- lists
 
 pub event_there : (events : List Planned) (records : List PathRecord) (marks : List StoreMark) (old : Trail) → viewed events records marks ≡ old → (i : ℕ) (e : Planned) → i < length old.events → e ≡ get_or events i e → slice_get events i ≡ Some e
-event_there events records marks old v i e h at = got_there events i e (omega (arith, h, ap (λ o. length o.events) v, length-map events member_of_event)) at
+event_there events records marks old v i e h at = found_here events i e (omega (arith, h, ap (λ o. length o.events) v, length-map events member_of_event)) at
 
 pub on_one : {A : Type 0} (a b d : List A) (x : A) → d ≡ b ++ (x ∷ []) → b ≡ a → d ≡ a ++ (x ∷ [])
 on_one a b d x e f = e ∙ ap (λ l. l ++ (x ∷ [])) f

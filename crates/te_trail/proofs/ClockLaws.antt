@@ -10,9 +10,7 @@ use Rattle.te_trail.specs.States.{chosen, members_met, MovedEnds, path_state, Ha
 use Rattle.te_trail.specs.Stores.{Holds, IsNext, with_move, with_moves, AreMade, IsStore, labels_of_move, labels_of, same_side, same_path, rests_on, any_rests_on, trail_of, joint_trail}
 use Rattle.te_trail.specs.Views.{Chain, touches, view_of, Begins, HasPast, LeavesAt, ChainOfBoth}
 use Rattle.te_trail.proofs.Lines.{above_self, above_depth, above_thread, above_trans, above_same, above_both, above_line, line_flip, line_depth, ancestor, rests_move, rests_trans, above_rests, rests_made}
-
-pub eq_same : (n : ℕ) → nat_eq n n ≡ true
-eq_same n = eq-eqb n n refl
+use Rattle.te_terms.proofs.Lists.{eq_same}
 
 pub eq_apart : (a b : ℕ) → nat_eq a b ≡ false → nat_eq b a ≡ false
 eq_apart a b ne = go (nat_eq b a) refl

@@ -15,9 +15,14 @@ use Rattle.te_trail.specs.Trails.{TellsWhether, IsPathThread, ClockAt, IsClock}
 use Rattle.te_trail.specs.Walks.{TellsParent, FitAt, AllFit, FittingFor, Misfit, TicksAreLow, TellsFit}
 use Rattle.te_trail.specs.Records.{path_at, last_of, other_end, path_by, mate_of, paths_from, paths_of, is_sender, EndsAfter, EndsWhole, parent_number, HasParent, Fits, FitsAll}
 use Rattle.te_trail.proofs.Lines.{above_self, above_depth, above_thread, above_trans, above_same, above_both, above_line, line_flip, line_depth, ancestor, rests_move, rests_trans, above_rests, rests_made}
-use Rattle.te_trail.proofs.ClockLaws.{eq_same, eq_apart, differ, deeper_left, deeper_right, deeper_either, clock_thread, clock_in, clock_self, Agrees, agrees_by, agree_by, made_planted, made_branched, made_met, clock_top, past_line, agree_line}
+use Rattle.te_trail.proofs.ClockLaws.{eq_apart, differ, deeper_left, deeper_right, deeper_either, clock_thread, clock_in, clock_self, Agrees, agrees_by, agree_by, made_planted, made_branched, made_met, clock_top, past_line, agree_line}
+use Rattle.te_terms.proofs.Lists.{eq_same}
 use Rattle.te_trail.proofs.TicksMerge.{between_step, between_done, between_more, length_between, merged_nil, next_right, next_left, next_lower, next_higher, next_both, IsJoining, joining_start, joining_step, joining_end, IsRaising, raising_start, raising_step, raising_room, raising_end, named_skip, named_here}
-use Rattle.te_trail.proofs.RecordsRead.{get_old, get_new, get_low, get_some, got_there, got_or, get_which, take_get, take_low, take_all, length_from, length_paths, trees_append, shut_append, end_append}
+use Rattle.te_trail.proofs.RecordsRead.{get_old, get_new, got_or, get_which, take_low, take_all, length_from, length_paths, trees_append, shut_append, end_append}
+use Rattle.te_terms.proofs.Lists.{get_taken}
+use Rattle.te_terms.proofs.Lists.{get_low}
+use Rattle.te_terms.proofs.Lists.{found_here}
+use Rattle.te_terms.proofs.Lists.{get_some}
 use Rattle.te_trail.proofs.Ancestors.{AreTidy, node_at, tidy, above_up, above_top, above_number, above_le, numbers_apart, parent_known, AboveAlike, above_start, above_next, above_none, above_end, fits_same, fits_under, fits_own, fits_over, fits_other, line_fits}
 
 pub named_beyond : (t s : ℕ) (ks : List Tick) → AreBeyond t ks → s ≤ t → named s ks ≡ None
@@ -131,15 +136,12 @@ clock_out paths x a t ks g e = go (named t ks) refl (g.clock t)
 clock_into : (paths : List Path) (x : Path) (t m : ℕ) (ks : List Tick) → IsClocked paths x ks → named t ks ≡ Some m → (a : Path) × (slice_get paths m ≡ Some a) × (clock_of x t ≡ Some a)
 clock_into paths x t m ks g e = subst (ClockAt paths x t) e (g.clock t)
 
-eq_self : (n : ℕ) → nat_eq n n ≡ true
-eq_self n = eq-eqb n n refl
-
 agree_from : (paths : List Path) (x y : Path) (ks js : List Tick) → IsClocked paths x ks → IsClocked paths y js → nat_eq (thread_of x) (thread_of y) ≡ false → AllFit (FittingFor paths (thread_of x) (thread_of y)) ks js → Agrees x y
 agree_from paths x y ks js cx cy apart all = record {
   apart = apart;
   lines = λ t a b e f. (at t a b e f).0;
-  first = λ b e. (at (thread_of x) x b (clock_self x cx.sound) e).1 (eq_self (thread_of x));
-  second = λ a e. (at (thread_of y) a y e (clock_self y cy.sound)).2 (eq_self (thread_of y));
+  first = λ b e. (at (thread_of x) x b (clock_self x cx.sound) e).1 (eq_same (thread_of x));
+  second = λ a e. (at (thread_of y) a y e (clock_self y cy.sound)).2 (eq_same (thread_of y));
 }
   where
     at : (t : ℕ) (a b : Path) → clock_of x t ≡ Some a → clock_of y t ≡ Some b → FitAt (nat_eq t (thread_of x)) (nat_eq t (thread_of y)) a b
@@ -184,7 +186,7 @@ known records ticks paths kept view p n h e = subst (λ q. IsKnown records ticks
 })
   where
     en : slice_get records p ≡ Some n
-    en = got_there records p n (omega (arith, h, length_paths records, ap length view)) e
+    en = found_here records p n (omega (arith, h, length_paths records, ap length view)) e
 
     tree : (x : Path) × (slice_get (paths_of records) p ≡ Some x)
     tree = get_some (paths_of records) p (omega (arith, h, ap length view))

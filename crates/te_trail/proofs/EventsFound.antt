@@ -11,10 +11,13 @@ use Rattle.te_trail.specs.Paths.{Path, planted, branched, sent, got}
 use Rattle.te_trail.specs.Trails.{Trail, unplanted}
 use Rattle.te_trail.specs.States.{chosen, MovedEnds, members_met, path_state, HasState}
 use Rattle.te_trail.specs.Records.{origin_at, member_of_event, members_of, ArePlannedEvents}
-use Rattle.te_trail.proofs.ClockLaws.{eq_same}
-use Rattle.te_trail.proofs.RecordsRead.{get_old, get_low, get_which, take_get}
+use Rattle.te_terms.proofs.Lists.{eq_same}
+use Rattle.te_trail.proofs.RecordsRead.{get_old, get_which}
+use Rattle.te_terms.proofs.Lists.{get_taken}
+use Rattle.te_terms.proofs.Lists.{get_low}
 use Rattle.te_trail.proofs.PastsChain.{then_some, parts_of}
-use Rattle.te_trail.proofs.MovesChain.{mapped}
+use Rattle.te_terms.proofs.Lists.{some_map}
+use Rattle.te_terms.proofs.Lists.{take_all}
 
 events_rest : (x : Planned) (xs : List Planned) → ArePlannedEvents (x ∷ xs) → ArePlannedEvents xs
 events_rest x xs are = record {
@@ -78,7 +81,7 @@ member_more (x ∷ g) more t m e = go (member_more g more t m) (nat_eq x.thread 
 -- a state stays while events are put behind the others
 pub state_more : (g more : List Member) (x : Path) (m : Member) → path_state g x ≡ Some m → path_state (g ++ more) x ≡ Some m
 state_more g more (planted t) m e =
-    let a : (n : Member) × (member_of t g ≡ Some n) × (settled n ≡ m) = mapped settled (member_of t g) m e in
+    let a : (n : Member) × (member_of t g ≡ Some n) × (settled n ≡ m) = some_map settled (member_of t g) m e in
     ap (option_map settled) (member_more g more t a.0 a.1) ∙ ap Some a.2
 state_more g more (branched p left) m e =
     let a : (n : Member) × (path_state g p ≡ Some n) × (option_map settled (chosen left n) ≡ Some m) = then_some (λ n. option_map settled (chosen left n)) (path_state g p) m e in
@@ -124,13 +127,7 @@ one_more ps i x e = go ps i e ∙ ap (λ n. as_group (take n ps)) (let n : suc i
     go (p ∷ ps) zero e = let is : p ≡ x = cc in ap (λ y. as_member y ∷ []) (sym is)
     go (p ∷ ps) (suc i) e = ap (λ r. as_member p ∷ r) (go ps i e)
 
-pub take_whole : {A : Type 0} (xs : List A) (i : ℕ) → length xs ≤ i → take i xs ≡ xs
-take_whole [] zero h = refl
-take_whole [] (suc i) h = refl
-take_whole (x ∷ xs) zero h = absurd (omega (arith, h))
-take_whole (x ∷ xs) (suc i) h = ap (λ r. x ∷ r) (take_whole xs i (omega (arith, h)))
-
 -- all events are put
 pub all_taken : (store : Trail) (ps : List Parked) (i : ℕ) → store.events ≡ as_group (take i ps) → store.paths ≡ [] → store.marks ≡ [] → length ps ≤ i → store ≡ unplanted (as_group ps)
 all_taken store ps i e p m h =
-    ap (λ es. record { events = es; paths = store.paths; marks = store.marks }) (e ∙ ap as_group (take_whole ps i h)) ∙ ap₂ (λ a b. record { events = as_group ps; paths = a; marks = b }) p m
+    ap (λ es. record { events = es; paths = store.paths; marks = store.marks }) (e ∙ ap as_group (take_all ps i h)) ∙ ap₂ (λ a b. record { events = as_group ps; paths = a; marks = b }) p m

@@ -9,7 +9,9 @@ use Rattle.te_terms.specs.Settling.{Quietly, here, after_one, settled}
 use Rattle.te_terms.proofs.Settles.{settled_is_reached, quietly_thread, settled_thread}
 use Rattle.te_trail.specs.States.{chosen, MovedEnds, members_met_by, members_met}
 use Rattle.te_trail.specs.Views.{Chain, touches, view_of}
-use Rattle.te_trail.proofs.ClockLaws.{eq_same, eq_apart}
+use Rattle.te_trail.proofs.ClockLaws.{eq_apart}
+use Rattle.te_terms.proofs.Lists.{eq_same}
+use Rattle.te_terms.proofs.Lists.{some_map}
 
 -- ---- finding
 
@@ -98,10 +100,6 @@ quiets g i m end (after_one m2 n end2 q more) e =
 -- a member that is put in its thread's place settles there
 pub settles_there : (g : List Member) (i : ℕ) (n : Member) → member_of i g ≡ Some n → Moves g [] i (settled n)
 settles_there g i n e = quiets g i n (settled n) (settled_is_reached n) e
-
-some_map : {A B : Type 0} (f : A → B) (o : Option A) (y : B) → option_map f o ≡ Some y → (x : A) × (o ≡ Some x) × (f x ≡ y)
-some_map f None y e = cc
-some_map f (Some x) y e = (x, refl, cc)
 
 pub chooses : (g : List Member) (i : ℕ) (left : Bool) (m u : Member) → member_of i g ≡ Some m → chosen left m ≡ Some u → Moves g (choice i left ∷ []) i (settled u)
 chooses g i left m u e c = go (some_map (at_term m) (after_choice left m.term) u c)

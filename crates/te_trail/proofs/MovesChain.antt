@@ -10,8 +10,10 @@ use Rattle.te_trail.specs.States.{chosen, members_met, MovedEnds, path_state, Ha
 use Rattle.te_trail.specs.Stores.{Holds, IsNext, with_move, with_moves, AreMade, IsStore, labels_of_move, labels_of, same_side, same_path, rests_on, any_rests_on, trail_of, joint_trail}
 use Rattle.te_trail.specs.Views.{Chain, touches, view_of, Begins, HasPast, LeavesAt, ChainOfBoth}
 use Rattle.te_trail.proofs.Lines.{above_self, above_depth, above_thread, above_trans, above_same, above_both, above_line, line_flip, line_depth, ancestor, rests_move, rests_trans, above_rests, rests_made}
-use Rattle.te_trail.proofs.ClockLaws.{eq_same, eq_apart, differ, deeper_left, deeper_right, deeper_either, clock_thread, clock_in, clock_self, Agrees, agrees_by, agree_by, made_planted, made_branched, made_met, clock_top, past_line, agree_line}
+use Rattle.te_trail.proofs.ClockLaws.{eq_apart, differ, deeper_left, deeper_right, deeper_either, clock_thread, clock_in, clock_self, Agrees, agrees_by, agree_by, made_planted, made_branched, made_met, clock_top, past_line, agree_line}
+use Rattle.te_terms.proofs.Lists.{eq_same}
 use Rattle.te_trail.proofs.MembersMove.{found_thread, found_new, found_other, chain_append, labels_append, view_append, no_chain, chain_on, Moves, quiets, settles_there, chooses, Meets, Handing, handing, meets}
+use Rattle.te_terms.proofs.Lists.{some_map}
 
 -- a set of moves that is closed, and whose paths of one thread stand on one line
 pub record Together (g : List Member) : Type 0 where
@@ -103,15 +105,11 @@ at_moved g s done h w t at n m k l nm tn sm one below stand told = record {
     top x tx sx (inl e) = subst (λ q. IsAbove x q) (one x e tx) (above_self x)
     top x tx sx (inr d) = let a : (z : Path) × (at.place ≡ Some z) × IsAbove x z = at.top x tx sx d in above_trans x a.0 n a.2 (below a.0 a.1)
 
-pub mapped : {A B : Type 0} (f : A → B) (o : Option A) (y : B) → option_map f o ≡ Some y → (x : A) × (o ≡ Some x) × (f x ≡ y)
-mapped f None y e = cc
-mapped f (Some x) y e = (x, refl, cc)
-
 -- what the state of a path says of its parents'
 pub state_branched : (g : List Member) (p : Path) (l : Bool) (e v : Member) → path_state g p ≡ Some e → path_state g (branched p l) ≡ Some v → (u : Member) × (chosen l e ≡ Some u) × (settled u ≡ v)
 state_branched g p l e v at h =
     let there : option_map settled (chosen l e) ≡ Some v = subst (λ o. option_and_then (λ m. option_map settled (chosen l m)) o ≡ Some v) at h in
-    mapped settled (chosen l e) v there
+    some_map settled (chosen l e) v there
 
 pub state_after : (g : List Member) (s r : Path) (a b : Member) (p : MovedEnds) → path_state g s ≡ Some a → path_state g r ≡ Some b → members_met a b ≡ Some p → (path_state g (sent s r) ≡ Some (settled p.sender)) × (path_state g (got s r) ≡ Some (settled p.receiver))
 state_after g s r a b p sa sb m = (rw (sa, sb, m) refl, rw (sa, sb, m) refl)
@@ -120,7 +118,7 @@ pub state_met : (g : List Member) (s r : Path) (a b v : Member) → path_state g
 state_met g s r a b v sa sb h =
     let one : option_and_then (λ y. option_map (λ p. settled p.sender) (members_met a y)) (path_state g r) ≡ Some v = subst (λ o. option_and_then (λ x. option_and_then (λ y. option_map (λ p. settled p.sender) (members_met x y)) (path_state g r)) o ≡ Some v) sa h in
     let there : option_map (λ p. settled p.sender) (members_met a b) ≡ Some v = subst (λ o. option_and_then (λ y. option_map (λ p. settled p.sender) (members_met a y)) o ≡ Some v) sb one in
-    let m : (p : MovedEnds) × (members_met a b ≡ Some p) × (settled p.sender ≡ v) = mapped (λ p. settled p.sender) (members_met a b) v there in
+    let m : (p : MovedEnds) × (members_met a b ≡ Some p) × (settled p.sender ≡ v) = some_map (λ p. settled p.sender) (members_met a b) v there in
     let next : (path_state g (sent s r) ≡ Some (settled m.0.sender)) × (path_state g (got s r) ≡ Some (settled m.0.receiver)) = state_after g s r a b m.0 sa sb m.1 in
     (m.0, m.1, next.0, next.1)
 
@@ -154,7 +152,7 @@ plants : (g : List Member) (s : Together g) (done : List Path) (h : List Member)
 plants g s done h w ats shut t inside new =
     let free : (ats t).place ≡ None = place_none g s done h w t (ats t) shut inside new in
     let fit : (e : Member) × (path_state g (planted t) ≡ Some e) = s.fits (planted t) inside in
-    let ev : (x : Member) × (member_of t g ≡ Some x) × (settled x ≡ fit.0) = mapped settled (member_of t g) fit.0 fit.1 in
+    let ev : (x : Member) × (member_of t g ≡ Some x) × (settled x ≡ fit.0) = some_map settled (member_of t g) fit.0 fit.1 in
     let now : member_of t h ≡ Some ev.0 = (ats t).stands ∙ ap (stands_at g t) free ∙ ev.1 in
     let mv : Moves h [] t (settled ev.0) = settles_there h t ev.0 now in
     record {

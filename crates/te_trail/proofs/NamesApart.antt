@@ -11,8 +11,9 @@ use Rattle.te_trail.specs.Stores.{Holds, with_moves, AreMade, IsStore, trail_of,
 use Rattle.te_trail.specs.Views.{Chain, touches, view_of, HasPast, LeavesAt, Name, path_name_of, IsPathName}
 use Rattle.te_trail.specs.Together.{ChainOfAll, AllAgree, AreAmong, NamesDeepest}
 use Rattle.te_trail.proofs.Lines.{rests_move}
-use Rattle.te_trail.proofs.ClockLaws.{eq_same, Agrees, agrees_by, clock_thread, clock_in, clock_top}
-use Rattle.te_trail.proofs.MovesChain.{mapped}
+use Rattle.te_trail.proofs.ClockLaws.{Agrees, agrees_by, clock_thread, clock_in, clock_top}
+use Rattle.te_terms.proofs.Lists.{eq_same}
+use Rattle.te_terms.proofs.Lists.{some_map}
 use Rattle.te_trail.proofs.PastsChain.{then_some, Agreeing, PastsAre, one_chain, true_pasts, grown_has, team_low}
 use Rattle.te_trail.proofs.OwnMoves.{unique}
 use Rattle.te_trail.proofs.AgreeIsExact.{known_in, names_apart, path_played}
@@ -69,11 +70,11 @@ absent_with t n (x ∷ g) e = go (absent_with t n g) (nat_eq x.thread t) refl (n
 
 step_absent : (t : ℕ) (a : Action) (g h : List Member) → joint_step a g ≡ Some h → member_of t g ≡ None → member_of t h ≡ None
 step_absent t (quiet i) g h e none =
-    let a : (n : Member) × (option_and_then quiet_step (member_of i g) ≡ Some n) × (with_member n g ≡ h) = mapped (λ m. with_member m g) (option_and_then quiet_step (member_of i g)) h e in
+    let a : (n : Member) × (option_and_then quiet_step (member_of i g) ≡ Some n) × (with_member n g ≡ h) = some_map (λ m. with_member m g) (option_and_then quiet_step (member_of i g)) h e in
     subst (λ x. member_of t x ≡ None) a.2 (absent_with t a.0 g none)
 step_absent t (labelled (choice i left)) g h e none =
     let a : (m : Member) × (member_of i g ≡ Some m) × (option_map (with_term g m) (after_choice left m.term) ≡ Some h) = then_some (λ m. option_map (with_term g m) (after_choice left m.term)) (member_of i g) h e in
-    let b : (u : Term) × (after_choice left a.0.term ≡ Some u) × (with_term g a.0 u ≡ h) = mapped (with_term g a.0) (after_choice left a.0.term) h a.2 in
+    let b : (u : Term) × (after_choice left a.0.term ≡ Some u) × (with_term g a.0 u ≡ h) = some_map (with_term g a.0) (after_choice left a.0.term) h a.2 in
     subst (λ x. member_of t x ≡ None) b.2 (absent_with t (at_term a.0 b.0) g none)
 step_absent t (labelled (meeting i j)) g h e none = go (nat_eq i j) e
   where

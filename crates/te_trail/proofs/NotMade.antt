@@ -20,9 +20,9 @@ use Rattle.std.proofs.lemmas.Option.{slice_get-map}
 use Rattle.std.specs.Option.{option_map}
 use Rattle.te_trail.specs.declared.planned.Planned.{Planned}
 use Rattle.te_trail.specs.Records.{members_of, member_of_event, paths_of, IsMadeBy, parent_number, HasParent, Fits, FitsAll}
-use Rattle.te_trail.proofs.RecordsRead.{get_low}
+use Rattle.te_terms.proofs.Lists.{get_low}
 use Rattle.te_trail.proofs.StoresHold.{place_held}
-use Rattle.te_trail.proofs.SpotsMove.{some_same}
+use Rattle.te_terms.proofs.Lists.{one_item}
 
 -- ---- none of all
 
@@ -51,7 +51,7 @@ parent_is : (paths : List Path) → ((i j : ℕ) (x : Path) → slice_get paths 
 parent_is paths once k p par l x y up e ex = by l up
   where
     some : (par < k) × (z : Path) × (slice_get paths par ≡ Some z) × (parent_of y ≡ Some z) → par ≡ p
-    some (h, z, ez, pz) = once par p x (ez ∙ ap Some (some_same (parent_of y) z x pz e)) ex
+    some (h, z, ez, pz) = once par p x (ez ∙ ap Some (one_item (parent_of y) z x pz e)) ex
 
     by : (l : Last) → HasParent paths k y (parent_number l par) → par ≡ p
     by Root u = let none : parent_of y ≡ None = u in cc
@@ -122,15 +122,15 @@ meeting_other paths k p q n h free x z y ex ez ey is = by n.last refl (subst (Is
 pub at_choice : (store : Trail) (p : ℕ) (stop : Stop) → stop ≡ stops.Choice → IsStop store p stop → IsAtChoice store p
 at_choice store p stop e told x m ex sm =
     let l : (k : Member) × IsLeft store.events store.paths x k × StandsAt k.term stop = told x ex in
-    let one : l.0 ≡ m = some_same (path_state store.events x) l.0 m l.1.state sm in
+    let one : l.0 ≡ m = one_item (path_state store.events x) l.0 m l.1.state sm in
     subst (λ k. StandsAt k.term stops.Choice) one (subst (StandsAt l.0.term) e l.2)
 
 pub are_ends : (store : Trail) (p q : ℕ) (first second : Stop) (c d : ℕ) (v : List Atom) → first ≡ stops.Send c v → second ≡ stops.Recv d → c ≡ d → IsStop store p first → IsStop store q second → AreMeetingEnds store p q
 are_ends store p q first second c d v e f same tp tq x y a b ex ey sa sb =
     let l : (k : Member) × IsLeft store.events store.paths x k × StandsAt k.term first = tp x ex in
     let m : (k : Member) × IsLeft store.events store.paths y k × StandsAt k.term second = tq y ey in
-    let one : l.0 ≡ a = some_same (path_state store.events x) l.0 a l.1.state sa in
-    let two : m.0 ≡ b = some_same (path_state store.events y) m.0 b m.1.state sb in
+    let one : l.0 ≡ a = one_item (path_state store.events x) l.0 a l.1.state sa in
+    let two : m.0 ≡ b = one_item (path_state store.events y) m.0 b m.1.state sb in
     let sends : sending a.term ≡ Some (record { channel = c; value = v }) = subst (λ k. StandsAt k.term (stops.Send c v)) one (subst (StandsAt l.0.term) e l.2) in
     let receives : receiving b.term ≡ Some d = subst (λ k. StandsAt k.term (stops.Recv d)) two (subst (StandsAt m.0.term) f m.2) in
     record { message = record { channel = c; value = v }; sends = sends; receives = receives ∙ ap Some (sym same) }
@@ -144,7 +144,7 @@ meeting_apart paths k p q n h free x z y ex ez ey is = free (h.parent p x y ex e
 pub event_thread : (events : List Planned) (store : Trail) → members_of events ≡ store.events → (i : ℕ) (e : Planned) → slice_get events i ≡ Some e → (m : Member) → slice_get store.events i ≡ Some m → m.thread ≡ e.thread
 event_thread events store v i e at m em =
     let there : slice_get (members_of events) i ≡ Some (member_of_event e) = slice_get-map member_of_event events i ∙ ap (option_map member_of_event) at in
-    ap (λ z. z.thread) (some_same (slice_get (members_of events) i) m (member_of_event e) (ap (λ es. slice_get es i) v ∙ em) there)
+    ap (λ z. z.thread) (one_item (slice_get (members_of events) i) m (member_of_event e) (ap (λ es. slice_get es i) v ∙ em) there)
 
 pub absent_by : (g : List Member) (t n : ℕ) → length g ≤ n → NoneBefore (IsNoEvent g t) n → member_of t g ≡ None
 absent_by [] t n h none = refl

@@ -10,13 +10,12 @@ use Rattle.te_trail.specs.States.{chosen, members_met, MovedEnds, path_state, Ha
 use Rattle.te_trail.specs.Stores.{Holds, IsNext, with_move, with_moves, AreMade, IsStore, labels_of_move, labels_of, same_side, same_path, rests_on, any_rests_on, trail_of, joint_trail}
 use Rattle.te_trail.specs.Views.{Chain, touches, view_of, Begins, HasPast, LeavesAt, ChainOfBoth}
 use Rattle.te_trail.proofs.Lines.{above_self, above_depth, above_thread, above_trans, above_same, above_both, above_line, line_flip, line_depth, ancestor, rests_move, rests_trans, above_rests, rests_made}
-use Rattle.te_trail.proofs.ClockLaws.{eq_same, eq_apart, differ, deeper_left, deeper_right, deeper_either, clock_thread, clock_in, clock_self, Agrees, agrees_by, agree_by, made_planted, made_branched, made_met, clock_top, past_line, agree_line}
+use Rattle.te_trail.proofs.ClockLaws.{eq_apart, differ, deeper_left, deeper_right, deeper_either, clock_thread, clock_in, clock_self, Agrees, agrees_by, agree_by, made_planted, made_branched, made_met, clock_top, past_line, agree_line}
+use Rattle.te_terms.proofs.Lists.{eq_same}
 use Rattle.te_trail.proofs.MembersMove.{found_thread, found_new, found_other, chain_append, labels_append, view_append, no_chain, chain_on, Moves, quiets, settles_there, chooses, Meets, Handing, handing, meets}
-use Rattle.te_trail.proofs.MovesChain.{Together, stands_at, owned_by, PlaceAt, AreClosed, AllPlaced, mapped, state_branched, state_after, state_met, view_choice, view_choice_other, view_sender, view_receiver, view_other, Goes_on, shut_grow, runs, shut_grown, store_shut, runs_all}
-
-both : (a b : Bool) → a && b ≡ true → (a ≡ true) × (b ≡ true)
-both true b e = (refl, e)
-both false b e = cc
+use Rattle.te_trail.proofs.MovesChain.{Together, stands_at, owned_by, PlaceAt, AreClosed, AllPlaced, state_branched, state_after, state_met, view_choice, view_choice_other, view_sender, view_receiver, view_other, Goes_on, shut_grow, runs, shut_grown, store_shut, runs_all}
+use Rattle.te_terms.proofs.Lists.{some_map}
+use Rattle.te_terms.proofs.Lists.{both}
 
 either : (a b : Bool) → a || b ≡ true → (a ≡ true) ⊎ (b ≡ true)
 either true b e = inl refl
@@ -100,7 +99,7 @@ pub parts_of : (g : List Member) (s r : Path) (f : MovedEnds → Member) (v : Me
 parts_of g s r f v e =
     let a : (x : Member) × (path_state g s ≡ Some x) × (option_and_then (λ b. option_map f (members_met x b)) (path_state g r) ≡ Some v) = then_some (λ a. option_and_then (λ b. option_map f (members_met a b)) (path_state g r)) (path_state g s) v e in
     let b : (x : Member) × (path_state g r ≡ Some x) × (option_map f (members_met a.0 x) ≡ Some v) = then_some (λ b. option_map f (members_met a.0 b)) (path_state g r) v a.2 in
-    let m : (x : MovedEnds) × (members_met a.0 b.0 ≡ Some x) × (f x ≡ v) = mapped f (members_met a.0 b.0) v b.2 in
+    let m : (x : MovedEnds) × (members_met a.0 b.0 ≡ Some x) × (f x ≡ v) = some_map f (members_met a.0 b.0) v b.2 in
     (a.0, b.0, m.0, a.1, b.1, m.1)
 
 pub fits_past : (g : List Member) (p x : Path) → HasState g p → RestsOn (move_of x) p → HasState g x

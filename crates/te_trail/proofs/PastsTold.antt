@@ -18,9 +18,12 @@ use Rattle.te_trail.specs.Records.{paths_of, IsMadeBy, Fits, FitsAll}
 use Rattle.te_trail.proofs.Lines.{rests_move, above_rests}
 use Rattle.te_trail.proofs.ClockLaws.{clock_in, clock_top}
 use Rattle.te_trail.proofs.PastsChain.{rests_true, true_rests}
-use Rattle.te_trail.proofs.RecordsRead.{get_some, get_low, got_there, length_paths}
+use Rattle.te_trail.proofs.RecordsRead.{length_paths}
+use Rattle.te_terms.proofs.Lists.{get_low}
+use Rattle.te_terms.proofs.Lists.{found_here}
+use Rattle.te_terms.proofs.Lists.{get_some}
 use Rattle.te_trail.proofs.StoresHold.{held}
-use Rattle.te_trail.proofs.SpotsMove.{some_same}
+use Rattle.te_terms.proofs.Lists.{one_item}
 
 -- ---- whether a path rests on a move
 
@@ -37,7 +40,7 @@ rests_by_clock paths sound p i t c answer thread is tells x y ex ey = go (is x e
     go (z, ez, k) = ((λ a. clock_in x t z (move_of y) k (above_rests y z (move_of y) ((tells y z ey ez).0 a) (rests_move y))), (λ r. (tells y z ey ez).1 (back (clock_top x (sound p x ex) y r))))
       where
         back : (d : Path) × (clock_of x (thread_of y) ≡ Some d) × IsAbove y d → IsAbove y z
-        back (d, kd, up) = subst (IsAbove y) (some_same (clock_of x t) d z (ap (clock_of x) (sym (thread y ey)) ∙ kd) k) up
+        back (d, kd, up) = subst (IsAbove y) (one_item (clock_of x t) d z (ap (clock_of x) (sym (thread y ey)) ∙ kd) k) up
 
 pub rests_not : (paths : List Path) → ((k : ℕ) (x : Path) → slice_get paths k ≡ Some x → IsSound x) → (p i t : ℕ) → IsPathThread paths i t → IsClock paths p t None → TellsWhether paths p i IsInPast false
 rests_not paths sound p i t thread is x y ex ey = ((λ a. absurd (not_true a)), (λ r. absurd (none (clock_top x (sound p x ex) y r))))
@@ -139,7 +142,7 @@ past_not paths p i answer e tells x y ex ey = sym (ap (λ o. cond o (labels_of_m
 abbrev pub TrailSo : List Path → ℕ → ℕ → List Move → Type 0
 TrailSo paths p i made = (x : Path) → slice_get paths p ≡ Some x → map label_of made ≡ labels_of (rests_on x) (take i paths)
 
-labels_append : (has : Path → Bool) (xs ys : List Path) → labels_of has (xs ++ ys) ≡ labels_of has xs ++ labels_of has ys
+pub labels_append : (has : Path → Bool) (xs ys : List Path) → labels_of has (xs ++ ys) ≡ labels_of has xs ++ labels_of has ys
 labels_append has [] ys = refl
 labels_append has (x ∷ xs) ys = ap (λ r. cond (has x) (labels_of_move x) [] ++ r) (labels_append has xs ys) ∙ sym (append_assoc (cond (has x) (labels_of_move x) []) (labels_of has xs) (labels_of has ys))
 

@@ -14,8 +14,13 @@ use Rattle.te_trail.specs.Trails.{TellsWhether, IsPathThread, ClockAt, IsClock}
 use Rattle.te_trail.specs.Walks.{TellsParent, FitAt, AllFit, FittingFor, Misfit, TicksAreLow, TellsFit}
 use Rattle.te_trail.specs.Records.{path_at, last_of, other_end, path_by, mate_of, paths_from, paths_of, is_sender, EndsAfter, EndsWhole, parent_number, HasParent, Fits, FitsAll}
 use Rattle.te_trail.proofs.Lines.{above_self, above_depth, above_thread, above_trans, above_same, above_both, above_line, line_flip, line_depth, ancestor, rests_move, rests_trans, above_rests, rests_made}
-use Rattle.te_trail.proofs.ClockLaws.{eq_same, eq_apart, differ, deeper_left, deeper_right, deeper_either, clock_thread, clock_in, clock_self, Agrees, agrees_by, agree_by, made_planted, made_branched, made_met, clock_top, past_line, agree_line}
+use Rattle.te_trail.proofs.ClockLaws.{eq_apart, differ, deeper_left, deeper_right, deeper_either, clock_thread, clock_in, clock_self, Agrees, agrees_by, agree_by, made_planted, made_branched, made_met, clock_top, past_line, agree_line}
+use Rattle.te_terms.proofs.Lists.{eq_same}
 use Rattle.te_trail.proofs.TicksMerge.{between_step, between_done, between_more, length_between, merged_nil, next_right, next_left, next_lower, next_higher, next_both, IsJoining, joining_start, joining_step, joining_end, IsRaising, raising_start, raising_step, raising_room, raising_end, named_skip, named_here}
+use Rattle.te_terms.proofs.Lists.{get_some}
+use Rattle.te_terms.proofs.Lists.{found_here}
+use Rattle.te_terms.proofs.Lists.{get_low}
+use Rattle.te_terms.proofs.Lists.{get_taken}
 
 pub get_old : {A : Type 0} (xs ys : List A) (y : A) (k : ℕ) → slice_get xs k ≡ Some y → slice_get (xs ++ ys) k ≡ Some y
 get_old [] ys y k e = cc
@@ -26,21 +31,6 @@ pub get_new : {A : Type 0} (xs ys : List A) (k : ℕ) → slice_get (xs ++ ys) (
 get_new [] ys k = ap (slice_get ys) (let e : 0 + k ≡ k = omega arith in e)
 get_new (z ∷ xs) ys k = ap (slice_get (z ∷ (xs ++ ys))) (let e : suc (length xs) + k ≡ suc (length xs + k) = omega arith in e) ∙ get_new xs ys k
 
-pub get_low : {A : Type 0} (xs : List A) (y : A) (k : ℕ) → slice_get xs k ≡ Some y → k < length xs
-get_low [] y k e = cc
-get_low (z ∷ xs) y zero e = omega arith
-get_low (z ∷ xs) y (suc k) e = omega (arith, get_low xs y k e)
-
-pub get_some : {A : Type 0} (xs : List A) (k : ℕ) → k < length xs → (x : A) × (slice_get xs k ≡ Some x)
-get_some [] k h = absurd (omega (arith, h))
-get_some (x ∷ xs) zero h = (x, refl)
-get_some (x ∷ xs) (suc k) h = get_some xs k (omega (arith, h))
-
-pub got_there : {A : Type 0} (xs : List A) (i : ℕ) (x : A) → i < length xs → x ≡ get_or xs i x → slice_get xs i ≡ Some x
-got_there [] i x h e = absurd (omega (arith, h))
-got_there (y ∷ xs) zero x h e = ap Some (sym e)
-got_there (y ∷ xs) (suc i) x h e = got_there xs i x (omega (arith, h)) e
-
 pub got_or : {A : Type 0} (xs : List A) (i : ℕ) (x d : A) → slice_get xs i ≡ Some x → get_or xs i d ≡ x
 got_or [] i x d e = cc
 got_or (y ∷ xs) zero x d e = cc
@@ -50,12 +40,6 @@ pub get_which : {A : Type 0} (xs ys : List A) (y : A) (k : ℕ) → slice_get (x
 get_which [] ys y k e = inr (k, omega arith, e)
 get_which (z ∷ xs) ys y zero e = inl e
 get_which (z ∷ xs) ys y (suc k) e = elim (get_which xs ys y k e) [ inl h ↦ inl h | inr h ↦ inr (h.0, omega (arith, h.1), h.2) ]
-
-pub take_get : {A : Type 0} (xs : List A) (n k : ℕ) (x : A) → slice_get (take n xs) k ≡ Some x → (k < n) × (slice_get xs k ≡ Some x)
-take_get xs zero k x e = cc
-take_get [] (suc n) k x e = cc
-take_get (y ∷ xs) (suc n) zero x e = (omega arith, e)
-take_get (y ∷ xs) (suc n) (suc k) x e = let r : (k < n) × (slice_get xs k ≡ Some x) = take_get xs n k x e in (omega (arith, r.0), r.1)
 
 pub take_low : {A : Type 0} (xs : List A) (n m : ℕ) → n ≤ m → take n (take m xs) ≡ take n xs
 take_low xs zero m h = refl
@@ -105,4 +89,4 @@ end_append (y ∷ z ∷ acc) x = end_append (z ∷ acc) x
 
 -- the record of a path
 pub record_there : (records : List PathRecord) (paths : List Path) (p : ℕ) (n : PathRecord) → paths_of records ≡ paths → p < length paths → n ≡ get_or records p n → slice_get records p ≡ Some n
-record_there records paths p n view h e = got_there records p n (omega (arith, h, length_paths records, ap length view)) e
+record_there records paths p n view h e = found_here records p n (omega (arith, h, length_paths records, ap length view)) e

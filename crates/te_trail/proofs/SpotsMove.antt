@@ -20,11 +20,9 @@ use Rattle.te_trail.specs.Paths.{Path, branched}
 use Rattle.te_trail.specs.States.{chosen, MovedEnds, members_met, path_state}
 use Rattle.te_trail.specs.Trails.{FaceEachOther}
 use Rattle.te_trail.specs.Records.{origin_at, SpotSpells, BothMet}
-use Rattle.te_trail.proofs.ClockLaws.{eq_same}
-use Rattle.te_trail.proofs.RecordsRead.{get_low}
-
-pub some_same : {A : Type 0} (o : Option A) (x y : A) → o ≡ Some x → o ≡ Some y → x ≡ y
-some_same o x y e f = cc
+use Rattle.te_terms.proofs.Lists.{eq_same}
+use Rattle.te_terms.proofs.Lists.{get_low}
+use Rattle.te_terms.proofs.Lists.{one_item}
 
 -- of the event there
 pub record SpellsAt (e : Planned) (c : Cells) (s : Spot) (m : Member) : Type 0 where
@@ -33,7 +31,7 @@ pub record SpellsAt (e : Planned) (c : Cells) (s : Spot) (m : Member) : Type 0 w
 
 pub spells_at : (events : List Planned) (c : Cells) (i : ℕ) (s : Spot) (m : Member) (e : Planned) → SpotSpells events c i s m → slice_get events i ≡ Some e → SpellsAt e c s m
 spells_at events c i s m e sp at =
-    let one : sp.event ≡ e = some_same (slice_get events i) sp.event e sp.is_event at in
+    let one : sp.event ≡ e = one_item (slice_get events i) sp.event e sp.is_event at in
     record { is_spot = subst (λ x. IsSpot (origin_at x) c s) one sp.is_spot; spells = ap (λ x. spelled (origin_at x) c s) (sym one) ∙ sp.spells }
 
 pub spells_low : (events : List Planned) (c : Cells) (i : ℕ) (s : Spot) (m : Member) → SpotSpells events c i s m → i < length events
@@ -61,14 +59,14 @@ branch_state g x left m end e step =
 sent_end : (a end : Member) (message : Message) → sending a.term ≡ Some message → StepsTo a (after_sending a.term) end → settled (at_term a (with_head (giving []) a.term)) ≡ end
 sent_end a end message e step =
     let is : after_sending a.term ≡ Some (with_head (giving []) a.term) = ap (option_map (λ m. with_head (giving []) a.term)) e in
-    let one : with_head (giving []) a.term ≡ step.next = some_same (after_sending a.term) (with_head (giving []) a.term) step.next is step.steps in
+    let one : with_head (giving []) a.term ≡ step.next = one_item (after_sending a.term) (with_head (giving []) a.term) step.next is step.steps in
     ap (λ t. settled (at_term a t)) one ∙ step.settles
 
 -- the receiver goes on with the value
 got_end : (b end : Member) (v : List Atom) (channel : ℕ) → receiving b.term ≡ Some channel → StepsTo b (after_receiving v b.term) end → settled (at_term b (with_head (giving v) b.term)) ≡ end
 got_end b end v channel e step =
     let is : after_receiving v b.term ≡ Some (with_head (giving v) b.term) = ap (option_map (λ c. with_head (giving v) b.term)) e in
-    let one : with_head (giving v) b.term ≡ step.next = some_same (after_receiving v b.term) (with_head (giving v) b.term) step.next is step.steps in
+    let one : with_head (giving v) b.term ≡ step.next = one_item (after_receiving v b.term) (with_head (giving v) b.term) step.next is step.steps in
     ap (λ t. settled (at_term b t)) one ∙ step.settles
 
 -- the sender's spot moves, then the receiver's

@@ -19,7 +19,9 @@ use Rattle.te_trail.specs.Records.{members_of, paths_of, RecordsAreKept, SpotSpe
 use Rattle.te_trail.proofs.ClockLaws.{Agrees, agrees_by, agree_by, differ}
 use Rattle.te_trail.proofs.PastsChain.{grown_has}
 use Rattle.te_trail.proofs.AgreeIsExact.{agree_together, together_agree, path_played}
-use Rattle.te_trail.proofs.RecordsRead.{get_some, get_low, length_paths}
+use Rattle.te_trail.proofs.RecordsRead.{length_paths}
+use Rattle.te_terms.proofs.Lists.{get_low}
+use Rattle.te_terms.proofs.Lists.{get_some}
 use Rattle.te_trail.proofs.Ancestors.{node_at}
 
 pub held : (xs : List Path) (k : ℕ) (x : Path) → slice_get xs k ≡ Some x → Holds xs x

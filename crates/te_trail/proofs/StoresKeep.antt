@@ -16,7 +16,10 @@ use Rattle.te_trail.specs.Paths.{Path, planted, branched, sent, got, move_of}
 use Rattle.te_trail.specs.States.{path_state}
 use Rattle.te_trail.specs.Stores.{Holds, IsNext, with_move, with_moves, AreMade}
 use Rattle.te_trail.specs.Records.{origin_at, member_of_event, members_of, ArePlannedEvents, paths_of, FitsAll, SpotSpells, RecordStands, RecordsAreKept, IsMarked, IsEarlier, StoreIsWhole}
-use Rattle.te_trail.proofs.RecordsRead.{get_old, get_new, get_low, get_some, get_which, take_get, take_low, take_all, length_paths}
+use Rattle.te_trail.proofs.RecordsRead.{get_old, get_new, get_which, take_low, take_all, length_paths}
+use Rattle.te_terms.proofs.Lists.{get_taken}
+use Rattle.te_terms.proofs.Lists.{get_low}
+use Rattle.te_terms.proofs.Lists.{get_some}
 use Rattle.te_trail.proofs.RecordsPut.{AreNew, kept_push}
 use Rattle.te_trail.proofs.EventsFound.{events_put, members_put, state_more}
 
@@ -233,8 +236,8 @@ whole_cut events c records ticks marks i m w e = (
   record {
     kept = at.kept;
     few = omega (arith, w.few, not_longer records m.paths);
-    marked = λ j l ej. old j l (take_get marks i j l ej);
-    rising = λ j k a b ea eb h. earlier a b (take_get marks i j a ea) (take_get marks i k b eb) (w.rising j k a b (take_get marks i j a ea).1 (take_get marks i k b eb).1 h);
+    marked = λ j l ej. old j l (get_taken marks i j l ej);
+    rising = λ j k a b ea eb h. earlier a b (get_taken marks i j a ea) (get_taken marks i k b eb) (w.rising j k a b (get_taken marks i j a ea).1 (get_taken marks i k b eb).1 h);
   },
   at.seen,
 )

@@ -18,7 +18,8 @@ use Rattle.te_trail.specs.Trails.{TellsWhether, IsPathThread, ClockAt, IsClock}
 use Rattle.te_trail.specs.Walks.{TellsParent, FitAt, AllFit, FittingFor, Misfit, TicksAreLow, TellsFit}
 use Rattle.te_trail.specs.Records.{path_at, last_of, other_end, path_by, mate_of, paths_from, paths_of, is_sender, EndsAfter, EndsWhole, parent_number, HasParent, Fits, FitsAll}
 use Rattle.te_trail.proofs.Lines.{above_self, above_depth, above_thread, above_trans, above_same, above_both, above_line, line_flip, line_depth, ancestor, rests_move, rests_trans, above_rests, rests_made}
-use Rattle.te_trail.proofs.ClockLaws.{eq_same, eq_apart, differ, deeper_left, deeper_right, deeper_either, clock_thread, clock_in, clock_self, Agrees, agrees_by, agree_by, made_planted, made_branched, made_met, clock_top, past_line, agree_line}
+use Rattle.te_trail.proofs.ClockLaws.{eq_apart, differ, deeper_left, deeper_right, deeper_either, clock_thread, clock_in, clock_self, Agrees, agrees_by, agree_by, made_planted, made_branched, made_met, clock_top, past_line, agree_line}
+use Rattle.te_terms.proofs.Lists.{eq_same}
 
 pub between_step : (ts : List Tick) (i e : ℕ) (d : Tick) → i < e → e ≤ length ts → between ts i e ≡ get_or ts i d ∷ between ts (i + 1) e
 between_step ts i e d h k =

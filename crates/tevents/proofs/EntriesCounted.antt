@@ -3,7 +3,7 @@ use Rattle.std.proofs.Common.{◌≡◌, ◌∙◌, ℕ, suc, ◌+◌, List, [],
 use Rattle.std.specs.Prelude.{slice_get}
 use Rattle.te_history.specs.declared.entry.Entry.{Entry}
 use Rattle.te_history.specs.declared.entry.Entry.TheVariants as entries
-use Rattle.te_report.proofs.Growing.{take_next}
+use Rattle.te_terms.proofs.Lists.{take_next}
 use Rattle.tevents.specs.Summaries.{posts_in, commits_in}
 
 posts_behind : (es : List Entry) (e : Entry) → posts_in (es ++ e ∷ []) ≡ posts_in es + posts_in (e ∷ [])

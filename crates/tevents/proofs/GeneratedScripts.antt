@@ -10,18 +10,15 @@ use Rattle.tevents.specs.SerialRuns.{RunEndsSo}
 use Rattle.tevents.specs.Summaries.{HasSummary, IsSummary, summary_text, summary_status}
 use Rattle.tevents.proofs.RoomForScripts.{never_full}
 use Rattle.tevents.specs.Repeats.{IsNoRepeat, HasNoRepeat, HasNoRepeats}
-
-all_behind : {A : Type 0} (P : A → Type 0) (xs : List A) (x : A) → AllByRecursion P xs → P x → AllByRecursion P (xs ++ x ∷ [])
-all_behind P [] x all p = (p, tt)
-all_behind P (y ∷ ys) x all p = (all.0, all_behind P ys x all.1 p)
+use Rattle.te_terms.proofs.Lists.{AllByRecursion-append}
 
 all_each : {A : Type 0} (P : A → Type 0) (f : ℕ → A) (n : ℕ) → ((i : ℕ) → P (f i)) → AllByRecursion P (each f n)
 all_each P f zero p = tt
-all_each P f (suc n) p = all_behind P (each f n) (f n) (all_each P f n p) (p n)
+all_each P f (suc n) p = AllByRecursion-append P (each f n) (f n) (all_each P f n p) (p n)
 
 pub none_generated : (number : ℕ) → HasNoRepeats (generated number)
 none_generated number = all_each HasNoRepeat (generated_thread (rounds_of number)) (3 * rings_of number)
-    (λ t. all_behind IsNoRepeat (each (λ round. sync 0 (event_of t round)) (rounds_of number)) _ (all_each IsNoRepeat (λ round. sync 0 (event_of t round)) (rounds_of number) (λ round. tt)) tt)
+    (λ t. AllByRecursion-append IsNoRepeat (each (λ round. sync 0 (event_of t round)) (rounds_of number)) _ (all_each IsNoRepeat (λ round. sync 0 (event_of t round)) (rounds_of number) (λ round. tt)) tt)
 
 -- ---- the summary of a run
 

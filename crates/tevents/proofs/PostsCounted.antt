@@ -28,6 +28,7 @@ use Rattle.te_report.specs.OfScript.{taken, taken_from, IsWished, WishedBy, Wish
 use Rattle.te_report.proofs.Growing.{taken_more, grows_wished}
 use Rattle.te_serial.specs.Houses.{MayAppend}
 use Rattle.tevents.specs.Repeats.{IsNoRepeat, HasNoRepeat}
+use Rattle.te_terms.proofs.Lists.{eq_same}
 
 -- ---- a thread that wishes to synchronise has taken fewer outcomes than it has syncs
 
@@ -79,11 +80,8 @@ sum_other (suc n) h e none =
 pub not_by : (t by ticket : ℕ) (event : Term) → (by ≡ t → ⊥) → is_post_by t (entries.Post by ticket event) ≡ false
 not_by t by ticket event apart = ne_eqb by t apart
 
-pub eq_self : (n : ℕ) → nat_eq n n ≡ true
-eq_self n = eq-eqb n n refl
-
 pub is_by : (t ticket : ℕ) (event : Term) → is_post_by t (entries.Post t ticket event) ≡ true
-is_by t ticket event = eq_self t
+is_by t ticket event = eq_same t
 
 pub sum_post : (n by ticket : ℕ) (event : Term) (h : List Entry) → by < n → sum_posts n (h ++ entries.Post by ticket event ∷ []) ≡ suc (sum_posts n h)
 sum_post zero by ticket event h lt = absurd (omega (arith, lt))

@@ -31,7 +31,11 @@ use Rattle.te_report.specs.declared.ending.Ending.{Ending}
 use Rattle.te_report.specs.declared.ending.Ending.TheVariants as endings
 use Rattle.tevents.specs.SerialRuns.{IsStopped, RunEndsSo}
 use Rattle.tevents.specs.Repeats.{HasNoRepeat, HasNoRepeats}
-use Rattle.tevents.proofs.PostsCounted.{syncs_in, wish_within, syncs_within, sum_posts, sum_other, sum_post, sum_fewer, not_by, is_by, eq_self, same_or_apart}
+use Rattle.tevents.proofs.PostsCounted.{syncs_in, wish_within, syncs_within, sum_posts, sum_other, sum_post, sum_fewer, not_by, is_by, same_or_apart}
+use Rattle.te_terms.proofs.Lists.{eq_same}
+use Rattle.te_board.proofs.Reserving.{idle_room}
+use Rattle.te_terms.proofs.Lists.{all_at}
+use Rattle.te_history.proofs.GivenOnce.{all_idle}
 
 -- how often a caller has posted, and how many outcomes it has taken, by where it stands
 abbrev PostsAs : Standing → ℕ → ℕ → Type 0
@@ -197,7 +201,7 @@ module _ (callers : ℕ) (threads : List Thread) (h : List Entry) (c : IsCounted
             some_is a b q = cc
 
             mine : (u : ℕ) → taken_from u (entries.Take u ticket outcome) [] ≡ outcome ∷ []
-            mine u = rw (eq_self u) refl
+            mine u = rw (eq_same u) refl
         go (inr apart) = still t x the_take refl (not_mine t by ticket outcome apart) (c.each t x (sym (get_set_other s.callers by t idle apart) ∙ here))
 
     took : IsCounted callers threads (h ++ the_take ∷ [])
@@ -279,20 +283,11 @@ front_of : (P : Entry → Type 0) (h : List Entry) (e : Entry) → AllByRecursio
 front_of P [] e all = (tt, all.0)
 front_of P (x ∷ xs) e all = let rest = front_of P xs e all.1 in ((all.0, rest.0), rest.1)
 
-idle_at : (n t : ℕ) (x : Standing) → slice_get (replicate n idle) t ≡ Some x → x ≡ idle
-idle_at zero t x is = cc
-idle_at (suc n) zero x is = cc
-idle_at (suc n) (suc t) x is = idle_at n t x is
-
-first_room : (n : ℕ) → callers_room (replicate n idle) ≡ n
-first_room zero = refl
-first_room (suc n) = let later = first_room n in omega (arith, later)
-
 at_first : (callers : ℕ) (threads : List Thread) → IsCounted callers threads []
 at_first callers threads = record {
-  each = λ t x st. subst (λ (y : Standing). PostsAs y 0 0) (sym (idle_at callers t x st)) refl;
+  each = λ t x st. subst (λ (y : Standing). PostsAs y 0 0) (sym (all_idle callers t x st)) refl;
   few = λ t text is. omega arith;
-  room = let all = first_room callers in omega (arith, all);
+  room = let all = idle_room callers in omega (arith, all);
 }
 
 pub counted_all : (callers : ℕ) (threads : List Thread) (history : List Entry) → IsLoose callers history → WishedFrom threads [] history → AllByRecursion MayAppend history → IsCounted callers threads history
@@ -302,11 +297,6 @@ counted_all callers threads history loose wished may =
     [] history loose wished (λ _. at_first callers threads) may
 
 -- ---- no board is full
-
-all_at : {A : Type 0} (P : A → Type 0) (xs : List A) (i : ℕ) (x : A) → AllByRecursion P xs → slice_get xs i ≡ Some x → P x
-all_at P [] i x all is = cc
-all_at P (y ∷ ys) zero x all is = let same : y ≡ x = cc in subst P same all.0
-all_at P (y ∷ ys) (suc i) x all is = all_at P ys i x all.1 is
 
 pub never_full : (p : Program) → IsProgram p → HasNoRepeats p → (history : List Entry) → IsStopped p history → LacksRoom (record { callers = length p.threads; entries = history }) p.threads → ⊥
 never_full p is plain history stopped lacks = omega (arith, lacks.full, c.room, sum, is.threads)

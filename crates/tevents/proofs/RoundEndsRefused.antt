@@ -16,6 +16,7 @@ use Rattle.te_history.specs.declared.entry.Entry.TheVariants as entries
 use Rattle.te_history.specs.State.{State, state, parked_list}
 use Rattle.te_serial.specs.Rounds.{TakesOf, IsBlock, ClosesSo, IsStuckAndEnds, IsInRounds}
 use Rattle.tevents.proofs.FirstRound.{first_round, joined, block_parts, block_apart, first_same, rest_same, cert_same}
+use Rattle.te_terms.proofs.Lists.{some_item}
 
 end_is_no_commit : {t by : ℕ} {cert : Cert} {outcomes : List Outcome} {how : _} → entries.Commit by cert outcomes ≡ entries.End t how → ⊥
 end_is_no_commit e = cc
@@ -45,9 +46,6 @@ first_alone = commit_of 0 ∷ take_of 0 ∷ []
 
 abbrev last_entries : List Entry
 last_entries = end_of 0 ∷ commit_of 1 ∷ take_of 1 ∷ end_of 1 ∷ []
-
-some_item : {A : Type 0} {x : A} {xs : List A} → x ∷ xs ≢ []
-some_item e = cc
 
 both_can_commit : CanCommit (parked_list (state 2 two_posts))
 both_can_commit = record {

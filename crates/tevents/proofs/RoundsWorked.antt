@@ -2,7 +2,7 @@
 use Rattle.std.proofs.Common.{refl, inr}
 use Rattle.std.specs.Prelude.{[], ◌∷◌}
 use Rattle.te_serial.specs.Rounds.{IsInRounds}
-use Rattle.te_history.proofs.NoCommit.{nobody_commits}
+use Rattle.te_terms.proofs.CannotCommit.{nobody_can_commit}
 use Rattle.tevents.proofs.HistoriesWorked.{exchange_whole}
 use Rattle.te_history.proofs.RowsExchange as exchange
 
@@ -14,14 +14,14 @@ exchange_in_rounds = record {
     record {
       opens = (refl, (refl, tt));
       blocks = ((refl, (refl, (refl, tt))), tt);
-      none_left = nobody_commits;
+      none_left = nobody_can_commit;
       closes = inr ((λ due. due.settled.0), refl);
     },
     (
       record {
         opens = (refl, (refl, tt));
         blocks = tt;
-        none_left = nobody_commits;
+        none_left = nobody_can_commit;
         closes = inr ((λ due. due.some_parked refl), refl);
       },
       exchange_whole,

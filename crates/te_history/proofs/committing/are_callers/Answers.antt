@@ -1,7 +1,8 @@
 use Rattle.std.proofs.Common.{◌<◌, get_or, refl, arith}
 use Rattle.std.proofs.lemmas.Option.{slice_get_within}
 use Rattle.te_cert.specs.declared.cert.Member.{Member}
-use Rattle.te_history.proofs.Places.{before_next, get_at}
+use Rattle.te_history.proofs.Places.{before_next}
+use Rattle.te_terms.proofs.Lists.{get_at}
 use Rattle.te_history.proofs.Rising.{few_before}
 use Rattle.te_history.proofs.committing.are_callers.Goals as goal
 

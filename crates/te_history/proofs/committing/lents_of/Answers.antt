@@ -7,7 +7,7 @@ use Rattle.te_cert.specs.Lending.{lent_term, lent_terms}
 use Rattle.te_cert.proofs.EventsLent.{lent_more}
 use Rattle.te_history.specs.Histories.{now}
 use Rattle.te_history.specs.Refusals.{AreParked}
-use Rattle.te_history.proofs.Places.{get_at}
+use Rattle.te_terms.proofs.Lists.{get_at}
 use Rattle.te_history.proofs.Events.{parked_more}
 use Rattle.te_history.proofs.committing.lents_of.Goals as goal
 

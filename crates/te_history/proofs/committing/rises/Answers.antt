@@ -1,5 +1,5 @@
 use Rattle.std.proofs.Common.{◌≡◌, ◌+◌, ◌-◌, refl, arith}
-use Rattle.te_history.proofs.Places.{get_at}
+use Rattle.te_terms.proofs.Lists.{get_at}
 use Rattle.te_history.proofs.Rising.{rises_more, rise_by, rise_not}
 use Rattle.te_history.proofs.committing.rises.Goals as goal
 

@@ -1,7 +1,7 @@
 -- Syncs one behind another, whose events share a code.
 use Rattle.std.proofs.Common.{◌≡◌, ◌+◌, [], ◌∷◌, ◌++◌, length, map, ◌∙◌, ap, arith, length-append}
 use Rattle.std.proofs.lemmas.List.{map-append}
-use Rattle.te_script.proofs.Appending.{AllByRecursion-append}
+use Rattle.te_terms.proofs.Lists.{AllByRecursion-append}
 use Rattle.te_reader.specs.Written.{draft_of, IsDraft}
 use Rattle.te_reader.proofs.WrittenLemmas.{written_push}
 use Rattle.te_reader.proofs.DraftLemmas.{drafts_stay, drafts_inside}

@@ -3,7 +3,8 @@ use Rattle.std.proofs.lemmas.List.{length-append, map-append}
 use Rattle.te_script.specs.declared.script.Stmt.{Stmt}
 use Rattle.te_script.specs.Scripts.{AreStatements}
 use Rattle.te_script.specs.Texts.{statement_of, RootIsNode}
-use Rattle.te_script.proofs.Appending.{AreStatements-append, AllByRecursion-append}
+use Rattle.te_script.proofs.Appending.{AreStatements-append}
+use Rattle.te_terms.proofs.Lists.{AllByRecursion-append}
 use Rattle.te_script.proofs.tests.text.Goals as goal
 
 pub loop-line-preserved : goal.loop-line-preserved

@@ -2,14 +2,14 @@ use Rattle.std.proofs.Common.{◌≡◌, ◌+◌, ◌*◌, ◌^◌, min, take, S
 use Rattle.te_terms.specs.Measures.{counts_of, choice_count, send_count}
 use Rattle.te_terms.specs.Joint.{as_group}
 use Rattle.te_search.specs.Bounds.{over_all}
-use Rattle.te_search.proofs.NumbersListed.{got_here}
+use Rattle.te_terms.proofs.Lists.{found_here}
 use Rattle.te_search.proofs.CappedCounts.{grown_next, over_next}
 use Rattle.te_search.proofs.bound.grown.Goals as goal
 
 pub parked-preserved : goal.parked-preserved
 parked-preserved c =
     let at : slice_get c.args.parked.now c.parked.i ≡ Some c.index-parked-i.result =
-    got_here c.args.parked.now c.parked.i c.index-parked-i.result c.parked-test.true c.index-parked-i.is in
+    found_here c.args.parked.now c.parked.i c.index-parked-i.result c.parked-test.true c.index-parked-i.is in
     let counts : c.counts-counts.result ≡ counts_of c.index-parked-i.result.event = c.counts-counts.ensures.value ∙ ap (λ q. counts_of q.event) (sym c.index-parked-i.is) in
     let n = c.args.number in
     let f = c.args.factor in

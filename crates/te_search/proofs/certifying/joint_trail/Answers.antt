@@ -1,5 +1,6 @@
 use Rattle.std.proofs.Common.{arith, ◌≡◌, ◌≤◌, ◌<◌, ◌+◌, ◌∷◌, [], ◌∙◌, ap, sym, None, Some, length, length-append}
-use Rattle.te_search.proofs.Trying.{got_or, get_some}
+use Rattle.te_terms.proofs.Lists.{get_at}
+use Rattle.te_terms.proofs.Lists.{get_some}
 use Rattle.te_search.proofs.PastsJoined.{trail_untold, trail_without, trail_with, none_at, as_long}
 use Rattle.te_search.proofs.certifying.joint_trail.Goals as goal
 
@@ -22,7 +23,7 @@ moves-preserved c = (
       let low : c.moves.k < length c.args.store.now.paths = omega (arith, c.len-k-end.ensures.number, c.moves-test.true) in
       let x = get_some c.args.store.now.paths c.moves.k low in
       trail_with ps c.args.store.now.paths c.args.moves.now c.moves.k x.0 c.moves.word.items c.push.new.self.items c.in-Some.made c.requires.told
-      (got_or c.args.moves.now c.moves.k None (let l : length c.args.moves.now ≡ length c.args.store.now.paths = as_long c.args.moves.now c.args.store.now.paths c.requires.told in
+      (get_at c.args.moves.now c.moves.k None (let l : length c.args.moves.now ≡ length c.args.store.now.paths = as_long c.args.moves.now c.args.store.now.paths c.requires.told in
       omega (arith, low, l)) ∙ ap Some c.in-Some.is) x.1 (sym c.if-not-has_move.false ∙ c.has_move.ensures ps x.0 p x.1) c.in_ok-push.ensures.items (c.moves.invariant.1 ps p)),
 )
 
@@ -33,6 +34,6 @@ moves-preserved-then-not-has_move c = (
       let low : c.moves.k < length c.args.store.now.paths = omega (arith, c.len-k-end.ensures.number, c.moves-test.true) in
       let x = get_some c.args.store.now.paths c.moves.k low in
       trail_without ps c.args.store.now.paths c.args.moves.now c.moves.k x.0 c.moves.word.items c.in-Some.made c.requires.told
-      (got_or c.args.moves.now c.moves.k None (let l : length c.args.moves.now ≡ length c.args.store.now.paths = as_long c.args.moves.now c.args.store.now.paths c.requires.told in
+      (get_at c.args.moves.now c.moves.k None (let l : length c.args.moves.now ≡ length c.args.store.now.paths = as_long c.args.moves.now c.args.store.now.paths c.requires.told in
       omega (arith, low, l)) ∙ ap Some c.in-Some.is) x.1 (sym c.if-not-has_move.true ∙ c.has_move.ensures ps x.0 p x.1) (c.moves.invariant.1 ps p)),
 )

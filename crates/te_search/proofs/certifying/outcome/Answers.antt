@@ -1,4 +1,4 @@
-use Rattle.te_search.proofs.Trying.{get_some}
+use Rattle.te_terms.proofs.Lists.{get_some}
 use Rattle.te_search.proofs.PastsJoined.{final_stop}
 use Rattle.te_search.proofs.certifying.outcome.Goals as goal
 

@@ -4,7 +4,7 @@ use Rattle.std.proofs.lemmas.List.Elements.{Contains-get_or}
 use Rattle.te_trail.specs.Clocks.{Agree}
 use Rattle.te_trail.specs.Trails.{AreAgreeing, TellsWhether}
 use Rattle.te_pair.specs.Ends.{paths_at}
-use Rattle.te_pair.proofs.Among.{take_all}
+use Rattle.te_terms.proofs.Lists.{take_all}
 use Rattle.te_pair.proofs.PartnersFound.{Picks, kept_low, agrees, differs, found_exact, found_rise, walk_more, walk_pass}
 use Rattle.te_pair.proofs.waiting.Waiting.partners.Goals.{then-agree+in_ok-push, else-agree}
 use Rattle.te_pair.proofs.waiting.Waiting.partners.Goals as goal

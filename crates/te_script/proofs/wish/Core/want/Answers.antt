@@ -9,7 +9,8 @@ use Rattle.te_script.specs.Wishes.{wish, syncs, Wish}
 use Rattle.te_script.specs.Cores.{At, wish_at}
 use Rattle.te_script.specs.Wants.{IsWant, IsOfText}
 use Rattle.te_script.specs.Texts.{statement_of}
-use Rattle.te_script.proofs.WantsTold.{stands_at, no_emit, no_repeat, sync_wish, of_statement, told_of_text, told_after, done_wish, where_ok}
+use Rattle.te_script.proofs.WantsTold.{stands_at, no_emit, no_repeat, sync_wish, of_statement, told_of_text, told_after, done_wish}
+use Rattle.te_terms.proofs.Lists.{if_ok}
 use Rattle.te_script.proofs.WishReached.{wish_after}
 use Rattle.te_script.proofs.wish.Core.want.Goals as goal
 
@@ -53,7 +54,7 @@ returns-in-Some-Sync-clause-of_text c =
     let of = of_statement c.self.inside.text.value c.self.inside.regs _ c.self.inside.spot.place c.in-Some-Sync.field-0-0
     (term_under c.in-Some-Sync.code.value c.in-Some-Sync.root) c.sync_want.ensures.eight (at_sync c) in
     subst (λ (a : At). IfOk c.sync_want.result (λ want. IsOfText a.thread want)) c.self.view_is
-    (where_ok (λ want. IsWant (syncs event) want) (λ want. IsOfText c.self.inside.text.value want) c.sync_want.result (λ want.
+    (if_ok (λ want. IsWant (syncs event) want) (λ want. IsOfText c.self.inside.text.value want) c.sync_want.result (λ want.
     told_of_text c.self.inside.text.value event want of) c.sync_want.ensures.wish)
 
 pub returns-in-Some-clause-after : goal.returns-in-Some-clause-after

@@ -3,7 +3,8 @@ use Rattle.te_terms.specs.Joint.{as_member, member_of}
 use Rattle.te_trail.specs.Paths.{planted}
 use Rattle.te_trail.specs.Stores.{Holds}
 use Rattle.te_search.proofs.EventsPlanted.{unplanted_yet}
-use Rattle.te_search.proofs.StacksMove.{put_levels, opened_stack, not_put, on_err, same_parked, last_event, at_last, threads_long}
+use Rattle.te_search.proofs.StacksMove.{put_levels, opened_stack, not_put, on_err, same_parked, last_event, at_last}
+use Rattle.te_search.proofs.StacksMove.{by_length}
 use Rattle.te_search.proofs.stack.Stack.plant.Goals as goal
 
 pub put-requires : goal.put-requires
@@ -17,7 +18,7 @@ plant-requires-clause-unplanted c m e =
     let p = c.requires.left in
     let one : p.0 ≡ c.at-parked.result.now = same_parked c.args.self.now.parked c.args.place p.0 c.at-parked.result.now p.1 c.at-parked.ensures in
     let at : c.len-count.result ≡ length c.args.self.now.work.store.events = c.len-count.ensures
-    ∙ ap length c.requires.begun.levels.threads_are ∙ threads_long c.args.self.now.work.store.events in
+    ∙ ap length c.requires.begun.levels.threads_are ∙ by_length c.args.self.now.work.store.events in
     let is : as_member c.at-parked.result.now ≡ m = last_event c.args.self.now.work.store.events c.put.new.self.events (as_member c.at-parked.result.now) c.len-count.result m
     (ap (λ t. t.events) c.in-Ok.ensures.ok) at e in
     λ h. unplanted_yet c.args.self.now.work.store.events c.args.self.now.work.store.paths p.0.thread c.requires.begun.whole.search.store
@@ -51,7 +52,7 @@ returns-clause-ok c =
     let p = c.requires.left in
     let one : p.0 ≡ c.at-parked.result.now = same_parked c.args.self.now.parked c.args.place p.0 c.at-parked.result.now p.1 c.at-parked.ensures in
     let at : c.len-count.result ≡ length c.args.self.now.work.store.events = c.len-count.ensures
-    ∙ ap length c.requires.begun.levels.threads_are ∙ threads_long c.args.self.now.work.store.events in
+    ∙ ap length c.requires.begun.levels.threads_are ∙ by_length c.args.self.now.work.store.events in
     let put : c.put.new.self.events ≡ c.args.self.now.work.store.events ++ (as_member c.at-parked.result.now ∷ []) = ap (λ t. t.events) c.in-Ok.ensures.ok in
     let planted_now = c.in_ok-p.ensures.ok (as_member c.at-parked.result.now)
     (ap (λ l. slice_get l c.len-count.result) put ∙ ap (slice_get (c.args.self.now.work.store.events ++ (as_member c.at-parked.result.now ∷ []))) at

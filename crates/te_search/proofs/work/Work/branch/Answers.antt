@@ -4,8 +4,10 @@ use Rattle.te_trail.specs.Paths.{branched}
 use Rattle.te_search.specs.declared.assembly.Refused.{Refused}
 use Rattle.te_search.specs.declared.assembly.Refused.TheVariants as refusals
 use Rattle.te_search.specs.Works.{IsSpentAt, IsWork, WorkGrows}
-use Rattle.te_search.proofs.Trying.{get_some, get_low}
-use Rattle.te_search.proofs.Working.{get_more, branch_done, branch_unmade, branch_left, choice_stays, spent_gained, spent_here, on_ok, gains_both}
+use Rattle.te_terms.proofs.Lists.{get_low}
+use Rattle.te_terms.proofs.Lists.{get_some}
+use Rattle.te_search.proofs.Working.{branch_done, branch_unmade, branch_left, choice_stays, spent_gained, spent_here, on_ok, gains_both}
+use Rattle.te_terms.proofs.Lists.{get-longer}
 use Rattle.te_search.proofs.Ending.{gains_grow}
 use Rattle.te_search.proofs.WorkKept.{keeps_both}
 use Rattle.te_search.proofs.work.Work.branch.Goals as goal
@@ -17,7 +19,7 @@ pub branch_one-requires-2-clause-path : goal.branch_one-requires-2-clause-path
 branch_one-requires-2-clause-path c =
     let x = get_some c.args.self.now.store.paths c.args.p c.requires.path in
     let g = c.in_ok-branch_one.ensures.ok x.0 x.1 in
-    get_low c.branch_one.new.self.store.paths x.0 c.args.p (ap (λ q. slice_get q c.args.p) g.paths ∙ get_more c.args.self.now.store.paths (branched x.0 true ∷ []) c.args.p x.0 x.1)
+    get_low c.branch_one.new.self.store.paths x.0 c.args.p (ap (λ q. slice_get q c.args.p) g.paths ∙ get-longer c.args.self.now.store.paths (branched x.0 true ∷ []) c.args.p x.0 x.1)
 
 pub branch_one-requires-2-clause-stands : goal.branch_one-requires-2-clause-stands
 branch_one-requires-2-clause-stands c =
@@ -54,14 +56,14 @@ returns-clause-ok c =
     let g = c.in_ok-branch_one.ensures.ok x.0 x.1 in
     on_ok _ (IsWork c.branch_one-2.new.self) c.branch_one-2.result
     (λ more. branch_done c.args.self.now c.branch_one.new.self c.branch_one-2.new.self c.args.p x.0 x.1 c.requires.work c.requires.stands g
-    (more x.0 (ap (λ q. slice_get q c.args.p) g.paths ∙ get_more c.args.self.now.store.paths (branched x.0 true ∷ []) c.args.p x.0 x.1))) c.branch_one-2.ensures.ok
+    (more x.0 (ap (λ q. slice_get q c.args.p) g.paths ∙ get-longer c.args.self.now.store.paths (branched x.0 true ∷ []) c.args.p x.0 x.1))) c.branch_one-2.ensures.ok
 
 pub returns-clause-events : goal.returns-clause-events
 returns-clause-events c =
     let x = get_some c.args.self.now.store.paths c.args.p c.requires.path in
     let g = c.in_ok-branch_one.ensures.ok x.0 x.1 in
     on_ok _ (c.branch_one-2.new.self.store.events ≡ c.args.self.now.store.events) c.branch_one-2.result
-    (λ more. (more x.0 (ap (λ q. slice_get q c.args.p) g.paths ∙ get_more c.args.self.now.store.paths (branched x.0 true ∷ []) c.args.p x.0 x.1)).events
+    (λ more. (more x.0 (ap (λ q. slice_get q c.args.p) g.paths ∙ get-longer c.args.self.now.store.paths (branched x.0 true ∷ []) c.args.p x.0 x.1)).events
     ∙ g.events) c.branch_one-2.ensures.ok
 
 pub returns-clause-grows : goal.returns-clause-grows
@@ -71,7 +73,7 @@ returns-clause-grows c =
     on_ok _ (WorkGrows c.args.self.now c.branch_one-2.new.self) c.branch_one-2.result
     (λ more. gains_grow c.args.self.now c.branch_one-2.new.self _
     (gains_both c.args.self.now c.branch_one.new.self c.branch_one-2.new.self (branched x.0 true ∷ []) (branched x.0 false ∷ []) g
-    (more x.0 (ap (λ q. slice_get q c.args.p) g.paths ∙ get_more c.args.self.now.store.paths (branched x.0 true ∷ []) c.args.p x.0 x.1)))) c.branch_one-2.ensures.ok
+    (more x.0 (ap (λ q. slice_get q c.args.p) g.paths ∙ get-longer c.args.self.now.store.paths (branched x.0 true ∷ []) c.args.p x.0 x.1)))) c.branch_one-2.ensures.ok
 
 pub returns-clause-keeps : goal.returns-clause-keeps
 returns-clause-keeps c = keeps_both c.args.self.now c.branch_one.new.self c.branch_one-2.new.self c.branch_one.ensures.keeps c.branch_one-2.ensures.keeps

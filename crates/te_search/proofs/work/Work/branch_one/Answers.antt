@@ -3,9 +3,9 @@ use Rattle.te_terms.specs.Joint.{choice}
 use Rattle.te_trail.specs.declared.moves.Move.TheVariants as moves
 use Rattle.te_trail.specs.Paths.{branched}
 use Rattle.te_search.specs.Works.{label_told}
-use Rattle.te_search.proofs.ListLaws.{holds_at}
+use Rattle.te_trail.proofs.StoresHold.{held}
 use Rattle.te_search.proofs.StoresGrow.{branch_grows}
-use Rattle.te_search.proofs.Trying.{get_some}
+use Rattle.te_terms.proofs.Lists.{get_some}
 use Rattle.te_search.proofs.Working.{map_both, gains_one}
 use Rattle.te_search.proofs.WorkKept.{keeps_same, keeps_paths}
 use Rattle.te_search.proofs.work.Work.branch_one.Goals as goal
@@ -40,7 +40,7 @@ returns-then-left-eq0-clause-spent c h =
       record {
         near = inl sum;
         more = branched x.0 c.args.left ∷ [];
-        store = branch_grows c.args.self.now.store.events c.args.self.now.store.paths x.0 c.args.left c.left.ensures.store (holds_at c.args.self.now.store.paths c.args.p x.0 x.1)
+        store = branch_grows c.args.self.now.store.events c.args.self.now.store.paths x.0 c.args.left c.left.ensures.store (held c.args.self.now.store.paths c.args.p x.0 x.1)
             (c.requires.unmade x.0 x.1) (λ m e. c.requires.stands x.0 m x.1 e);
         beyond = (let more : c.args.budget < length c.args.self.now.store.paths + 1 + c.args.self.now.groups = omega (arith, sum) in more);
       },

@@ -2,7 +2,8 @@ use Rattle.std.proofs.Common.{arith, ◌≡◌, ◌+◌, ◌-◌, ◌∷◌, [],
 use Rattle.te_search.specs.Assemblies.{AssemblyStand, NamesPaths, Assembles, joint}
 use Rattle.te_search.specs.Finals.{numbers_of}
 use Rattle.te_search.specs.Works.{StepEndsSo}
-use Rattle.te_search.proofs.Trying.{get_some, on_found}
+use Rattle.te_terms.proofs.Lists.{if_ok}
+use Rattle.te_terms.proofs.Lists.{get_some}
 use Rattle.te_search.proofs.Ending.{numbers_one, told_after, ending, end_ends, end_short, end_spent}
 use Rattle.te_search.proofs.WorkKept.{keeps_same, keeps_final}
 use Rattle.te_search.proofs.work.Work.end.Goals as goal
@@ -25,7 +26,7 @@ returns-clause-ok c =
     let gr : c.args.budget - c.len.result - c.assemble-answer.new.left ≡ c.args.self.now.groups + suc ((c.left-left.result - 1) - c.assemble-answer.new.left) = omega
     (arith, c.left-left.ensures.left, c.if-left-eq0.false, c.len.ensures.number, c.assemble-answer.ensures.falls) in
     let numbers = numbers_one c.args.self.now.finals c.push.new.self c.args.p c.thread-thread.result c.in-Ok-push.ensures.ok in
-    on_found (Assembles c.args.self.now.store.events c.args.self.now.store.paths c.args.threads.now
+    if_ok (Assembles c.args.self.now.store.events c.args.self.now.store.paths c.args.threads.now
     (numbers_of c.push.new.self) c.deref.result.now ((c.left-left.result - 1) - c.assemble-answer.new.left))
     (StepEndsSo (record {
       store = c.args.self.now.store;

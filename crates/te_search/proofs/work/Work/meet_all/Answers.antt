@@ -1,9 +1,10 @@
 use Rattle.std.proofs.Common.{arith, rules, ◌≡◌, ◌∙◌, ap, sym, subst, refl, length, slice_get, vec_len, nat_eq}
 use Rattle.std.specs.List.{IsDistinct}
 use Rattle.te_search.specs.Works.{IsSpentAt, IsMeeting, others_of}
-use Rattle.te_search.proofs.ListLaws.{holds_at}
-use Rattle.te_search.proofs.Trying.{get_some}
-use Rattle.te_search.proofs.Working.{get_more, spent_gained}
+use Rattle.te_trail.proofs.StoresHold.{held}
+use Rattle.te_terms.proofs.Lists.{get_some}
+use Rattle.te_search.proofs.Working.{spent_gained}
+use Rattle.te_terms.proofs.Lists.{get-longer}
 use Rattle.te_search.proofs.Meeting.{meeting_starts, meeting_more, meeting_ready, other_low, listed_at, old_path, old_number}
 use Rattle.te_search.proofs.WorkKept.{keeps_same, keeps_both}
 use Rattle.te_search.proofs.work.Work.meet_all.Goals as goal
@@ -70,9 +71,9 @@ others-preserved c = (
       let y = get_some c.args.self.now.store.paths c.index-q.result.now
       (other_low c.args.self.now _ c.args.channel c.args.sends c.requires.work c.others.i c.index-q.result.now e) in
       meeting_more c.args.self.now c.others.self c.meet_other.new.self x y.0 c.args.sends (others_of c.args.self.now c.args.channel c.args.sends) c.others.i c.index-q.result.now
-      (holds_at c.args.self.now.store.paths c.args.p x ex) e y.1 m
-      (c.in_default-meet_other.ensures.ok x y.0 (ap (λ q. slice_get q c.args.p) m.gains.paths ∙ get_more c.args.self.now.store.paths m.news c.args.p x ex)
-      (ap (λ q. slice_get q c.index-q.result.now) m.gains.paths ∙ get_more c.args.self.now.store.paths m.news c.index-q.result.now y.0 y.1))),
+      (held c.args.self.now.store.paths c.args.p x ex) e y.1 m
+      (c.in_default-meet_other.ensures.ok x y.0 (ap (λ q. slice_get q c.args.p) m.gains.paths ∙ get-longer c.args.self.now.store.paths m.news c.args.p x ex)
+      (ap (λ q. slice_get q c.index-q.result.now) m.gains.paths ∙ get-longer c.args.self.now.store.paths m.news c.index-q.result.now y.0 y.1))),
   keeps_both c.args.self.now c.others.self c.meet_other.new.self c.others.invariant.2 c.meet_other.ensures.keeps,
 )
 

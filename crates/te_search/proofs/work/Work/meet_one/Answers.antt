@@ -3,9 +3,9 @@ use Rattle.te_terms.specs.Joint.{meeting}
 use Rattle.te_trail.specs.declared.moves.Move.TheVariants as moves
 use Rattle.te_trail.specs.Paths.{sent, got}
 use Rattle.te_search.specs.Works.{label_told, IsNear}
-use Rattle.te_search.proofs.ListLaws.{holds_at}
+use Rattle.te_trail.proofs.StoresHold.{held}
 use Rattle.te_search.proofs.StoresGrow.{meet_grows}
-use Rattle.te_search.proofs.Trying.{get_some}
+use Rattle.te_terms.proofs.Lists.{get_some}
 use Rattle.te_search.proofs.Working.{map_both, gains_two, appended_two}
 use Rattle.te_search.proofs.WorkKept.{keeps_same, keeps_paths}
 use Rattle.te_search.proofs.work.Work.meet_one.Goals as goal
@@ -50,8 +50,8 @@ returns-then-left-lt2-clause-spent c h =
       record {
         near = near_by c.left.result (length c.args.self.now.store.paths + c.args.self.now.groups) c.args.budget c.left.ensures.left c.if-left-lt2.true;
         more = sent x.0 y.0 ∷ (got x.0 y.0 ∷ []);
-        store = meet_grows c.args.self.now.store.events c.args.self.now.store.paths x.0 y.0 c.left.ensures.store (holds_at c.args.self.now.store.paths c.args.p x.0 x.1)
-            (holds_at c.args.self.now.store.paths c.args.q y.0 y.1) (c.requires.unmet x.0 y.0 x.1 y.1) (c.requires.agree x.0 y.0 x.1 y.1)
+        store = meet_grows c.args.self.now.store.events c.args.self.now.store.paths x.0 y.0 c.left.ensures.store (held c.args.self.now.store.paths c.args.p x.0 x.1)
+            (held c.args.self.now.store.paths c.args.q y.0 y.1) (c.requires.unmet x.0 y.0 x.1 y.1) (c.requires.agree x.0 y.0 x.1 y.1)
             (λ a b ea eb. c.requires.stand x.0 y.0 a b x.1 y.1 ea eb);
         beyond = (let more : c.args.budget < length c.args.self.now.store.paths + 2 + c.args.self.now.groups = omega (arith, c.left.ensures.left, c.if-left-lt2.true) in more);
       },

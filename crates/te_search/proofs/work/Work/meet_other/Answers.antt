@@ -1,5 +1,5 @@
 use Rattle.std.proofs.Common.{refl}
-use Rattle.te_search.proofs.Trying.{get_some}
+use Rattle.te_terms.proofs.Lists.{get_some}
 use Rattle.te_search.proofs.WorkKept.{keeps_same}
 use Rattle.te_search.proofs.work.Work.meet_other.Goals as goal
 

@@ -1,6 +1,6 @@
 use Rattle.std.proofs.Common.{refl}
 use Rattle.te_path.specs.declared.spot.Stop.TheVariants as stops
-use Rattle.te_search.proofs.Trying.{get_some}
+use Rattle.te_terms.proofs.Lists.{get_some}
 use Rattle.te_search.proofs.Ending.{dead_done}
 use Rattle.te_search.proofs.WorkKept.{keeps_same}
 use Rattle.te_search.proofs.work.Work.step.Goals as goal

@@ -1,6 +1,6 @@
 use Rattle.std.proofs.Common.{refl, sym, subst}
 use Rattle.te_pair.specs.Ends.{PathIsKept}
-use Rattle.te_search.proofs.Trying.{get_some}
+use Rattle.te_terms.proofs.Lists.{get_some}
 use Rattle.te_search.proofs.Meeting.{not_kept}
 use Rattle.te_search.proofs.Waiting.{wait_done}
 use Rattle.te_search.proofs.Ending.{gains_grow}

@@ -4,7 +4,8 @@ use Rattle.std.proofs.lemmas.Bool.Decides.{Decides-int_eq}
 use lib.Pointwise.{pointwise_decides}
 use Rattle.te_terms.specs.Values.{same_value}
 use Rattle.te_terms.specs.Sameness.{Decides-same_value}
-use Rattle.te_terms.proofs.PackedLemmas.{fields_same, fields_tell, not_false, tests_agree, test_fails}
+use Rattle.te_terms.proofs.PackedLemmas.{fields_same, fields_tell, tests_agree, test_fails}
+use Rattle.te_terms.proofs.Lists.{not_false}
 use Rattle.te_terms.proofs.value.ValuePartialEq.eq.Goals as goal
 
 pub returns-then-self-other : goal.returns-then-self-other

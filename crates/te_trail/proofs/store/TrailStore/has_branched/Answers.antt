@@ -3,7 +3,8 @@ use Rattle.te_trail.specs.declared.store.PathRecord.{PathRecord}
 use Rattle.te_trail.specs.Paths.{Path, sent, got}
 use Rattle.te_trail.specs.Trails.{Trail}
 use Rattle.te_trail.specs.Walks.{IsNoPlanting, IsNoBranch, IsNoMeeting}
-use Rattle.te_trail.proofs.RecordsRead.{record_there, got_there, length_paths}
+use Rattle.te_trail.proofs.RecordsRead.{record_there, length_paths}
+use Rattle.te_terms.proofs.Lists.{found_here}
 use Rattle.te_trail.proofs.PastsTold.{Mate, mate_there}
 use Rattle.te_trail.proofs.CallsLeave.{event_there}
 use Rattle.te_trail.proofs.NotMade.{none_more, unplanted_by, unmade_by, unmet_by, Here, here, planting_none, planting_other, branch_none, branch_other, meeting_none, meeting_mate, meeting_other, meeting_apart, event_thread, at_choice, are_ends, agreeing}

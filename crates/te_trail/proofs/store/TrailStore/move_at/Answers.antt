@@ -9,9 +9,10 @@ use Rattle.te_trail.specs.Stores.{IsStore}
 use Rattle.te_trail.specs.Trails.{Trail, TellsWhether, IsClock, label_of}
 use Rattle.te_trail.specs.Walks.{IsInPast, TellsPastMove, TellsMove}
 use Rattle.te_trail.specs.Records.{paths_of}
-use Rattle.te_trail.proofs.RecordsRead.{record_there, got_there, length_paths}
+use Rattle.te_trail.proofs.RecordsRead.{record_there, length_paths}
+use Rattle.te_terms.proofs.Lists.{found_here}
 use Rattle.te_trail.proofs.StoresHold.{is_store, held, sounds}
-use Rattle.te_trail.proofs.EventsFound.{take_whole}
+use Rattle.te_terms.proofs.Lists.{take_all}
 use Rattle.te_trail.proofs.PastsTold.{clock_low, rests_by_clock, rests_not, move_told, no_label_root, no_label_receiver, label_left, label_right, Mate, mate_there, past_told, past_not, TrailSo, trail_step, trail_end}
 use Rattle.te_trail.proofs.store.TrailStore.move_at.Goals as goal
 
@@ -33,7 +34,7 @@ returns-in-Right c = move_told c.self.inside.records.items c.self.inside.ticks.i
 pub returns-in-Sender : goal.returns-in-Sender
 returns-in-Sender c =
     let m : Mate c.self.inside.records.items c.args.i = mate_there c.self.inside.records.items c.self.inside.ticks.items c.self.invariant.kept.fit c.self.invariant.kept.pairs c.args.i c.index-record.result.now (record_there c.self.inside.records.items c.args.self.now.paths c.args.i c.index-record.result.now (ap (λ (t : Trail). t.paths) c.self.view_is) c.requires c.index-record.ensures) c.in-Sender.is in
-    let there : slice_get c.self.inside.records.items (c.args.i + 1) ≡ Some c.index-mate.result.now = got_there c.self.inside.records.items (c.args.i + 1) c.index-mate.result.now (omega (arith, m.low)) c.index-mate.ensures in
+    let there : slice_get c.self.inside.records.items (c.args.i + 1) ≡ Some c.index-mate.result.now = found_here c.self.inside.records.items (c.args.i + 1) c.index-mate.result.now (omega (arith, m.low)) c.index-mate.ensures in
     move_told c.self.inside.records.items c.self.inside.ticks.items c.args.self.now.paths c.self.invariant.kept.fit (ap (λ (t : Trail). t.paths) c.self.view_is) c.args.i c.index-record.result.now (record_there c.self.inside.records.items c.args.self.now.paths c.args.i c.index-record.result.now (ap (λ (t : Trail). t.paths) c.self.view_is) c.requires c.index-record.ensures) (Some (moves.Meet c.index-record.result.now.thread c.index-mate.result.now.thread)) (λ y ey made same. m.tells y c.index-mate.result.now c.index-record.result.now.thread ey (ap (slice_get c.self.inside.records.items) (let n : suc c.args.i ≡ c.args.i + 1 = omega arith in n) ∙ there) same)
 
 pub returns-in-Receiver : goal.returns-in-Receiver
