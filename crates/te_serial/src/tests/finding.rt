@@ -92,7 +92,14 @@ fn branches_of_a_third_thread_keep_events_apart(rt: HostRuntime) -> Result<(), F
 #[test]
 fn what_was_removed_is_in_no_group(rt: HostRuntime) -> Result<(), Fail> {
     let alloc = rt.alloc();
-    let mut kept = kept(alloc, &[&both(sends(0), receives(2)), &passes_on(0, 1), &passes_on(1, 2)])?;
+    let mut kept = kept(
+        alloc,
+        &[
+            &both(sends(0), receives(2)),
+            &passes_on(0, 1),
+            &passes_on(1, 2),
+        ],
+    )?;
     assert_eq!(rt; found_kept(alloc, &mut kept)?, (3, 3));
     assert_eq!(rt; found_kept(alloc, &mut kept)?, (3, 3));
     remove(&mut kept, 1)?;
