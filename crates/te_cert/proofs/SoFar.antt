@@ -14,8 +14,7 @@ use Rattle.te_cert.specs.declared.seat.Seat.{Seat}
 use Rattle.te_cert.specs.Play.{PlayFault, Player, Table, ◌>>=◌, advanced, all_advanced, meets, all_meet, ending, endings}
 use Rattle.te_cert.specs.Players.{Entering, IsSeat, AreSeated, IsSeatedAt, start_of, starts_of, seat_of, seats_of, BecomesTable, players_before, outcomes_before, TellsFault, TellsPart}
 use Rattle.te_cert.proofs.SeatsByPlace.{seated_stay, seats_stay}
-use Rattle.te_terms.proofs.Lists.{drop_at}
-use Rattle.te_terms.proofs.Lists.{take_next}
+use Rattle.te_terms.proofs.Lists.{drop_at, take_next}
 
 -- ---- a list by its place
 

@@ -13,8 +13,7 @@ use Rattle.te_pair.specs.declared.end.End.{End}
 use Rattle.te_pair.specs.Ends.{path_of, paths_kept, IsEnd, AreEnds, is_at, paths_at, IsPartner}
 use Rattle.te_pair.proofs.Among.{nothing_twice, next_taken}
 use Rattle.te_pair.proofs.EndsTold.{path_low, path_there}
-use Rattle.te_terms.proofs.Lists.{both_true}
-use Rattle.te_terms.proofs.Lists.{not_true}
+use Rattle.te_terms.proofs.Lists.{both_true, not_true}
 
 -- ---- what is picked of a list
 

@@ -27,8 +27,7 @@ use Rattle.te_reader.proofs.TallyLemmas.{tally_same}
 use Rattle.te_reader.proofs.Passing.{spots_of, dotted, Goes, goes, goes_alone, names_in, at, at_same, reaching_same, not_among}
 use Rattle.te_reader.proofs.SpelledPasses.{IsFew, expression_goes, expression_plain, primitive_goes, operand_is}
 use Rattle.te_reader.proofs.EventIsRead.{some_height}
-use Rattle.te_terms.proofs.Lists.{deeper}
-use Rattle.te_terms.proofs.Lists.{whole_taken}
+use Rattle.te_terms.proofs.Lists.{deeper, whole_taken}
 
 -- ---- what is reached
 

@@ -8,14 +8,13 @@ use Rattle.te_terms.specs.Expressions.{Variable, register, name, known, Primitiv
 use Rattle.te_terms.specs.Terms.{Term, always, never, fresh, throw, send, recv, and_then, choose, catch, when}
 use Rattle.te_script.specs.Names.{IsName}
 use Rattle.te_script.specs.Scripts.{Statement, sync, emit, repeat, Thread, Program, with_register, AreStatements, IsThread, IsProgram, HasNames, IsScript}
-use Rattle.te_terms.proofs.Lists.{AllByRecursion-append}
+use Rattle.te_terms.proofs.Lists.{AllByRecursion-append, whole_taken}
 use Rattle.te_reader.specs.declared.token.Word.TheVariants as words
 use Rattle.te_reader.specs.declared.token.Sign.TheVariants as signs
 use Rattle.te_reader.specs.Tokens as tokens
 use Rattle.te_reader.specs.Tokens.{Token, word, sign, AreTokens}
 use Rattle.te_reader.specs.Grammar.{Span, is, ◌⨟◌, either, some_name, span_under, Names, IsAt, IsFreeName, with_inner, bound_name, binds, spells_variable, spells_integer, spells_primitive, spells_calculation, spells_further, spells_inside, spells_expression, EventPlace, alone, in_do, in_choose, closed_span, closed_do, closed_choose, in_braces, do_parts, test_sign, arith_sign, spells_event, written_names, spells_sync, spells_statements, spells_thread, spells_threads, spells_names, spells_channels, spells_program}
 use Rattle.te_reader.proofs.KeptIsRead.{next_taken}
-use Rattle.te_terms.proofs.Lists.{whole_taken}
 
 -- ---- behind a span tokens are left
 

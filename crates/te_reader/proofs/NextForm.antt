@@ -14,8 +14,7 @@ use Rattle.te_reader.specs.Rules.{Context, rules, first_broken, context_after}
 use Rattle.te_reader.specs.Faults.{misfit}
 use Rattle.te_reader.specs.Runs.{found, pick, pick_plain, event_form, parts_form, part_form, is_bound, run}
 use Rattle.te_reader.specs.Finding.{form_seen, is_last, is_end, IsPickedAs, LooksAt, EndsSpots, GoesBehind, first_head}
-use Rattle.te_terms.proofs.Lists.{not_true}
-use Rattle.te_terms.proofs.Lists.{not_false}
+use Rattle.te_terms.proofs.Lists.{not_true, not_false}
 
 bound_parts : (h : Head) → is_bound h ≡ true → parts_form h ≡ part_form h
 bound_parts (token (tokens.name n)) e = refl

@@ -27,8 +27,7 @@ use Rattle.te_reader.specs.Tallies.{Tally, one_node, one_channel, tally_with_eve
 use Rattle.te_reader.proofs.TallyLemmas.{tally_same}
 use Rattle.te_reader.proofs.Passing.{spots_of, dotted, names_in, at, at_same, reaching_same}
 use Rattle.te_reader.proofs.EventPasses.{reached, cut, settled_deeper, fresh_bar, opened_at, with_inners, take_front, PartAndMore, EventAndMore, ClosedEvent, parts_as_event}
-use Rattle.te_terms.proofs.Lists.{whole_taken}
-use Rattle.te_terms.proofs.Lists.{deeper}
+use Rattle.te_terms.proofs.Lists.{whole_taken, deeper}
 use Rattle.te_reader.proofs.EventIsRead.{some_height}
 use Rattle.te_reader.proofs.PassedExpressions.{Passed, went, kept_first, took_sign, took_word, scope_in, operand_passed, expression_passed}
 

@@ -35,8 +35,7 @@ use Rattle.te_reader.proofs.EventPasses.{reached}
 use Rattle.te_reader.proofs.ScriptPasses.{Rest, stand}
 use Rattle.te_reader.proofs.PassedExpressions.{Passed, unbroken, went, kept_first, took_alone, took_sign, took_word, one_token, expression_passed}
 use Rattle.te_reader.proofs.PassedEvents.{new_name, event_passed}
-use Rattle.te_terms.proofs.Lists.{both_true}
-use Rattle.te_terms.proofs.Lists.{not_false}
+use Rattle.te_terms.proofs.Lists.{both_true, not_false}
 
 -- ---- statements
 

@@ -26,10 +26,9 @@ use Rattle.te_reader.specs.Rules as rules
 use Rattle.te_reader.specs.Rules.{Context, nothing_before, is_among, whole_event, first_broken}
 use Rattle.te_reader.specs.Tallies.{Tally, no_node, tally_with_event}
 use Rattle.te_reader.specs.Runs.{pick, pick_plain, run}
-use Rattle.te_terms.proofs.Lists.{AllByRecursion-append}
+use Rattle.te_terms.proofs.Lists.{AllByRecursion-append, whole_taken}
 use Rattle.te_reader.proofs.ListsKept.{all_at}
 use Rattle.te_reader.proofs.KeptIsRead.{at_inside, at_taken, new_behind, next_taken, length_taken, no_channel, Registers}
-use Rattle.te_terms.proofs.Lists.{whole_taken}
 use Rattle.te_reader.proofs.NameSetLemmas.{among_at}
 use Rattle.te_reader.proofs.Passing.{spots_of, dotted, Goes, goes, goes_alone, names_in, at, not_among}
 use Rattle.te_reader.proofs.SpelledPasses.{IsFew, expression_goes}

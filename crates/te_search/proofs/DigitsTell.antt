@@ -11,10 +11,9 @@ use Rattle.te_trail.specs.States.{chosen, members_met, MovedEnds, path_state, Ha
 use Rattle.te_trail.proofs.Lines.{above_self, above_trans, above_both, above_line, rests_move, above_rests}
 use Rattle.te_trail.proofs.ClockLaws.{clock_self, clock_top, Agrees, made_planted}
 use Rattle.te_trail.proofs.MembersMove.{Handing, handing}
-use Rattle.te_terms.proofs.Lists.{some_map}
+use Rattle.te_terms.proofs.Lists.{some_map, never_both}
 use Rattle.te_trail.proofs.PastsChain.{then_some, parts_of, fits_past}
 use Rattle.te_pair.proofs.EndsTold.{one_state}
-use Rattle.te_terms.proofs.Lists.{never_both}
 
 -- ---- the digits
 

@@ -13,10 +13,9 @@ use Rattle.te_trail.specs.States.{chosen, MovedEnds, members_met, path_state}
 use Rattle.te_trail.specs.Views.{view_of}
 use Rattle.te_trail.proofs.Lines.{above_self}
 use Rattle.te_trail.proofs.ClockLaws.{eq_apart, deeper_either, Agrees, agree_by}
-use Rattle.te_terms.proofs.Lists.{eq_same}
+use Rattle.te_terms.proofs.Lists.{eq_same, some_map}
 use Rattle.te_trail.proofs.MembersMove.{found_new, found_other, view_append, Handing, handing}
 use Rattle.te_trail.proofs.MovesChain.{view_choice, view_choice_other, view_sender, view_receiver, view_other, state_after}
-use Rattle.te_terms.proofs.Lists.{some_map}
 use Rattle.te_trail.proofs.AgreeIsExact.{agree_flip}
 use Rattle.te_search.proofs.StepsTaken.{Stepping, stepped_quietly, stepped_by_choice, Joining, stepped_by_meeting}
 

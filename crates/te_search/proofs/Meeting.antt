@@ -21,11 +21,9 @@ use Rattle.te_search.specs.Works.{label_told, pending_of, IsWorkOf, IsWorkOn, Ca
 use Rattle.te_search.proofs.ListLaws.{holds_left, holds_right, holds_which}
 use Rattle.te_trail.proofs.StoresHold.{held}
 use Rattle.te_search.proofs.Trying.{path_there}
-use Rattle.te_terms.proofs.Lists.{get_some}
+use Rattle.te_terms.proofs.Lists.{get_some, found_here, get-longer}
 use Rattle.te_search.proofs.Trying as trying
-use Rattle.te_terms.proofs.Lists.{found_here}
 use Rattle.te_search.proofs.Working.{gains_both, ups_more}
-use Rattle.te_terms.proofs.Lists.{get-longer}
 
 -- ---- the kept paths of a direction and channel
 

@@ -12,7 +12,7 @@ use Rattle.te_terms.specs.Settling.{settled}
 use Rattle.te_trail.specs.Paths.{Path, planted, branched, sent, got, thread_of, own_labels}
 use Rattle.te_trail.specs.States.{chosen, MovedEnds, members_met, path_state, HasState}
 use Rattle.te_trail.specs.Views.{Chain, view_of, Name, path_name_of, IsPathName, IsGroupName}
-use Rattle.te_terms.proofs.Lists.{eq_same}
+use Rattle.te_terms.proofs.Lists.{eq_same, all_with, all_both}
 use Rattle.te_trail.proofs.MembersMove.{found_thread}
 use Rattle.te_trail.proofs.MovesChain.{state_after}
 use Rattle.te_trail.proofs.PastsChain.{then_some, parts_of}
@@ -22,8 +22,6 @@ use Rattle.te_search.proofs.Trying.{state_member}
 use Rattle.te_search.proofs.NodesRunOut.{moves_weigh, moves_fit}
 use Rattle.te_search.proofs.DigitsTell.{letters, receives, Target, target_of, targets, Standing, AreAlike, digits_tell}
 use Rattle.te_search.proofs.DigitsCounted.{product, Fit, number, number_low, number_tells, fit_both, fit_length, product_both, product_alike, both_same, padded, padded_fits, padded_tells, AreNumbered, NoneAlike, counted}
-use Rattle.te_terms.proofs.Lists.{all_with}
-use Rattle.te_terms.proofs.Lists.{all_both}
 
 -- ---- members
 

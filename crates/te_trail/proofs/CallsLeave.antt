@@ -28,17 +28,13 @@ use Rattle.te_trail.proofs.ClockLaws.{Agrees, agrees_by}
 use Rattle.te_trail.proofs.PastsChain.{grown_has}
 use Rattle.te_trail.proofs.MovesChain.{state_after}
 use Rattle.te_trail.proofs.RecordsRead.{got_or, length_paths, record_there}
-use Rattle.te_terms.proofs.Lists.{get_taken}
-use Rattle.te_terms.proofs.Lists.{get_low}
-use Rattle.te_terms.proofs.Lists.{found_here}
-use Rattle.te_terms.proofs.Lists.{get_some}
+use Rattle.te_terms.proofs.Lists.{get_taken, get_low, found_here, get_some, one_item}
 use Rattle.te_trail.proofs.RecordsPut.{AreNew, Missing}
 use Rattle.te_trail.proofs.NewPaths.{planted_record, plant_new, branched_record, SideIs, branch_new, sender_record, receiver_record, met_records, meet_new}
 use Rattle.te_trail.proofs.EventsFound.{event_found, members_put}
 use Rattle.te_trail.proofs.StoresHold.{held, place_held, is_store}
 use Rattle.te_trail.proofs.StoresKeep.{AreAdded, whole_pushed, whole_marked, whole_cut}
 use Rattle.te_trail.proofs.SpotsMove.{branch_state}
-use Rattle.te_terms.proofs.Lists.{one_item}
 
 abbrev pub viewed : List Planned → List PathRecord → List StoreMark → Trail
 viewed events records marks = record { events = members_of events; paths = paths_of records; marks = map mark_seen marks }

@@ -11,13 +11,9 @@ use Rattle.te_trail.specs.Paths.{Path, planted, branched, sent, got}
 use Rattle.te_trail.specs.Trails.{Trail, unplanted}
 use Rattle.te_trail.specs.States.{chosen, MovedEnds, members_met, path_state, HasState}
 use Rattle.te_trail.specs.Records.{origin_at, member_of_event, members_of, ArePlannedEvents}
-use Rattle.te_terms.proofs.Lists.{eq_same}
+use Rattle.te_terms.proofs.Lists.{eq_same, get_taken, get_low, some_map, take_all}
 use Rattle.te_trail.proofs.RecordsRead.{get_old, get_which}
-use Rattle.te_terms.proofs.Lists.{get_taken}
-use Rattle.te_terms.proofs.Lists.{get_low}
 use Rattle.te_trail.proofs.PastsChain.{then_some, parts_of}
-use Rattle.te_terms.proofs.Lists.{some_map}
-use Rattle.te_terms.proofs.Lists.{take_all}
 
 events_rest : (x : Planned) (xs : List Planned) → ArePlannedEvents (x ∷ xs) → ArePlannedEvents xs
 events_rest x xs are = record {

@@ -10,8 +10,7 @@ use Rattle.te_terms.proofs.Settles.{settled_is_reached, quietly_thread, settled_
 use Rattle.te_trail.specs.States.{chosen, MovedEnds, members_met_by, members_met}
 use Rattle.te_trail.specs.Views.{Chain, touches, view_of}
 use Rattle.te_trail.proofs.ClockLaws.{eq_apart}
-use Rattle.te_terms.proofs.Lists.{eq_same}
-use Rattle.te_terms.proofs.Lists.{some_map}
+use Rattle.te_terms.proofs.Lists.{eq_same, some_map}
 
 -- ---- finding
 

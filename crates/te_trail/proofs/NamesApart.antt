@@ -12,8 +12,7 @@ use Rattle.te_trail.specs.Views.{Chain, touches, view_of, HasPast, LeavesAt, Nam
 use Rattle.te_trail.specs.Together.{ChainOfAll, AllAgree, AreAmong, NamesDeepest}
 use Rattle.te_trail.proofs.Lines.{rests_move}
 use Rattle.te_trail.proofs.ClockLaws.{Agrees, agrees_by, clock_thread, clock_in, clock_top}
-use Rattle.te_terms.proofs.Lists.{eq_same}
-use Rattle.te_terms.proofs.Lists.{some_map}
+use Rattle.te_terms.proofs.Lists.{eq_same, some_map}
 use Rattle.te_trail.proofs.PastsChain.{then_some, Agreeing, PastsAre, one_chain, true_pasts, grown_has, team_low}
 use Rattle.te_trail.proofs.OwnMoves.{unique}
 use Rattle.te_trail.proofs.AgreeIsExact.{known_in, names_apart, path_played}

@@ -20,9 +20,8 @@ use Rattle.std.proofs.lemmas.Option.{slice_get-map}
 use Rattle.std.specs.Option.{option_map}
 use Rattle.te_trail.specs.declared.planned.Planned.{Planned}
 use Rattle.te_trail.specs.Records.{members_of, member_of_event, paths_of, IsMadeBy, parent_number, HasParent, Fits, FitsAll}
-use Rattle.te_terms.proofs.Lists.{get_low}
+use Rattle.te_terms.proofs.Lists.{get_low, one_item}
 use Rattle.te_trail.proofs.StoresHold.{place_held}
-use Rattle.te_terms.proofs.Lists.{one_item}
 
 -- ---- none of all
 

@@ -11,10 +11,9 @@ use Rattle.te_trail.specs.Stores.{Holds, IsNext, with_move, with_moves, AreMade,
 use Rattle.te_trail.specs.Views.{Chain, touches, view_of, Begins, HasPast, LeavesAt, ChainOfBoth}
 use Rattle.te_trail.proofs.Lines.{above_self, above_depth, above_thread, above_trans, above_same, above_both, above_line, line_flip, line_depth, ancestor, rests_move, rests_trans, above_rests, rests_made}
 use Rattle.te_trail.proofs.ClockLaws.{eq_apart, differ, deeper_left, deeper_right, deeper_either, clock_thread, clock_in, clock_self, Agrees, agrees_by, agree_by, made_planted, made_branched, made_met, clock_top, past_line, agree_line}
-use Rattle.te_terms.proofs.Lists.{eq_same}
+use Rattle.te_terms.proofs.Lists.{eq_same, some_map}
 use Rattle.te_trail.proofs.MembersMove.{found_thread, found_new, found_other, chain_append, labels_append, view_append, no_chain, chain_on, Moves, quiets, settles_there, chooses, Meets, Handing, handing, meets}
 use Rattle.te_trail.proofs.MovesChain.{Together, stands_at, owned_by, PlaceAt, AreClosed, AllPlaced, state_branched, state_after, state_met, view_choice, view_choice_other, view_sender, view_receiver, view_other, Goes_on, shut_grow, runs, shut_grown, store_shut, runs_all}
-use Rattle.te_terms.proofs.Lists.{some_map}
 use Rattle.te_trail.proofs.PastsChain.{same_true, same_self, rests_true, true_rests, pasts_true, true_pasts, then_some, parts_of, fits_past, sound_past, Agreeing, team_line, joined, grown_has, above_own, PastsAre, one_chain, team_low}
 
 pub own_depth : (x : Path) → length (own_labels x) ≡ depth_of x

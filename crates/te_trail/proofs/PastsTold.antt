@@ -19,11 +19,8 @@ use Rattle.te_trail.proofs.Lines.{rests_move, above_rests}
 use Rattle.te_trail.proofs.ClockLaws.{clock_in, clock_top}
 use Rattle.te_trail.proofs.PastsChain.{rests_true, true_rests}
 use Rattle.te_trail.proofs.RecordsRead.{length_paths}
-use Rattle.te_terms.proofs.Lists.{get_low}
-use Rattle.te_terms.proofs.Lists.{found_here}
-use Rattle.te_terms.proofs.Lists.{get_some}
+use Rattle.te_terms.proofs.Lists.{get_low, found_here, get_some, one_item}
 use Rattle.te_trail.proofs.StoresHold.{held}
-use Rattle.te_terms.proofs.Lists.{one_item}
 
 -- ---- whether a path rests on a move
 

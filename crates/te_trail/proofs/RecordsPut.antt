@@ -18,13 +18,9 @@ use Rattle.te_trail.specs.Walks.{TellsParent, FitAt, AllFit, FittingFor, Misfit,
 use Rattle.te_trail.specs.Records.{path_at, last_of, other_end, path_by, mate_of, paths_from, paths_of, is_sender, EndsAfter, EndsWhole, parent_number, HasParent, Fits, FitsAll}
 use Rattle.te_trail.proofs.Lines.{above_self, above_depth, above_thread, above_trans, above_same, above_both, above_line, line_flip, line_depth, ancestor, rests_move, rests_trans, above_rests, rests_made}
 use Rattle.te_trail.proofs.ClockLaws.{eq_apart, differ, deeper_left, deeper_right, deeper_either, clock_thread, clock_in, clock_self, Agrees, agrees_by, agree_by, made_planted, made_branched, made_met, clock_top, past_line, agree_line}
-use Rattle.te_terms.proofs.Lists.{eq_same}
+use Rattle.te_terms.proofs.Lists.{eq_same, get_taken, get_low, found_here, get_some}
 use Rattle.te_trail.proofs.TicksMerge.{between_step, between_done, between_more, length_between, merged_nil, next_right, next_left, next_lower, next_higher, next_both, IsJoining, joining_start, joining_step, joining_end, IsRaising, raising_start, raising_step, raising_room, raising_end, named_skip, named_here}
 use Rattle.te_trail.proofs.RecordsRead.{get_old, get_new, got_or, get_which, take_low, take_all, length_from, length_paths, trees_append, shut_append, end_append}
-use Rattle.te_terms.proofs.Lists.{get_taken}
-use Rattle.te_terms.proofs.Lists.{get_low}
-use Rattle.te_terms.proofs.Lists.{found_here}
-use Rattle.te_terms.proofs.Lists.{get_some}
 use Rattle.te_trail.proofs.Ancestors.{AreTidy, node_at, tidy, above_up, above_top, above_number, above_le, numbers_apart, parent_known, AboveAlike, above_start, above_next, above_none, above_end, fits_same, fits_under, fits_own, fits_over, fits_other, line_fits}
 use Rattle.te_trail.proofs.ClocksWalk.{named_beyond, RestDecides, walk_low, walk_high, walk_both, walk_end, named_at, IsClocked, IsKnown, known, agree_same, agree_false, agree_true, tick_low, misfit, fitting, agree_told}
 

@@ -20,9 +20,7 @@ use Rattle.te_trail.specs.Paths.{Path, branched}
 use Rattle.te_trail.specs.States.{chosen, MovedEnds, members_met, path_state}
 use Rattle.te_trail.specs.Trails.{FaceEachOther}
 use Rattle.te_trail.specs.Records.{origin_at, SpotSpells, BothMet}
-use Rattle.te_terms.proofs.Lists.{eq_same}
-use Rattle.te_terms.proofs.Lists.{get_low}
-use Rattle.te_terms.proofs.Lists.{one_item}
+use Rattle.te_terms.proofs.Lists.{eq_same, get_low, one_item}
 
 -- of the event there
 pub record SpellsAt (e : Planned) (c : Cells) (s : Spot) (m : Member) : Type 0 where

@@ -20,8 +20,7 @@ use Rattle.te_trail.proofs.ClockLaws.{Agrees, agrees_by, agree_by, differ}
 use Rattle.te_trail.proofs.PastsChain.{grown_has}
 use Rattle.te_trail.proofs.AgreeIsExact.{agree_together, together_agree, path_played}
 use Rattle.te_trail.proofs.RecordsRead.{length_paths}
-use Rattle.te_terms.proofs.Lists.{get_low}
-use Rattle.te_terms.proofs.Lists.{get_some}
+use Rattle.te_terms.proofs.Lists.{get_low, get_some}
 use Rattle.te_trail.proofs.Ancestors.{node_at}
 
 pub held : (xs : List Path) (k : ℕ) (x : Path) → slice_get xs k ≡ Some x → Holds xs x

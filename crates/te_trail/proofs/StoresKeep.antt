@@ -17,9 +17,7 @@ use Rattle.te_trail.specs.States.{path_state}
 use Rattle.te_trail.specs.Stores.{Holds, IsNext, with_move, with_moves, AreMade}
 use Rattle.te_trail.specs.Records.{origin_at, member_of_event, members_of, ArePlannedEvents, paths_of, FitsAll, SpotSpells, RecordStands, RecordsAreKept, IsMarked, IsEarlier, StoreIsWhole}
 use Rattle.te_trail.proofs.RecordsRead.{get_old, get_new, get_which, take_low, take_all, length_paths}
-use Rattle.te_terms.proofs.Lists.{get_taken}
-use Rattle.te_terms.proofs.Lists.{get_low}
-use Rattle.te_terms.proofs.Lists.{get_some}
+use Rattle.te_terms.proofs.Lists.{get_taken, get_low, get_some}
 use Rattle.te_trail.proofs.RecordsPut.{AreNew, kept_push}
 use Rattle.te_trail.proofs.EventsFound.{events_put, members_put, state_more}
 

@@ -32,9 +32,8 @@ use Rattle.te_report.specs.declared.ending.Ending.TheVariants as endings
 use Rattle.tevents.specs.SerialRuns.{IsStopped, RunEndsSo}
 use Rattle.tevents.specs.Repeats.{HasNoRepeat, HasNoRepeats}
 use Rattle.tevents.proofs.PostsCounted.{syncs_in, wish_within, syncs_within, sum_posts, sum_other, sum_post, sum_fewer, not_by, is_by, same_or_apart}
-use Rattle.te_terms.proofs.Lists.{eq_same}
+use Rattle.te_terms.proofs.Lists.{eq_same, all_at}
 use Rattle.te_board.proofs.Reserving.{idle_room}
-use Rattle.te_terms.proofs.Lists.{all_at}
 use Rattle.te_history.proofs.GivenOnce.{all_idle}
 
 -- how often a caller has posted, and how many outcomes it has taken, by where it stands

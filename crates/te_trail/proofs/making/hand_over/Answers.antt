@@ -10,8 +10,7 @@ use Rattle.te_trail.specs.declared.store.PathRecord.{PathRecord}
 use Rattle.te_trail.specs.declared.store.StoreMark.{StoreMark}
 use Rattle.te_trail.specs.Trails.{Trail, FaceEachOther}
 use Rattle.te_trail.specs.Records.{StoreIsWhole, SpotSpells, BothMet, origin_at}
-use Rattle.te_terms.proofs.Lists.{get_low}
-use Rattle.te_terms.proofs.Lists.{found_here}
+use Rattle.te_terms.proofs.Lists.{get_low, found_here}
 use Rattle.te_trail.proofs.StoresKeep.{whole_grown, whole_put, whole_marked, spells_grown}
 use Rattle.te_trail.proofs.SpotsMove.{SpellsAt, spells_at, spells_low, choice_stop, send_stop, both_met, can_send, can_receive}
 use Rattle.te_trail.proofs.CallsLeave.{viewed, plant_leaves, PathThere, path_there, path_chooses, branch_leaves, paths_face, one_member, meet_leaves, mark_view, cut_done, event_there, on_one, on_two, kept_so}
