@@ -109,7 +109,8 @@ agree_planted s t ne = record {
 pub record Full (g : List Member) (made : Path → Type 0) : Type 0 where
   pub plants : (t : ℕ) (e : Member) → member_of t g ≡ Some e → made (planted t)
   pub branches : (p : Path) (l : Bool) (e u : Member) → made p → path_state g p ≡ Some e → chosen l e ≡ Some u → made (branched p l)
-  pub joins : (p q : Path) (a b : Member) (r : MovedEnds) → made p → made q → Agrees p q → path_state g p ≡ Some a → path_state g q ≡ Some b → members_met a b ≡ Some r → made (sent p q) × made (got p q)
+  pub joins : (p q : Path) (a b : Member) (r : MovedEnds) → made p → made q → Agrees p q → path_state g p ≡ Some a
+      → path_state g q ≡ Some b → members_met a b ≡ Some r → made (sent p q) × made (got p q)
 
 -- one made path for each member, where a after with the labels w has come to h
 pub record Covers (g : List Member) (made : Path → Type 0) (h : List Member) (w : List Label) : Type 0 where

@@ -1,6 +1,7 @@
 -- A path in hand meets the kept ends that are its partners, one after the other.
 use Rattle.std.proofs.Common.{◌≡◌, ◌≤◌, ◌<◌, inl, inr, ℕ, zero, suc, ◌+◌, List, [], ◌∷◌, ◌++◌, length, map, Bool, true}
-use Rattle.std.proofs.Common.{false, not, cond, nat_eq, Option, Some, MatchBool, slice_get, get_or, refl, ap, sym, ◌∙◌, subst, arith, append_assoc, append-nil, length-append, eq-or-lt_of_le, eq-eqb, true≢false}
+use Rattle.std.proofs.Common.{false, not, cond, nat_eq, Option, Some, MatchBool, slice_get, get_or, refl, ap, sym, ◌∙◌}
+use Rattle.std.proofs.Common.{subst, arith, append_assoc, append-nil, length-append, eq-or-lt_of_le, eq-eqb, true≢false}
 use Rattle.std.specs.List.{filter, IsDistinct, AllByRecursion}
 use Rattle.std.proofs.lemmas.Map.Keys.{IsDistinct-head, IsDistinct-tail}
 use Rattle.te_terms.specs.Steps.{Member}

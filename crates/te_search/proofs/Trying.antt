@@ -301,7 +301,8 @@ tried_thread g paths threads finals there joined t n p s count ep th ne tried = 
 
 -- ---- what a store has
 
-pub stands_made : (g : List Member) (paths : List Path) (threads finals : List ℕ) → AssemblyStand g paths threads finals → (y : Path) (t : ℕ) (c : Path) → Holds paths y → clock_of y t ≡ Some c → Holds paths c
+pub stands_made : (g : List Member) (paths : List Path) (threads finals : List ℕ) → AssemblyStand g paths threads finals
+    → (y : Path) (t : ℕ) (c : Path) → Holds paths y → clock_of y t ≡ Some c → Holds paths c
 stands_made g paths threads finals st y t c h e = st.closed y c h (clock_in y t c (move_of c) e (rests_move c))
 
 pub stands_top : (g : List Member) (paths : List Path) (threads finals : List ℕ) → AssemblyStand g paths threads finals → (x : Path) → IsFinal g x → IsTop (Holds paths) x
