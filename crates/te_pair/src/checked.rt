@@ -8,7 +8,7 @@ use std::alloc::Global;
 use std::test::Fail;
 use te_path::Stop;
 use te_terms::{Parked, Rows};
-use te_trail::TrailStore;
+use te_trail::{Move, TrailStore};
 
 /// Puts one more event.
 pub(crate) fn put(store: &mut TrailStore, parked: &Parked) -> Result<(), Fail> {
@@ -60,6 +60,32 @@ pub(crate) fn meet(store: &mut TrailStore, p: u32, q: u32) -> Result<(u32, u32),
         },
         _ => Err("a send")?,
     }
+}
+
+/// Whether two paths agree.
+pub(crate) fn agree(store: &TrailStore, p: u32, q: u32) -> Result<bool, Fail> {
+    let count = store.len();
+    if p >= count || q >= count {
+        Err("two paths")?;
+    }
+    Ok(store.agree(p, q))
+}
+
+/// The trail of a path.
+pub(crate) fn trail(store: &TrailStore, alloc: Global, p: u32) -> Result<Rows<Move>, Fail> {
+    if p >= store.len() {
+        Err("a path")?;
+    }
+    Ok(store.trail(alloc, p)?)
+}
+
+/// Goes back to a mark.
+pub(crate) fn cut(store: &mut TrailStore, mark: usize) -> Result<(), Fail> {
+    if !store.has_mark(mark) {
+        Err("a mark")?;
+    }
+    store.cut(mark);
+    Ok(())
 }
 
 // Whether path `p` stands at a send or a receive.

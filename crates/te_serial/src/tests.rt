@@ -1,3 +1,4 @@
+mod reporting;
 mod searching;
 
 ghost use Rattle.std.specs.Prelude.{◌≡◌, ◌≤◌, IfOk};
