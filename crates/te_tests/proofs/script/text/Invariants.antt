@@ -2,7 +2,7 @@ use Rattle.std.proofs.Common.{◌≤◌, length, map}
 use Rattle.std.specs.List.{AllByRecursion}
 use Rattle.te_script.specs.Scripts.{AreStatements}
 use Rattle.te_script.specs.Texts.{statement_of, RootIsNode}
-use Rattle.te_script.proofs.tests.text.Given as goal
+use Rattle.te_tests.proofs.script.text.Given as goal
 
 abbrev pub invariant-loop-line : goal.invariant-loop-line
 invariant-loop-line l = record {

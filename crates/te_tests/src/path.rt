@@ -1,7 +1,7 @@
-use crate::*;
 use std::alloc::Global;
 use std::sync::Arc;
 use std::test::Fail;
+use te_path::*;
 use te_terms::{
     Arith, Atom, Calc, Calcs, Cond, Event, EventCode, Expr, Node, Prim, Test, Value, Var,
 };

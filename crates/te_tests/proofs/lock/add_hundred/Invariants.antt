@@ -1,6 +1,6 @@
 use Rattle.std.proofs.Common.{◌≡◌, false}
 use Rattle.te_lock.specs.Lock.{IsSamePass}
-use Rattle.te_lock.proofs.tests.add_hundred.Given as goal
+use Rattle.te_tests.proofs.lock.add_hundred.Given as goal
 
 -- the pass is the same, without the turn
 abbrev pub invariant-loop-number : goal.invariant-loop-number

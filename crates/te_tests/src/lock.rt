@@ -1,13 +1,13 @@
 ghost use Rattle.std.specs.Prelude.{◌≡◌, true, false, IfOk, IfSome, OnSome};
 ghost use Rattle.te_lock.specs.Lock.{IsSamePass};
 
-use super::*;
 use std::alloc::Global;
 use std::cell::Cell;
 use std::sync::Wait;
 use std::test::Fail;
 use std::thread;
 use std::thread::Threads;
+use te_lock::*;
 
 /// A list of pairs of a caller and a number, with a number of callers.
 #[derive(Drop)]

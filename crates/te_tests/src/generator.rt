@@ -1,5 +1,5 @@
-use crate::*;
 use std::test::Fail;
+use te_script::*;
 
 // A number, and the threads, channels and statements a thread of its script.
 const SCRIPTS: &[(u32, usize, usize)] = &[(0, 3, 2), (20, 63, 22), (299, 18, 301), (999, 39, 101)];

@@ -2,10 +2,10 @@ ghost use Rattle.std.specs.Prelude.{◌≡◌, IfOk, IsTrue};
 ghost use Rattle.te_terms.specs.Terms.{never};
 ghost use Rattle.te_terms.specs.Joint.{CanCommit};
 
-use crate::*;
 use std::alloc::Global;
 use std::sync::Arc;
 use std::test::Fail;
+use te_board::*;
 use te_cert::{Cert, CertFault, Meeting, Member};
 use te_history::{How, Phase, Status, play_commit};
 use te_terms::{Atom, Calc, Calcs, Event, EventCode, Expr, Node, Outcome, Prim, Rows, Value};

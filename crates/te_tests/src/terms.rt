@@ -1,7 +1,6 @@
-use super::slot::Slot;
-use super::*;
 use std::alloc::Global;
 use std::sync::Arc;
+use te_terms::*;
 
 const LEAST: i64 = i64::MIN;
 
@@ -214,7 +213,6 @@ fn limits_of_values_and_names(rt: HostRuntime) {
 #[test]
 fn values_are_packed(rt: HostRuntime) {
     assert_eq!(rt; size_of::<Value>(), 40);
-    assert_eq!(rt; size_of::<Slot>(), 16);
 }
 
 // Lists of one, two and four atoms of both kinds come back as they were, and differ where an atom does.

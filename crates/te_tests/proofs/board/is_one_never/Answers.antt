@@ -1,8 +1,8 @@
 use Rattle.std.proofs.Common.{◌∙◌, ap, subst, length, ◌≤◌, ◌<◌, List}
 use Rattle.te_terms.specs.declared.event.Parked.{Parked}
 use Rattle.te_terms.specs.Joint.{CanCommit}
-use Rattle.te_board.proofs.OneNever.{list_waits}
-use Rattle.te_board.proofs.tests.is_one_never.Goals as goal
+use Rattle.te_tests.proofs.OneNever.{list_waits}
+use Rattle.te_tests.proofs.board.is_one_never.Goals as goal
 
 pub returns-in-len1 : goal.returns-in-len1
 returns-in-len1 c =

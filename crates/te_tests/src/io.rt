@@ -1,7 +1,7 @@
-use crate::*;
 use std::io;
 use std::io::{ErrorKind, Read, Write};
 use std::test::Fail;
+use te_io::*;
 
 const SCRIPT: &[u8] =
     b"channels c; thread a { x <- sync send c (7); } thread b { y <- sync recv c; emit y; }";

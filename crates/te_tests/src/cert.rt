@@ -1,7 +1,7 @@
-use crate::*;
 use std::alloc::Global;
 use std::sync::Arc;
 use std::test::Fail;
+use te_cert::*;
 use te_terms::{
     Arith, Atom, Calc, Calcs, Event, EventCode, Expr, Node, Outcome, Prim, Rows, Value, Var,
 };

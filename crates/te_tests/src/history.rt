@@ -1,8 +1,8 @@
-use crate::*;
 use std::alloc::Global;
 use std::sync::Arc;
 use std::test::Fail;
 use te_cert::{Cert, CertFault, Meeting, Member};
+use te_history::*;
 use te_terms::{Atom, Calc, Calcs, Event, EventCode, Expr, Node, Outcome, Prim, Rows, Value};
 
 fn seven() -> Value {

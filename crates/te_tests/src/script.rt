@@ -5,10 +5,10 @@ ghost use Rattle.te_terms.specs.Codes.{calculation_of, expression_of};
 ghost use Rattle.te_script.specs.Scripts.{AreStatements, IsEvent};
 ghost use Rattle.te_script.specs.Texts.{statement_of, RootIsNode};
 
-use crate::*;
 use std::alloc::Global;
 use std::sync::Arc;
 use std::test::Fail;
+use te_script::*;
 use te_terms::{
     Arith, Atom, Calc, Calcs, Event, EventCode, Expr, Name, Node, Outcome, Prim, Rows, Value, Var,
 };

@@ -5,7 +5,7 @@ use Rattle.te_script.specs.Scripts.{AreStatements}
 use Rattle.te_script.specs.Texts.{statement_of, RootIsNode}
 use Rattle.te_script.proofs.Appending.{AreStatements-append}
 use Rattle.te_terms.proofs.Lists.{AllByRecursion-append}
-use Rattle.te_script.proofs.tests.text.Goals as goal
+use Rattle.te_tests.proofs.script.text.Goals as goal
 
 pub loop-line-preserved : goal.loop-line-preserved
 loop-line-preserved c =

@@ -1,6 +1,6 @@
 use Rattle.std.proofs.Common.{◌≡◌, ℕ, zero, suc, ◌<◌, Contains, List, [], ◌∷◌, ◌++◌, map, sym, ap, ◌∙◌, subst, arith}
 use Rattle.te_lock.specs.Lock.{Knowledge}
-use Rattle.te_lock.proofs.tests.ended.Goals as goal
+use Rattle.te_tests.proofs.lock.ended.Goals as goal
 
 both : (a b k : ℕ) → a ≡ 0 → b ≡ 1 → k < 2 → Contains (a ∷ b ∷ []) k
 both a b zero first second below = (0, omega arith, first)
