@@ -1,4 +1,3 @@
-mod reporting;
 mod searching;
 
 ghost use Rattle.std.specs.Prelude.{◌≡◌, ◌≤◌, IfOk};

@@ -3,11 +3,11 @@
 
 ghost use Rattle.te_pair.specs.Ends.{AreEnds};
 
-use crate::checked::{add, agree, branch, cut, meet, partners, plant, put, trail};
-use crate::*;
+use crate::looking::{add, agree, branch, cut, meet, partners, plant, put, trail};
 use std::alloc::Global;
 use std::sync::Arc;
 use std::test::Fail;
+use te_pair::Waiting;
 use te_terms::{Arith, Calc, Calcs, Event, EventCode, Expr, Node, Parked, Prim, Value, Var};
 use te_trail::{Move, TrailStore};
 

@@ -3,9 +3,9 @@
 ghost use Rattle.std.specs.Prelude.{◌<◌, length, IsTrue};
 ghost use Rattle.te_pair.specs.Ends.{IsAtEnd, AreEnds};
 
-use crate::waiting::Waiting;
 use std::alloc::Global;
 use std::test::Fail;
+use te_pair::Waiting;
 use te_path::Stop;
 use te_terms::{Parked, Rows};
 use te_trail::{Move, TrailStore};
