@@ -4,7 +4,7 @@ ghost use Rattle.std.specs.Prelude.{IfOk, IsOk};
 ghost use Rattle.te_terms.specs.Joint.{IsGroup, as_group};
 ghost use Rattle.te_search.specs.Batches.{IsInBatch, IsLook};
 
-use super::events::{both, parked, receives, ring, sends};
+use super::events::{Step, parked, ring};
 use std::alloc::Global;
 use std::test::Fail;
 use te_search::{Look, Search, SearchFault};
@@ -129,7 +129,7 @@ fn a_ring_is_searched_in_four_batches(rt: HostRuntime) -> Result<(), Fail> {
 
 #[test]
 fn a_search_in_batches_ends_where_nothing_reduces(rt: HostRuntime) -> Result<(), Fail> {
-    let alone = parked(rt.alloc(), &[&both(sends(0), receives(0))])?;
+    let alone = parked(rt.alloc(), &[&[Step::Send(0), Step::Recv(0)]])?;
     let members = members_by_batches(rt.alloc(), &alone, &[&[Stands::Alone], &[]])?;
     assert!(rt; members.as_slice() == [0, 0].as_slice());
     Ok(())

@@ -9,63 +9,110 @@ use std::test::Fail;
 use te_search::KeptSearch;
 use te_terms::{Arith, Calc, Calcs, Event, EventCode, Expr, Node, Parked, Prim, Value, Var};
 
-/// The event under the last of these nodes.
-pub(crate) fn event(alloc: Global, nodes: &[Node]) -> Result<Event, Fail> {
-    let mut code = EventCode::new(alloc);
-    let mut root = 0;
-    for node in nodes {
-        root = code.push(*node).ok().ok_or("a node")?;
-    }
-    let regs = [Value::unit(); 8];
-    Ok(Event::new(Arc::new(alloc, code)?, root, regs).ok_or("a root")?)
+/// A step of an event that tests search.
+#[derive(Clone, Copy)]
+pub(crate) enum Step {
+    /// send channel (1)
+    Send(u32),
+    /// send channel (u.0 + 1), where u is what the first step gave
+    SendMore(u32),
+    /// recv channel
+    Recv(u32),
+    /// always u, where u is what the first step gave
+    Give,
+    /// throw (1)
+    Throw,
+    /// never
+    Never,
+    /// choose { send first (1) | send second (1) }
+    Either(u32, u32),
 }
 
-fn tuple(list: &[Calc]) -> Expr {
-    match Calcs::of(list) {
+fn tuple(calc: Calc) -> Expr {
+    match Calcs::of(&[calc]) {
         Some(calcs) => Expr::Tuple(calcs),
         None => Expr::Whole(Var::Reg(0)),
     }
 }
 
-/// send channel (1)
-pub(crate) fn sends(channel: u32) -> Node {
-    Node::Send(Prim::Chan(channel), tuple(&[Calc::One(Prim::Int(1))]))
+// (1)
+fn one() -> Expr {
+    tuple(Calc::One(Prim::Int(1)))
 }
 
-/// recv channel
-pub(crate) fn receives(channel: u32) -> Node {
-    Node::Recv(Prim::Chan(channel))
+// (u.0 + 1)
+fn one_more() -> Expr {
+    tuple(Calc::Op(Arith::Add, Prim::Part(Var::Inner(0), 0), Prim::Int(1)))
 }
 
-/// throw ()
-pub(crate) fn throws() -> Node {
-    Node::Throw(tuple(&[]))
+fn push(code: &mut EventCode, node: Node) -> Result<u32, Fail> {
+    Ok(code.push(node).ok().ok_or("a node")?)
 }
 
-/// Two steps, one after the other.
-pub(crate) fn both(first: Node, second: Node) -> [Node; 3] {
-    [first, second, Node::Then(0, 1)]
+fn push_either(code: &mut EventCode, first: u32, second: u32) -> Result<u32, Fail> {
+    let left = push(code, Node::Send(Prim::Chan(first), one()))?;
+    let right = push(code, Node::Send(Prim::Chan(second), one()))?;
+    push(code, Node::Choose(left, right))
 }
 
-/// choose { send 0 (1) | send 1 (1) }
-pub(crate) fn chooses() -> [Node; 3] {
-    [sends(0), sends(1), Node::Choose(0, 1)]
+/// Puts a step into a code.
+pub(crate) fn push_step(code: &mut EventCode, step: Step) -> Result<u32, Fail> {
+    match step {
+        Step::Send(channel) => push(code, Node::Send(Prim::Chan(channel), one())),
+        Step::SendMore(channel) => push(code, Node::Send(Prim::Chan(channel), one_more())),
+        Step::Recv(channel) => push(code, Node::Recv(Prim::Chan(channel))),
+        Step::Give => push(code, Node::Always(Expr::Whole(Var::Inner(0)))),
+        Step::Throw => push(code, Node::Throw(one())),
+        Step::Never => push(code, Node::Never),
+        Step::Either(first, second) => push_either(code, first, second),
+    }
 }
 
-/// do { u <- recv other; w <- send own (u.0 + 1); always u }
-pub(crate) fn passes_on(other: u32, own: u32) -> [Node; 5] {
-    let more = Calc::Op(Arith::Add, Prim::Part(Var::Inner(0), 0), Prim::Int(1));
-    [
-        receives(other),
-        Node::Send(Prim::Chan(own), tuple(&[more])),
-        Node::Always(Expr::Whole(Var::Inner(0))),
-        Node::Then(1, 2),
-        Node::Then(0, 3),
-    ]
+/// Puts a part before another, where there is one.
+pub(crate) fn push_before(
+    code: &mut EventCode,
+    first: u32,
+    rest: Option<u32>,
+) -> Result<u32, Fail> {
+    match rest {
+        Some(rest) => push(code, Node::Then(first, rest)),
+        None => Ok(first),
+    }
 }
 
-/// A search of these events, of threads from 0 on.
-pub(crate) fn kept(alloc: Global, events: &[&[Node]]) -> Result<KeptSearch, Fail> {
+/// The event of a code under a node.
+pub(crate) fn event_of(alloc: Global, code: EventCode, root: u32) -> Result<Event, Fail> {
+    let regs = [Value::unit(); 8];
+    Ok(Event::new(Arc::new(alloc, code)?, root, regs).ok_or("a root")?)
+}
+
+// The event of these steps, one after the other.
+fn event(alloc: Global, steps: &[Step]) -> Result<Event, Fail> {
+    let mut code = EventCode::new(alloc);
+    let mut root = None;
+    for i in 0..steps.len() {
+        let first = push_step(&mut code, steps[steps.len() - 1 - i])?;
+        root = Some(push_before(&mut code, first, root)?);
+    }
+    event_of(alloc, code, root.ok_or("a step")?)
+}
+
+/// Posts an event of these steps, for a thread that has none.
+pub(crate) fn post(
+    alloc: Global,
+    kept: &mut KeptSearch,
+    thread: u32,
+    steps: &[Step],
+) -> Result<(), Fail> {
+    if thread >= 64 || kept.has_thread(thread) {
+        Err("a thread without an event")?;
+    }
+    let event = event(alloc, steps)?;
+    Ok(kept.post(thread, 0, &event)?)
+}
+
+/// A search of events of these steps, of threads from 0 on.
+pub(crate) fn kept(alloc: Global, events: &[&[Step]]) -> Result<KeptSearch, Fail> {
     let mut kept = KeptSearch::new(alloc);
     for i in 0..events.len() {
         post(alloc, &mut kept, i as u32, events[i])?;
@@ -73,22 +120,8 @@ pub(crate) fn kept(alloc: Global, events: &[&[Node]]) -> Result<KeptSearch, Fail
     Ok(kept)
 }
 
-/// Posts one more event, for a thread that has none.
-pub(crate) fn post(
-    alloc: Global,
-    kept: &mut KeptSearch,
-    thread: u32,
-    nodes: &[Node],
-) -> Result<(), Fail> {
-    if thread >= 64 || kept.has_thread(thread) {
-        Err("a thread without an event")?;
-    }
-    let event = event(alloc, nodes)?;
-    Ok(kept.post(thread, 0, &event)?)
-}
-
-/// These events, of threads from 0 on, parked under ticket 0.
-pub(crate) fn parked(alloc: Global, events: &[&[Node]]) -> Result<Vec<Parked>, Fail>
+/// Events of these steps, of threads from 0 on, parked under ticket 0.
+pub(crate) fn parked(alloc: Global, events: &[&[Step]]) -> Result<Vec<Parked>, Fail>
     ensures { IfOk result (λ parked. IsGroup (as_group parked.items)) }
 {
     let kept = kept(alloc, events)?;
@@ -102,9 +135,9 @@ pub(crate) fn ring(alloc: Global) -> Result<Vec<Parked>, Fail>
     parked(
         alloc,
         &[
-            &both(sends(0), receives(2)),
-            &passes_on(0, 1),
-            &passes_on(1, 2),
+            &[Step::Send(0), Step::Recv(2)],
+            &[Step::Recv(0), Step::SendMore(1), Step::Give],
+            &[Step::Recv(1), Step::SendMore(2), Step::Give],
         ],
     )
 }

@@ -3,11 +3,11 @@
 ghost use Rattle.te_terms.specs.Joint.{IsGroup, as_group};
 ghost use Rattle.te_search.specs.Findings.{IsBudget};
 
-use super::events::{both, chooses, kept, parked, post, receives, ring, sends, throws};
+use super::events::{Step, kept, parked, post, ring};
 use std::alloc::Global;
 use std::test::Fail;
 use te_search::{Found, KeptFound, KeptSearch, SearchFault, enough, find};
-use te_terms::{Node, Parked};
+use te_terms::Parked;
 
 // How many members and meetings the group has that is found, 0 and 0 where there is none; or what was used.
 fn found_in(alloc: Global, parked: &[Parked], budget: u64) -> Result<(usize, usize), SearchFault>
@@ -22,7 +22,7 @@ fn found_in(alloc: Global, parked: &[Parked], budget: u64) -> Result<(usize, usi
 }
 
 // The same of these events, of threads from 0 on.
-fn found(alloc: Global, events: &[&[Node]]) -> Result<(usize, usize), Fail> {
+fn found(alloc: Global, events: &[&[Step]]) -> Result<(usize, usize), Fail> {
     let parked = parked(alloc, events)?;
     match found_in(alloc, &parked, 1000) {
         Ok(shape) => Ok(shape),
@@ -39,15 +39,15 @@ fn found_kept(alloc: Global, kept: &mut KeptSearch) -> Result<(usize, usize), Fa
     }
 }
 
-// Posts an event of one node for a thread, or takes out that which it has.
+// Posts an event of one step for a thread, or takes out that which it has.
 fn change(
     alloc: Global,
     kept: &mut KeptSearch,
     thread: u32,
-    node: Option<Node>,
+    step: Option<Step>,
 ) -> Result<(), Fail> {
-    match node {
-        Some(node) => post(alloc, kept, thread, &[node]),
+    match step {
+        Some(step) => post(alloc, kept, thread, &[step]),
         None => {
             if !kept.has_thread(thread) {
                 Err("a thread with an event")?;
@@ -62,10 +62,10 @@ fn change(
 fn is_found_after(
     alloc: Global,
     kept: &mut KeptSearch,
-    changes: &[(u32, Option<Node>, (usize, usize))],
+    changes: &[(u32, Option<Step>, (usize, usize))],
 ) -> Result<bool, Fail> {
-    for (thread, node, wanted) in changes {
-        change(alloc, kept, *thread, *node)?;
+    for (thread, step, wanted) in changes {
+        change(alloc, kept, *thread, *step)?;
         if found_kept(alloc, kept)? != *wanted || found_kept(alloc, kept)? != *wanted {
             return Ok(false);
         }
@@ -74,15 +74,17 @@ fn is_found_after(
 }
 
 #[test]
-fn groups_of_one_to_three_are_found(rt: HostRuntime) -> Result<(), Fail> {
-    let alloc = rt.alloc();
-    let alone = both(sends(0), receives(0));
-    let raises = both(sends(0), throws());
-    assert_eq!(rt; found(alloc, &[])?, (0, 0));
-    assert_eq!(rt; found(alloc, &[&alone])?, (0, 0));
-    assert_eq!(rt; found(alloc, &[&[Node::Never], &[Node::Fresh]])?, (1, 0));
-    assert_eq!(rt; found(alloc, &[&[sends(0)], &[sends(0)]])?, (0, 0));
-    assert_eq!(rt; found(alloc, &[&raises, &[receives(0)]])?, (2, 1));
+fn groups_of_one_or_two_are_found(rt: HostRuntime) -> Result<(), Fail> {
+    let lists: [(&[&[Step]], (usize, usize)); 5] = [
+        (&[], (0, 0)),
+        (&[&[Step::Send(0), Step::Recv(0)]], (0, 0)),
+        (&[&[Step::Never], &[Step::Throw]], (1, 0)),
+        (&[&[Step::Send(0)], &[Step::Send(0)]], (0, 0)),
+        (&[&[Step::Send(0), Step::Throw], &[Step::Recv(0)]], (2, 1)),
+    ];
+    for (events, wanted) in lists {
+        assert_eq!(rt; found(rt.alloc(), events)?, wanted);
+    }
     Ok(())
 }
 
@@ -102,18 +104,17 @@ fn a_ring_is_found_whole_or_spends_the_budget(rt: HostRuntime) -> Result<(), Fai
 // The first two could meet only where the third has taken both branches.
 #[test]
 fn a_list_that_changes_is_searched_again(rt: HostRuntime) -> Result<(), Fail> {
-    let alloc = rt.alloc();
-    let first = both(receives(0), sends(2));
-    let second = both(receives(1), receives(2));
-    let mut kept = kept(alloc, &[&first, &second, &chooses()])?;
+    let first = [Step::Recv(0), Step::Send(2)];
+    let second = [Step::Recv(1), Step::Recv(2)];
+    let mut kept = kept(rt.alloc(), &[&first, &second, &[Step::Either(0, 1)]])?;
     let changes = [
-        (3, Some(receives(5)), (0, 0)),
+        (3, Some(Step::Recv(5)), (0, 0)),
         (3, None, (0, 0)),
-        (3, Some(receives(2)), (3, 2)),
+        (3, Some(Step::Recv(2)), (3, 2)),
         (1, None, (3, 2)),
         (2, None, (0, 0)),
-        (1, Some(sends(0)), (3, 2)),
+        (1, Some(Step::Send(0)), (3, 2)),
     ];
-    assert!(rt; is_found_after(alloc, &mut kept, &changes)?);
+    assert!(rt; is_found_after(rt.alloc(), &mut kept, &changes)?);
     Ok(())
 }

@@ -2,13 +2,12 @@
 
 ghost use Rattle.std.specs.Prelude.{◌<◌};
 
-use super::events::{receives, sends};
+use super::events::{Step, event_of, push_before, push_step};
 use std::alloc::Global;
-use std::sync::Arc;
 use std::test::Fail;
 use te_cert::{Cert, check};
 use te_search::{Found, KeptFound, KeptSearch, find};
-use te_terms::{Event, EventCode, Node, Outcome, Parked, Rows, Value};
+use te_terms::{Event, EventCode, Node, Outcome, Parked, Rows};
 
 // Numbers that look random, by xorshift (Marsaglia, Xorshift RNGs, Journal of Statistical Software 8(14), 2003).
 #[derive(Drop)]
@@ -31,24 +30,17 @@ impl Numbers {
     }
 }
 
-fn push(code: &mut EventCode, node: Node) -> Result<u32, Fail> {
-    Ok(code.push(node).ok().ok_or("a node")?)
-}
-
 // Some sends and receives on two channels, one after the other.
 fn push_steps(code: &mut EventCode, numbers: &mut Numbers, count: u64) -> Result<u32, Fail> {
     let mut root = None;
     for _ in 0..count {
         let channel = numbers.below(2) as u32;
-        let node = match numbers.below(2) {
-            0 => sends(channel),
-            _ => receives(channel),
+        let step = match numbers.below(2) {
+            0 => Step::Send(channel),
+            _ => Step::Recv(channel),
         };
-        let first = push(code, node)?;
-        root = match root {
-            Some(rest) => Some(push(code, Node::Then(first, rest))?),
-            None => Some(first),
-        };
+        let first = push_step(code, step)?;
+        root = Some(push_before(code, first, root)?);
     }
     Ok(root.ok_or("a step")?)
 }
@@ -61,10 +53,9 @@ fn any_event(alloc: Global, numbers: &mut Numbers) -> Result<Event, Fail> {
     if numbers.below(3) == 0 {
         let count = 1 + numbers.below(2);
         let other = push_steps(&mut code, numbers, count)?;
-        root = push(&mut code, Node::Choose(root, other))?;
+        root = code.push(Node::Choose(root, other)).ok().ok_or("a node")?;
     }
-    let regs = [Value::unit(); 8];
-    Ok(Event::new(Arc::new(alloc, code)?, root, regs).ok_or("a root")?)
+    event_of(alloc, code, root)
 }
 
 // Posts an event for a thread that has none, or takes one out.
