@@ -5,17 +5,19 @@ use crate::program::tevents;
 use std::test::Fail;
 use te_io::{MemSink, MemSource, SteadySink, SteadySource};
 
-// Behind the closing brace of the first thread, with the blank after it or without, stands a whole script of one thread.
+// Where a thread may begin, a script without one is told; behind the first thread's brace, with the blank after it or without,
+// stands a whole script of one thread.
 #[test]
 fn a_script_that_breaks_off_is_a_fault(rt: HostRuntime) -> Result<(), Fail> {
     for end in 0..EXCHANGE.len() {
         let (status, sink) = serial(rt.alloc(), &EXCHANGE[..end])?;
-        if end == 46 || end == 47 {
-            assert_eq!(rt; status, 1, "{end}");
-        } else {
-            assert_eq!(rt; status, 5, "{end}");
-            assert!(rt; sink.bytes().starts_with(b"script fault 3 at 1:"), "{end}");
-        }
+        let (wanted, written) = match end {
+            46 | 47 => (1, &b"tevents report 2\n1 post a 0 at 1.0\n2 stuck a\n"[..]),
+            0 | 11 | 12 => (5, &b"script fault 8 at 1:"[..]),
+            _ => (5, &b"script fault 3 at 1:"[..]),
+        };
+        assert_eq!(rt; status, wanted, "{end}");
+        assert!(rt; sink.bytes().starts_with(written), "{end}");
     }
     Ok(())
 }
