@@ -5,7 +5,7 @@ use Rattle.te_history.specs.declared.entry.Entry.TheVariants.{Commit}
 use Rattle.te_history.specs.Histories.{History}
 use Rattle.te_forms.specs.Handing.{CommitAt}
 use Rattle.te_forms.specs.Commits.{is_commit}
-use Rattle.te_forms.proofs.tests.told.Goals as goal
+use Rattle.te_tests.proofs.forms.told.Goals as goal
 
 commit_there : (h : History) (n : ℕ) (e : Entry) → is_commit e ≡ true → Some e ≡ slice_get h.entries n → CommitAt h n
 commit_there h n (Commit by cert outcomes) is at = record { by = by; cert = cert; outcomes = outcomes; is_there = sym at }

@@ -2,12 +2,12 @@ ghost use Rattle.std.specs.Prelude.{◌≡◌, IsTrue};
 ghost use Rattle.te_forms.specs.Commits.{is_commit};
 ghost use Rattle.te_terms.specs.Joint.{RiseFrom, IsGroup, as_group};
 
-use crate::*;
 use std::alloc::Global;
 use std::sync::Arc;
 use std::test::Fail;
 use te_board::Board;
 use te_cert::{Cert, Meeting, Member};
+use te_forms::*;
 use te_history::{Entry, Hist, Status};
 use te_search::{Found, find};
 use te_terms::{

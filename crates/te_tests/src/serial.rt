@@ -7,13 +7,13 @@ mod seeded;
 ghost use Rattle.std.specs.Prelude.{◌≡◌, ◌≤◌, IfOk};
 ghost use Rattle.te_serial.specs.Houses.{IsHouse, AreFresh};
 
-use crate::*;
 use std::alloc::Global;
 use std::sync::Arc;
 use std::test::Fail;
 use te_board::Board;
 use te_history::Entry;
 use te_script::{Core, Script, generate};
+use te_serial::*;
 use te_terms::Rows;
 
 // The cores of a script's threads, at their first wishes.
