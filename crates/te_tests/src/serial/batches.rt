@@ -7,18 +7,15 @@ ghost use Rattle.te_search.specs.Batches.{IsInBatch, IsLook};
 use super::events::{both, parked, receives, ring, sends};
 use std::alloc::Global;
 use std::test::Fail;
-use te_cert::Cert;
 use te_search::{Look, Search, SearchFault};
 use te_terms::{Parked, Rows};
 
-// A search of these events in batches, with budget enough.
-fn search_of(alloc: Global, parked: &[Parked]) -> Result<Search, Fail>
-    requires { IsGroup (as_group parked.now) }
-{
-    match Search::start(alloc, parked, 100_000) {
-        Ok(search) => Ok(search),
-        Err(_) => Err("a search")?,
-    }
+// Where a path stands: at its end, or at a send or a receive with no partner or one.
+#[derive(Clone, Copy, PartialEq, Eq)]
+enum Stands {
+    Final,
+    Alone,
+    With(u32),
 }
 
 // The next batch, where every path of those before was applied.
@@ -40,107 +37,108 @@ fn look(search: &Search, p: u32) -> Result<Look, Fail>
     Ok(search.look(p)?)
 }
 
-// Has the next path of the batch do what its look says.
-fn apply_next(search: &mut Search) -> Result<Option<Cert>, Fail> {
+// Where a path of the batch stands.
+fn stands(search: &Search, p: u32) -> Result<Stands, Fail> {
+    match look(search, p)? {
+        Look::Final => Ok(Stands::Final),
+        Look::Ends(others) => match others.as_slice() {
+            [] => Ok(Stands::Alone),
+            [other] => Ok(Stands::With(*other)),
+            _ => Err("a partner at most")?,
+        },
+        _ => Err("an end")?,
+    }
+}
+
+// Has the next path of the batch do what its look says: how many members the group has that it finds, 0 for none.
+fn apply_next(search: &mut Search) -> Result<usize, Fail> {
     let p = search.applied();
     let look = look(search, p)?;
     match search.apply(p, look) {
-        Ok(found) => Ok(found),
+        Ok(Some(cert)) => Ok(cert.members.len()),
+        Ok(None) => Ok(0),
         Err(_) => Err("an answer within the budget")?,
     }
 }
 
-// Whether the next batch is of these paths.
-fn takes(search: &mut Search, want: &[u32]) -> Result<bool, Fail> {
-    Ok(batch(search)?.as_slice() == want)
-}
-
-// Whether the path stands at an end with these partners.
-fn meets(search: &Search, p: u32, want: &[u32]) -> Result<bool, Fail> {
-    match look(search, p)? {
-        Look::Ends(others) => Ok(others.as_slice() == want),
-        _ => Ok(false),
+// Whether the next batch has these paths, from `first` on, where they are to stand.
+fn takes(search: &mut Search, first: u32, places: &[Stands]) -> Result<bool, Fail> {
+    let batch = batch(search)?;
+    let paths = batch.as_slice();
+    if paths.len() != places.len() {
+        return Ok(false);
     }
-}
-
-// Whether the path is at its end.
-fn is_final(search: &Search, p: u32) -> Result<bool, Fail> {
-    match look(search, p)? {
-        Look::Final => Ok(true),
-        _ => Ok(false),
-    }
-}
-
-// Whether so many paths, the next of the batch, find no group.
-fn find_none(search: &mut Search, count: usize) -> Result<bool, Fail> {
-    for _ in 0..count {
-        if let Some(_) = apply_next(search)? {
+    let mut next = first;
+    for i in 0..paths.len() {
+        if paths[i] != next || stands(search, next)? != places[i] {
             return Ok(false);
         }
+        next = next.checked_add(1).ok_or("a number of a path")?;
     }
     Ok(true)
 }
 
-// How many members the group has that the next path of the batch finds.
-fn members_found(search: &mut Search) -> Result<usize, Fail> {
-    match apply_next(search)? {
-        Some(cert) => Ok(cert.members.len()),
-        None => Ok(0),
+// How many members the group has that the last of so many paths finds, where the others find none.
+fn members_found(search: &mut Search, count: usize) -> Result<usize, Fail> {
+    let mut members = 0;
+    for _ in 0..count {
+        if members > 0 {
+            Err("no group before the last path")?;
+        }
+        members = apply_next(search)?;
     }
+    Ok(members)
 }
 
-// Of the ring, the three events: the second can meet the first.
-fn takes_the_first_batch(search: &mut Search) -> Result<bool, Fail> {
-    Ok(
-        takes(search, &[0, 1, 2])?
-            && meets(search, 0, &[])?
-            && meets(search, 1, &[0])?
-            && meets(search, 2, &[])?,
-    )
-}
-
-// What the first two are after their meeting: the second can meet the third.
-fn takes_the_second_batch(search: &mut Search) -> Result<bool, Fail> {
-    Ok(takes(search, &[3, 4])? && meets(search, 3, &[])? && meets(search, 4, &[2])?)
-}
-
-// What the last two are after their meeting: the second is at its end, the third can meet the first.
-fn takes_the_third_batch(search: &mut Search) -> Result<bool, Fail> {
-    Ok(takes(search, &[5, 6])? && is_final(search, 5)? && meets(search, 6, &[3])?)
-}
-
-// What the third and the first are after their meeting: both are at their end.
-fn takes_the_fourth_batch(search: &mut Search) -> Result<bool, Fail> {
-    Ok(takes(search, &[7, 8])? && is_final(search, 7)? && is_final(search, 8)?)
+// How many members the group has that the last path of each batch finds, where the batches are these from path 0 on.
+fn members_by_batches(
+    alloc: Global,
+    parked: &[Parked],
+    batches: &[&[Stands]],
+) -> Result<Rows<usize>, Fail>
+    requires { IsGroup (as_group parked.now) }
+{
+    let mut search = match Search::start(alloc, parked, 100_000) {
+        Ok(search) => search,
+        Err(_) => Err("a search")?,
+    };
+    let mut members = Rows::new(alloc);
+    for places in batches {
+        let first = search.batched();
+        if !takes(&mut search, first, places)? {
+            Err("the batch")?;
+        }
+        members.push(members_found(&mut search, places.len())?)?;
+    }
+    Ok(members)
 }
 
 #[test]
 fn a_ring_is_searched_in_four_batches(rt: HostRuntime) -> Result<(), Fail> {
-    let alloc = rt.alloc();
-    let mut search = search_of(alloc, &ring(alloc)?)?;
-    assert!(rt; takes_the_first_batch(&mut search)? && find_none(&mut search, 3)?);
-    assert!(rt; takes_the_second_batch(&mut search)? && find_none(&mut search, 2)?);
-    assert!(rt; takes_the_third_batch(&mut search)? && find_none(&mut search, 2)?);
-    assert!(rt; takes_the_fourth_batch(&mut search)? && find_none(&mut search, 1)?);
-    assert_eq!(rt; members_found(&mut search)?, 3);
-    assert!(rt; !search.goes_on());
+    let ring = ring(rt.alloc())?;
+    let batches: [&[Stands]; 4] = [
+        &[Stands::Alone, Stands::With(0), Stands::Alone],
+        &[Stands::Alone, Stands::With(2)],
+        &[Stands::Final, Stands::With(3)],
+        &[Stands::Final, Stands::Final],
+    ];
+    let members = members_by_batches(rt.alloc(), &ring, &batches)?;
+    assert!(rt; members.as_slice() == [0, 0, 0, 3].as_slice());
     Ok(())
 }
 
 #[test]
 fn a_search_in_batches_ends_where_nothing_reduces(rt: HostRuntime) -> Result<(), Fail> {
-    let alloc = rt.alloc();
-    let alone = parked(alloc, &[&both(sends(0), receives(0))])?;
-    let mut search = search_of(alloc, &alone)?;
-    assert!(rt; takes(&mut search, &[0])? && find_none(&mut search, 1)?);
-    assert!(rt; takes(&mut search, &[])?);
+    let alone = parked(rt.alloc(), &[&both(sends(0), receives(0))])?;
+    let members = members_by_batches(rt.alloc(), &alone, &[&[Stands::Alone], &[]])?;
+    assert!(rt; members.as_slice() == [0, 0].as_slice());
     Ok(())
 }
 
 #[test]
 fn a_search_in_batches_spends_its_budget_on_events(rt: HostRuntime) -> Result<(), Fail> {
-    let alloc = rt.alloc();
-    let fault = match Search::start(alloc, &ring(alloc)?, 1) {
+    let ring = ring(rt.alloc())?;
+    let fault = match Search::start(rt.alloc(), &ring, 1) {
         Ok(_) => None,
         Err(fault) => Some(fault),
     };

@@ -3,7 +3,7 @@
 ghost use Rattle.te_terms.specs.Joint.{IsGroup, as_group};
 ghost use Rattle.te_search.specs.Findings.{IsBudget};
 
-use super::events::{both, chooses, kept, parked, passes_on, post, receives, ring, sends, throws};
+use super::events::{both, chooses, kept, parked, post, receives, ring, sends, throws};
 use std::alloc::Global;
 use std::test::Fail;
 use te_search::{Found, KeptFound, KeptSearch, SearchFault, enough, find};
@@ -39,13 +39,38 @@ fn found_kept(alloc: Global, kept: &mut KeptSearch) -> Result<(usize, usize), Fa
     }
 }
 
-// Takes a thread's event out.
-fn remove(kept: &mut KeptSearch, thread: u32) -> Result<(), Fail> {
-    if !kept.has_thread(thread) {
-        Err("a thread with an event")?;
+// Posts an event of one node for a thread, or takes out that which it has.
+fn change(
+    alloc: Global,
+    kept: &mut KeptSearch,
+    thread: u32,
+    node: Option<Node>,
+) -> Result<(), Fail> {
+    match node {
+        Some(node) => post(alloc, kept, thread, &[node]),
+        None => {
+            if !kept.has_thread(thread) {
+                Err("a thread with an event")?;
+            }
+            kept.remove(thread);
+            Ok(())
+        }
     }
-    kept.remove(thread);
-    Ok(())
+}
+
+// Whether this is found twice after each of these changes.
+fn is_found_after(
+    alloc: Global,
+    kept: &mut KeptSearch,
+    changes: &[(u32, Option<Node>, (usize, usize))],
+) -> Result<bool, Fail> {
+    for (thread, node, wanted) in changes {
+        change(alloc, kept, *thread, *node)?;
+        if found_kept(alloc, kept)? != *wanted || found_kept(alloc, kept)? != *wanted {
+            return Ok(false);
+        }
+    }
+    Ok(true)
 }
 
 #[test]
@@ -56,7 +81,6 @@ fn groups_of_one_to_three_are_found(rt: HostRuntime) -> Result<(), Fail> {
     assert_eq!(rt; found(alloc, &[])?, (0, 0));
     assert_eq!(rt; found(alloc, &[&alone])?, (0, 0));
     assert_eq!(rt; found(alloc, &[&[Node::Never], &[Node::Fresh]])?, (1, 0));
-    assert_eq!(rt; found(alloc, &[&[sends(0)], &[receives(0)]])?, (2, 1));
     assert_eq!(rt; found(alloc, &[&[sends(0)], &[sends(0)]])?, (0, 0));
     assert_eq!(rt; found(alloc, &[&raises, &[receives(0)]])?, (2, 1));
     Ok(())
@@ -64,49 +88,32 @@ fn groups_of_one_to_three_are_found(rt: HostRuntime) -> Result<(), Fail> {
 
 #[test]
 fn a_ring_is_found_whole_or_spends_the_budget(rt: HostRuntime) -> Result<(), Fail> {
-    let alloc = rt.alloc();
     let spent = SearchFault::Spent {
         paths: 1,
         groups: 0,
     };
-    let ring = ring(alloc)?;
-    assert_eq!(rt; found_in(alloc, &ring, 100_000), Ok((3, 3)));
-    assert_eq!(rt; found_in(alloc, &ring, 1), Err(spent));
+    let ring = ring(rt.alloc())?;
+    assert_eq!(rt; found_in(rt.alloc(), &ring, 100_000), Ok((3, 3)));
+    assert_eq!(rt; found_in(rt.alloc(), &ring, 1), Err(spent));
     assert_eq!(rt; enough(&ring), Some(384));
     Ok(())
 }
 
+// The first two could meet only where the third has taken both branches.
 #[test]
-fn branches_of_a_third_thread_keep_events_apart(rt: HostRuntime) -> Result<(), Fail> {
+fn a_list_that_changes_is_searched_again(rt: HostRuntime) -> Result<(), Fail> {
     let alloc = rt.alloc();
     let first = both(receives(0), sends(2));
     let second = both(receives(1), receives(2));
     let mut kept = kept(alloc, &[&first, &second, &chooses()])?;
-    assert_eq!(rt; found_kept(alloc, &mut kept)?, (0, 0));
-    assert_eq!(rt; enough(&kept.listed(alloc)?), Some(1152));
-    post(alloc, &mut kept, 3, &[receives(2)])?;
-    assert_eq!(rt; found_kept(alloc, &mut kept)?, (3, 2));
-    Ok(())
-}
-
-#[test]
-fn what_was_removed_is_in_no_group(rt: HostRuntime) -> Result<(), Fail> {
-    let alloc = rt.alloc();
-    let mut kept = kept(
-        alloc,
-        &[
-            &both(sends(0), receives(2)),
-            &passes_on(0, 1),
-            &passes_on(1, 2),
-        ],
-    )?;
-    assert_eq!(rt; found_kept(alloc, &mut kept)?, (3, 3));
-    assert_eq!(rt; found_kept(alloc, &mut kept)?, (3, 3));
-    remove(&mut kept, 1)?;
-    assert_eq!(rt; found_kept(alloc, &mut kept)?, (0, 0));
-    post(alloc, &mut kept, 1, &[receives(0)])?;
-    assert_eq!(rt; found_kept(alloc, &mut kept)?, (0, 0));
-    post(alloc, &mut kept, 3, &[sends(2)])?;
-    assert_eq!(rt; found_kept(alloc, &mut kept)?, (3, 2));
+    let changes = [
+        (3, Some(receives(5)), (0, 0)),
+        (3, None, (0, 0)),
+        (3, Some(receives(2)), (3, 2)),
+        (1, None, (3, 2)),
+        (2, None, (0, 0)),
+        (1, Some(sends(0)), (3, 2)),
+    ];
+    assert!(rt; is_found_after(alloc, &mut kept, &changes)?);
     Ok(())
 }
