@@ -10,12 +10,27 @@ use std::thread::Threads;
 use te_search::{Look, Search};
 use te_terms::NoMemory;
 
-// So many comparisons of waiting ends are left to one worker.
+// So many comparisons of kept ends are left to one worker.
 const FEW: u64 = 16_384;
 
-// How many workers look at the paths of a batch: one alone, where few waiting ends are compared. A path is compared with
-// no more ends than there are paths up to the last of its batch.
-fn crew_for(batch: &[u32], workers: u32) -> usize
+// Whether the looks at the paths of a batch compare more than a few kept ends.
+fn compares_many(search: &Search, batch: &[u32]) -> bool
+    requires batch { HasBatch search.now batch.now }
+{
+    let mut compared = 0u64;
+    'paths: for i in 0..batch.len() {
+        compared = compared.saturating_add(search.ends_compared(batch[i]) as u64);
+        if compared > FEW {
+            return true;
+        }
+    }
+    false
+}
+
+// How many workers look at the paths of a batch: one alone, where few kept ends are compared. A path is compared with no
+// more ends than there are paths up to the last of its batch.
+fn crew_for(search: &Search, batch: &[u32], workers: u32) -> usize
+    requires batch { HasBatch search.now batch.now }
     requires workers { IsCrew workers }
     ensures some { 0 < result }
     ensures most { result ≤ workers }
@@ -23,10 +38,11 @@ fn crew_for(batch: &[u32], workers: u32) -> usize
     let Some(last) = batch.last() else {
         return 1;
     };
-    if (batch.len() as u64).saturating_mul(u64::from(*last) + 1) <= FEW {
-        1
-    } else {
+    let most = (batch.len() as u64).saturating_mul(u64::from(*last) + 1);
+    if workers > 1 && most > FEW && compares_many(search, batch) {
         workers as usize
+    } else {
+        1
     }
 }
 
@@ -71,7 +87,7 @@ pub(crate) fn looks_of<R: Threads + Sync>(
     thread::for_each_mut(
         rt,
         &mut looks,
-        crew_for(batch, workers),
+        crew_for(search, batch, workers),
         &|i: usize, look: &mut Option<Look>|
             requires { (i < length batch.now) × HasBatch search.now batch.now }
             ensures { IfSome look.exit.now (λ found. (p : ℕ) → slice_get batch.entry.now i ≡ Some p → IsLook search.entry.now p found) }

@@ -48,8 +48,8 @@ fn stack_of(alloc: Global, parked: ParkedList) -> Result<Stack, NoMemory>
     })
 }
 
-// The same events once more.
-fn copies_of(alloc: Global, parked: &[Parked]) -> Result<ParkedList, NoMemory>
+/// The same events once more.
+pub(crate) fn copies_of(alloc: Global, parked: &[Parked]) -> Result<ParkedList, NoMemory>
     ensures { IfOk result (λ copies. copies ≡ parked.now) }
 {
     let mut copies = ParkedList::new(alloc);
