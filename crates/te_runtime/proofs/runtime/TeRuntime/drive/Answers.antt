@@ -13,7 +13,7 @@ use Rattle.te_runtime.proofs.DriveAnswers.{is_driven}
 use Rattle.te_runtime.proofs.runtime.TeRuntime.drive.Goals as goal
 
 pub search-requires-clause-rising : goal.search-requires-clause-rising
-search-requires-clause-rising g c =
+search-requires-clause-rising g c lives outlives =
     let seen = c.in_ok-snapshot.ensures.seen in
     subst (λ (l : List Parked). IsGroup (as_group l)) (sym (c.as_slice.ensures ∙ seen.parked)) (parked_group (state_of (board_of c.look_in.new.pass)))
 
