@@ -140,4 +140,37 @@ impl Search {
             None => unreachable!(),
         }
     }
+
+    /// Whether the search goes on. It is public for tests alone, as the two below are.
+    #[doc(hidden)]
+    pub fn goes_on(&self) -> bool
+        ensures { result ≡ self.now.goes_on }
+    {
+        match &self.batched {
+            Some(_) => true,
+            None => false,
+        }
+    }
+
+    /// How many paths were in a batch.
+    #[doc(hidden)]
+    pub fn batched(&self) -> u32
+        ensures { result ≡ self.now.batched }
+    {
+        match &self.batched {
+            Some(batched) => batched.batched,
+            None => 0,
+        }
+    }
+
+    /// How many paths were applied.
+    #[doc(hidden)]
+    pub fn applied(&self) -> u32
+        ensures { result ≡ self.now.applied }
+    {
+        match &self.batched {
+            Some(batched) => batched.applied,
+            None => 0,
+        }
+    }
 }

@@ -19,6 +19,3 @@ pub use batches::Search;
 pub use bound::{enough, names_are_few};
 pub use finding::{Found, SearchFault};
 pub use kept::{KeptFound, KeptSearch, find};
-
-#[cfg(test)]
-mod tests;

@@ -1,4 +1,8 @@
+mod batches;
+mod events;
+mod finding;
 mod searching;
+mod seeded;
 
 ghost use Rattle.std.specs.Prelude.{◌≡◌, ◌≤◌, IfOk};
 ghost use Rattle.te_serial.specs.Houses.{IsHouse, AreFresh};

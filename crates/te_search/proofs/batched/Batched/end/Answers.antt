@@ -14,6 +14,9 @@ try_from-requires-clause-stand c =
     (numbers_of c.args.self.now.work.finals ++ (c.args.self.now.applied ∷ []))) (sym c.as_slice.ensures)
     (end_stand c.args.self.now x.0 c.requires.batched x.1 (c.requires.at_end x.0 x.1))
 
+pub try_from-requires-clause-told : goal.try_from-requires-clause-told
+try_from-requires-clause-told c = c.requires.batched.opened.work.finals_told
+
 pub returns-clause-ok : goal.returns-clause-ok
 returns-clause-ok c =
     let x = lowest c.args.self.now c.requires.batched c.requires.some in
