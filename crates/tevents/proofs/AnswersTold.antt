@@ -35,7 +35,14 @@ module _ (read given : List ℕ) (first : given ≡ take 1048577 read) (whole : 
     by : StandsIn given told.cause told.left → HasFault read e
     by (inl long) =
         let most : 1048576 < length read = omega (arith, long.0, ap length first, length-take 1048577 read) in
-        record { cause = told.cause; left = length read; stands = inl (most, long.1, refl); told = told.told ∙ ap (fault_from told.cause) (at_front given told.left long.2 ∙ sym (at_front read (length read) refl)) }
+        record {
+          cause = told.cause;
+          left = length read;
+          stands = inl (most, long.1, refl);
+          told =
+              told.told ∙ ap (fault_from told.cause) (at_front given told.left long.2 ∙ sym
+              (at_front read (length read) refl));
+        }
     by (inr short) = subst (λ (bytes : List ℕ). HasFault bytes e) (whole short.0) told
 
   script_given : IsScriptText read → IsScriptText given
@@ -47,7 +54,14 @@ module _ (read given : List ℕ) (first : given ≡ take 1048577 read) (whole : 
   pub answer_to_all : (task : Task) (written : List ℕ) (status : ℕ) → IsAnswer task given written status → IsAnswer task read written status
   answer_to_all task written status (inl told) =
       inl (subst (λ (bytes : List ℕ). IsOf (Tells task) bytes written status) (whole told.text.size) told)
-  answer_to_all task written status (inr fault) = inr (record { no_script = λ told. fault.no_script (script_given told); fault = fault.fault; stands = fault_taken fault.fault fault.stands; line = fault.line; status_is = fault.status_is })
+  answer_to_all task written status (inr fault) = inr (record {
+    no_script = λ told. fault.no_script (script_given told);
+    fault = fault.fault;
+    stands =
+        fault_taken fault.fault fault.stands;
+    line = fault.line;
+    status_is = fault.status_is;
+  })
 
 -- ---- which statuses there are
 
@@ -146,7 +160,9 @@ headline_of budget read written status (inl told) done = headline_of_run budget 
 headline_of budget read written status (inr fault) done = absurd (whole_is_not_five status (inl done) fault.status_is)
 
 -- the line of a fault is an answer where the bytes have it
-pub fault_is_answer : {W E : Type 0} (task : Task) (text : W → List ℕ) (status : W → ℕ) (read : List ℕ) (told : ScriptFault) (answered : Result W E) → (¬ IsScriptText read) → HasFault read told → IfOk answered (λ told_so. (text told_so ≡ fault_line told) × (status told_so ≡ 5))
+pub fault_is_answer : {W E : Type 0} (task : Task) (text : W → List ℕ) (status : W → ℕ) (read : List ℕ)
+    (told : ScriptFault) (answered : Result W E) → (¬ IsScriptText read) → HasFault read told
+    → IfOk answered (λ told_so. (text told_so ≡ fault_line told) × (status told_so ≡ 5))
     → IfOk answered (λ told_so. IsAnswer task read (text told_so) (status told_so))
 fault_is_answer task text status read told (Ok written) none stands line = inr (record { no_script = none; fault = told; stands = stands; line = line.0; status_is = line.1 })
 fault_is_answer task text status read told (Err e) none stands line = line

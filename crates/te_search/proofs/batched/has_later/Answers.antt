@@ -1,5 +1,5 @@
 use Rattle.std.proofs.Common.{arith, ◌≡◌, ◌<◌, ◌≤◌, inl, inr, ◌∙◌, sym, ap, refl, Some, None, length, suc, eq-or-lt_of_le}
-use Rattle.std.proofs.Common.{slice_get}
+use Rattle.std.proofs.Common.{slice_get, ◌+◌}
 use Rattle.te_terms.proofs.Lists.{get_low}
 use Rattle.te_terms.proofs.Lists.{get_at}
 use Rattle.te_search.proofs.batched.has_later.Goals as goal

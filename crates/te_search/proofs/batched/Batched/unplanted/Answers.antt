@@ -10,4 +10,4 @@ returns-clause-starting c = starts_none _ (subst (λ p. IsGroup (as_group p))
     (c.in_ok-store.ensures ∙ ap (λ p. unplanted (as_group p))
     (sym c.in_ok-copies.ensures)) c.len-paths.ensures.store c.new-2.ensures c.new-3.ensures.items
     c.new-4.ensures.items c.new-5.ensures
-    c.new-6.ensures.items refl refl refl c.requires.budget
+    c.new-6.ensures refl refl refl c.requires.budget

@@ -43,7 +43,7 @@ returns-clause-ok c =
     (arith, c.left-left.ensures.left, c.if-left-eq0.false, c.len.ensures.number, c.assemble-answer.ensures.falls) in
     let numbers = numbers_one c.args.self.now.finals c.push.new.self c.args.p c.thread-thread.result c.in-Ok-push.ensures.ok in
     if_ok (Assembles c.args.self.now.store.events c.args.self.now.store.paths c.args.threads.now
-    (numbers_of c.push.new.self) c.deref.result.now ((c.left-left.result - 1) - c.assemble-answer.new.left))
+    (numbers_of c.push.new.self) c.deref-2.result.now ((c.left-left.result - 1) - c.assemble-answer.new.left))
     (HasTried c.args.self.now (record {
       store = c.args.self.now.store;
       moves = c.args.self.now.moves;
@@ -64,11 +64,11 @@ returns-clause-ok c =
           c.thread-thread.ensures);
       count = (c.left-left.result - 1) - c.assemble-answer.new.left;
       groups = gr;
-      joined = c.deref.result.now;
+      joined = c.deref-2.result.now;
       names = λ x ex. subst (NamesPaths c.args.self.now.store.paths c.args.threads.now (joint (x ∷ [])))
-          (sym c.deref.ensures.value) (c.in-Ok.ensures.names x ex);
+          (sym c.deref-2.ensures.value) (c.in-Ok.ensures.names x ex);
       tries = inr (subst (λ l. Assembles c.args.self.now.store.events c.args.self.now.store.paths c.args.threads.now l
-          c.deref.result.now ((c.left-left.result - 1) - c.assemble-answer.new.left) found) numbers h);
+          c.deref-2.result.now ((c.left-left.result - 1) - c.assemble-answer.new.left) found) numbers h);
     })
     c.assemble-answer.ensures.ok
 
@@ -85,7 +85,7 @@ returns-clause-spent c h =
       count = (c.left-left.result - 1) - c.assemble-answer.new.left;
       groups = gr;
       tries = λ x ex crew. c.assemble-answer.ensures.tried h x (x ∷ []) crew (inl refl)
-          (subst (NamesPaths c.args.self.now.store.paths c.args.threads.now (joint (x ∷ []))) (sym c.deref.ensures.value)
+          (subst (NamesPaths c.args.self.now.store.paths c.args.threads.now (joint (x ∷ []))) (sym c.deref-2.ensures.value)
           (c.in-Ok.ensures.names x ex));
       sum = sum;
     })
