@@ -68,7 +68,7 @@ fn two_callers_exchange_a_value(rt: HostRuntime) -> Result<(), Fail> {
     assert!(rt; runtime.offer(&mut a, &sends(alloc)?) == Ok(0));
     assert!(rt; runtime.offer(&mut b, &receives(alloc)?) == Ok(0));
     assert!(rt; runtime.poll(&mut a) == Ok(waiting));
-    assert!(rt; runtime.drive(alloc, &mut a, 100_000) == Ok(committed));
+    assert!(rt; runtime.drive(&rt, alloc, &mut a, 100_000) == Ok(committed));
     assert!(rt; runtime.poll(&mut a) == Ok(Polled::Ready(Outcome::Gives(Value::unit()))));
     assert!(rt; runtime.poll(&mut b) == Ok(Polled::Ready(Outcome::Gives(seven()))));
     assert!(rt; runtime.recall(&mut b) == Err(SyncFault::Other(Status::Idle)));
@@ -88,11 +88,11 @@ fn a_list_that_cannot_commit_waits_or_is_stuck(rt: HostRuntime) -> Result<(), Fa
         groups: 0,
     };
     assert!(rt; runtime.offer(&mut a, &receives(alloc)?) == Ok(0));
-    assert!(rt; runtime.drive(alloc, &mut a, 100) == Ok(blocked));
-    assert!(rt; runtime.drive(alloc, &mut b, 100) == Ok(blocked));
+    assert!(rt; runtime.drive(&rt, alloc, &mut a, 100) == Ok(blocked));
+    assert!(rt; runtime.drive(&rt, alloc, &mut b, 100) == Ok(blocked));
     assert!(rt; runtime.offer(&mut b, &receives(alloc)?) == Ok(0));
-    assert!(rt; runtime.drive(alloc, &mut b, 1) == Err(spent));
-    assert!(rt; runtime.drive(alloc, &mut b, 100) == Ok(Driven::Stuck));
+    assert!(rt; runtime.drive(&rt, alloc, &mut b, 1) == Err(spent));
+    assert!(rt; runtime.drive(&rt, alloc, &mut b, 100) == Ok(Driven::Stuck));
     Ok(())
 }
 
@@ -105,11 +105,11 @@ fn one_caller_is_answered(rt: HostRuntime) -> Result<(), Fail> {
     assert!(rt; runtime.poll(&mut pass) == Err(SyncFault::Other(Status::Idle)));
     assert!(rt; runtime.offer(&mut pass, &never) == Ok(0));
     assert!(rt; runtime.offer(&mut pass, &never) == Err(parked));
-    assert!(rt; runtime.drive(alloc, &mut pass, 100) == Ok(Driven::Stuck));
+    assert!(rt; runtime.drive(&rt, alloc, &mut pass, 100) == Ok(Driven::Stuck));
     assert!(rt; runtime.poll(&mut pass) == Err(SyncFault::Stuck));
     assert!(rt; runtime.recall(&mut pass) == Err(SyncFault::Stuck));
     assert!(rt; runtime.offer(&mut pass, &never) == Err(SyncFault::Stuck));
-    assert!(rt; runtime.drive(alloc, &mut pass, 100) == Err(SyncFault::Stuck));
+    assert!(rt; runtime.drive(&rt, alloc, &mut pass, 100) == Err(SyncFault::Stuck));
     Ok(())
 }
 
@@ -167,8 +167,9 @@ fn more(entries: u32, one: bool) -> u32 {
     }
 }
 
-// Offers, drives, polls and recalls a hundred times; how many entries the caller has appended.
-fn works(
+// Offers, drives, polls and recalls a thousand times; how many entries the caller has appended.
+fn works<R: Threads + Sync>(
+    rt: &R,
     alloc: Global,
     runtime: &TeRuntime,
     mut pass: Pass<Board>,
@@ -180,10 +181,10 @@ fn works(
     ensures idle { result.0.has_turn ≡ false }
 {
     let mut entries = 0u32;
-    for _ in 0..100 {
+    for _ in 0..1_000 {
         let offered = runtime.offer(&mut pass, &event);
         entries = more(entries, offered.is_ok());
-        let has_acted = match runtime.drive(alloc, &mut pass, 1_000) {
+        let has_acted = match runtime.drive(rt, alloc, &mut pass, 1_000) {
             Ok(Driven::Committed { .. }) => true,
             Ok(Driven::Stuck) => true,
             _ => false,
@@ -220,11 +221,11 @@ fn both_work<R: Threads + Sync>(
         move || -> (Pass<Board>, u32)
             requires { (one.lock ≡ runtime.now) × (one.has_turn ≡ false) }
             ensures { IsSamePass one result.0 × (result.0.has_turn ≡ false) }
-        { works(alloc, runtime, one, its) },
+        { works(rt, alloc, runtime, one, its) },
         move || -> (Pass<Board>, u32)
             requires { (other.lock ≡ runtime.now) × (other.has_turn ≡ false) }
             ensures { IsSamePass other result.0 × (result.0.has_turn ≡ false) }
-        { works(alloc, runtime, other, others) },
+        { works(rt, alloc, runtime, other, others) },
     )
 }
 
@@ -249,7 +250,7 @@ fn four(
     ensures idle { IfOk result (λ made. ((made.1.has_turn ≡ false) × (made.2.has_turn ≡ false))
         × ((made.3.has_turn ≡ false) × (made.4.has_turn ≡ false))) }
 {
-    let (runtime, mut passes) = TeRuntime::new(alloc, 4, 1)?;
+    let (runtime, mut passes) = TeRuntime::new(alloc, 4, 4)?;
     let fourth = passes.pop().ok_or("a fourth pass")?;
     let third = passes.pop().ok_or("a third pass")?;
     let second = passes.pop().ok_or("a second pass")?;

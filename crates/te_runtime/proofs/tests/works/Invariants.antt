@@ -4,4 +4,4 @@ use Rattle.te_runtime.proofs.tests.works.Given as goal
 
 -- the pass is the same, without the turn
 abbrev pub invariant-loop : goal.invariant-loop
-invariant-loop l = record { same : IsSamePass l.initial.pass l.pass; idle : l.pass.has_turn ≡ false }
+invariant-loop g l = record { same : IsSamePass l.initial.pass l.pass; idle : l.pass.has_turn ≡ false }
