@@ -6,6 +6,3 @@ mod finding;
 mod looking;
 
 pub use finding::find_with;
-
-#[cfg(test)]
-mod tests;

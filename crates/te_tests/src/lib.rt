@@ -6,6 +6,8 @@ mod board;
 #[cfg(test)]
 mod cert;
 #[cfg(test)]
+mod crew;
+#[cfg(test)]
 mod forms;
 #[cfg(test)]
 mod generator;
@@ -23,6 +25,8 @@ mod pair;
 mod path;
 #[cfg(test)]
 mod report;
+#[cfg(test)]
+mod runtime;
 #[cfg(test)]
 mod script;
 #[cfg(test)]

@@ -1,7 +1,6 @@
 ghost use Rattle.std.specs.Prelude.{◌≡◌, false, IfOk};
 ghost use Rattle.te_lock.specs.Lock.{IsSamePass};
 
-use crate::*;
 use std::alloc::Global;
 use std::sync::Arc;
 use std::test::Fail;
@@ -10,6 +9,7 @@ use std::thread::Threads;
 use te_board::Board;
 use te_history::{Entry, Status};
 use te_lock::{Busy, Kept, Pass, Turn};
+use te_runtime::*;
 use te_terms::{Atom, Calc, Calcs, Event, EventCode, Expr, Node, Outcome, Prim, Value};
 
 fn seven() -> Value {

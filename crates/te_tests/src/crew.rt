@@ -3,11 +3,11 @@ ghost use Rattle.te_terms.specs.Joint.{IsGroup, as_group};
 ghost use Rattle.te_search.specs.Findings.{IsBudget};
 ghost use Rattle.te_crew.specs.Shares.{IsCrew};
 
-use crate::*;
 use std::alloc::Global;
 use std::sync::Arc;
 use std::test::Fail;
 use std::thread::Threads;
+use te_crew::*;
 use te_search::{Found, SearchFault};
 use te_terms::{Arith, Calc, Calcs, Event, EventCode, Expr, Node, Parked, Prim, Value, Var};
 
