@@ -38,7 +38,7 @@ fn look(search: &Search, p: u32) -> Result<Look, Fail>
 }
 
 // Where a path of the batch stands.
-fn stands(search: &Search, p: u32) -> Result<Stands, Fail> {
+fn place_of(search: &Search, p: u32) -> Result<Stands, Fail> {
     match look(search, p)? {
         Look::Final => Ok(Stands::Final),
         Look::Ends(others) => match others.as_slice() {
@@ -70,7 +70,7 @@ fn takes(search: &mut Search, first: u32, places: &[Stands]) -> Result<bool, Fai
     }
     let mut next = first;
     for i in 0..paths.len() {
-        if paths[i] != next || stands(search, next)? != places[i] {
+        if paths[i] != next || place_of(search, next)? != places[i] {
             return Ok(false);
         }
         next = next.checked_add(1).ok_or("a number of a path")?;
