@@ -6,6 +6,8 @@ mod board;
 #[cfg(test)]
 mod cert;
 #[cfg(test)]
+mod forms;
+#[cfg(test)]
 mod generator;
 #[cfg(test)]
 mod history;
@@ -23,5 +25,7 @@ mod path;
 mod report;
 #[cfg(test)]
 mod script;
+#[cfg(test)]
+mod serial;
 #[cfg(test)]
 mod terms;
