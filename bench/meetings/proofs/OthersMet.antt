@@ -1,18 +1,18 @@
 -- A path that meets others, one after another.
-use Rattle.std.proofs.Common.{◌≡◌, ◌⊎◌, ◌≤◌, ◌<◌, ◌+◌, inl, inr, ℕ, zero, suc, List, [], ◌∷◌, ◌++◌, length, take, Bool, true, false, not, Some, slice_get, get_or, refl, ap, sym, ◌∙◌, subst, arith, nat_eq, eq-eqb, append-nil, append_assoc}
+use Rattle.std.proofs.Common.{◌≡◌, ◌<◌, ◌+◌, inl, inr, ℕ, zero, suc, List, [], ◌∷◌, ◌++◌, length, take, Bool}
+use Rattle.std.proofs.Common.{true, false, not, Some, slice_get, get_or, refl, ap, sym, ◌∙◌, subst, arith, nat_eq, eq-eqb, append-nil, append_assoc}
 use Rattle.std.specs.Prelude.{MatchBool}
-use Rattle.std.specs.List.{All, Contains, IsDistinct, AllByRecursion}
+use Rattle.std.specs.List.{Contains, IsDistinct, AllByRecursion}
 use Rattle.std.proofs.lemmas.List.Elements.{All-contains, Contains-get_or}
 use Rattle.std.proofs.lemmas.Map.Keys.{IsDistinct-head, IsDistinct-tail}
 use Rattle.te_terms.specs.Steps.{Member}
-use Rattle.te_terms.specs.Joint.{Message, sending, receiving}
 use Rattle.te_terms.proofs.Lists.{get-longer, get_low, get_some, get_front, get_at}
 use Rattle.te_trail.specs.Paths.{Path, sent, got}
 use Rattle.te_trail.specs.States.{path_state}
 use Rattle.te_trail.specs.Stores.{Holds, IsStore}
-use Rattle.te_trail.specs.Trails.{Trail, AreMeetingEnds, AreUnmet, HaveMet, FaceEachOther}
+use Rattle.te_trail.specs.Trails.{Trail, AreMeetingEnds, AreUnmet, FaceEachOther}
 use Rattle.te_pair.specs.declared.end.End.{End}
-use Rattle.te_pair.specs.Ends.{StandsOn, IsEnd, AreEnds, is_at, paths_at}
+use Rattle.te_pair.specs.Ends.{StandsOn, IsEnd, is_at, paths_at}
 use Rattle.te_pair.proofs.PartnersFound.{From, from_place, at_told}
 use Rattle.te_pair.proofs.EndsTold.{one_state}
 use Rattle.meetings.specs.Walked.{IsMadeOf, AreMadeBelow, IsWalked, GoesPast, WaitsAt, CanFace, MeetsIf}
@@ -124,7 +124,8 @@ all_met old new p sends others n face m = record { news = m.news; paths = m.path
 
 -- ---- what the next meeting asks for
 
-stay : (old cur : Trail) (p : ℕ) (sends : Bool) (others : List ℕ) (n s r : ℕ) → HasMetFirst old p sends others n cur → s < length old.paths → r < length old.paths → AreMeetingEnds old s r → AreMeetingEnds cur s r
+stay : (old cur : Trail) (p : ℕ) (sends : Bool) (others : List ℕ) (n s r : ℕ)
+    → HasMetFirst old p sends others n cur → s < length old.paths → r < length old.paths → AreMeetingEnds old s r → AreMeetingEnds cur s r
 stay old cur p sends others n s r m sl rl ends x y a b ex ey ea eb = ends x y a b (before old cur p sends others n s x m sl ex) (before old cur p sends others n r y m rl ey)
     (ap (λ g. path_state g x) (sym m.events) ∙ ea) (ap (λ g. path_state g y) (sym m.events) ∙ eb)
 
@@ -228,9 +229,15 @@ can_face store kept p channel sends others w own is i q at = by sends refl own
     stands b s m e = subst (λ k. StandsOn b channel k) e (subst (λ c. StandsOn b c end.member) told.0 (subst (λ d. StandsOn d other.end.channel end.member) (told.1 ∙ s) end.stands))
 
     by : (b : Bool) → sends ≡ b → IsEnd store (record { path = p; channel = channel; sends = b }) → (q < p) × MatchBool b (AreMeetingEnds store p q) (AreMeetingEnds store q p)
-    by true s o = (low, λ x y a b ex ey ea eb. faces x a y b
-        (subst (StandsOn true channel) (member o.of x o.member a (at_path o.of x p o.made ex) o.state ea) o.stands)
-        (stands false (ap not s) b (member end.of y end.member b (at_path end.of y q there ey) end.state eb)))
-    by false s o = (low, λ x y a b ex ey ea eb. faces x a y b
-        (stands true (ap not s) a (member end.of x end.member a (at_path end.of x q there ex) end.state ea))
-        (subst (StandsOn false channel) (member o.of y o.member b (at_path o.of y p o.made ey) o.state eb) o.stands))
+    by true s o = (
+      low,
+      λ x y a b ex ey ea eb. faces x a y b
+          (subst (StandsOn true channel) (member o.of x o.member a (at_path o.of x p o.made ex) o.state ea) o.stands)
+          (stands false (ap not s) b (member end.of y end.member b (at_path end.of y q there ey) end.state eb)),
+    )
+    by false s o = (
+      low,
+      λ x y a b ex ey ea eb. faces x a y b
+          (stands true (ap not s) a (member end.of x end.member a (at_path end.of x q there ex) end.state ea))
+          (subst (StandsOn false channel) (member o.of y o.member b (at_path o.of y p o.made ey) o.state eb) o.stands),
+    )

@@ -1,17 +1,17 @@
 -- What stays so as paths come to a store.
-use Rattle.std.proofs.Common.{◌≡◌, ◌⊎◌, ◌≤◌, ◌<◌, ◌+◌, inl, inr, ℕ, zero, suc, List, [], ◌∷◌, ◌++◌, length, take, Bool, true, false, Some, slice_get, Result, Ok, Err, refl, ap, sym, ◌∙◌, subst, arith, append-nil, append_assoc, length-append}
+use Rattle.std.proofs.Common.{◌≡◌, ◌⊎◌, ◌≤◌, ◌<◌, ◌+◌, inl, inr, ℕ, zero, suc, List, [], ◌∷◌, ◌++◌, length, take}
+use Rattle.std.proofs.Common.{Bool, true, false, Some, slice_get, Result, Ok, Err, refl, ap, sym, ◌∙◌, subst, arith, append-nil, append_assoc, length-append}
 use Rattle.std.specs.Prelude.{OnOk}
-use Rattle.std.specs.List.{All, Contains}
 use Rattle.std.proofs.lemmas.List.Elements.{All-contains, All-map, All-push, All-weaker}
 use Rattle.te_terms.specs.Steps.{Member}
-use Rattle.te_terms.proofs.Lists.{get-longer, get_low, get_some, get_front, get_taken, take_more}
+use Rattle.te_terms.proofs.Lists.{get-longer, get_low, get_some, get_taken, take_more}
 use Rattle.te_trail.specs.Paths.{Path, planted, branched, sent, got}
 use Rattle.te_trail.specs.States.{path_state}
 use Rattle.te_trail.specs.Stores.{Holds, IsStore}
 use Rattle.te_trail.specs.Trails.{Trail, IsAtChoice, IsUnmade, IsPlanted, IsBranched}
-use Rattle.te_trail.proofs.StoresHold.{held, place_held}
+use Rattle.te_trail.proofs.StoresHold.{place_held}
 use Rattle.te_pair.specs.declared.end.End.{End}
-use Rattle.te_pair.specs.Ends.{path_of, paths_kept, IsEnd, AreEnds, PathIsKept}
+use Rattle.te_pair.specs.Ends.{path_of, paths_kept, IsEnd, PathIsKept}
 use Rattle.meetings.specs.Walked.{IsMadeOf, AreMadeBelow, IsWalked, GoesPast}
 
 pub holds_which : (xs ys : List Path) (x : Path) → Holds (xs ++ ys) x → Holds xs x ⊎ Holds ys x
@@ -58,7 +58,7 @@ pub planted_too : (old put new : Trail) (i : ℕ) → put.paths ≡ old.paths �
 planted_too old put new i same low is made x h =
     let m : (m : Member) × (slice_get put.events i ≡ Some m) = get_some put.events i low in
     let paths : new.paths ≡ old.paths ++ planted m.0.thread ∷ [] = ap (λ (t : Trail). t.paths) (is m.0 m.1) ∙ ap (λ k. k ++ planted m.0.thread ∷ []) same in
-    elim (holds_which old.paths (planted m.0.thread ∷ []) x (subst (λ k. Holds k x) paths h)) [ | inl k ↦ made x k | inr k ↦ alone m.0.thread k ]
+    elim (holds_which old.paths (planted m.0.thread ∷ []) x (subst (λ k. Holds k x) paths h)) [ inl k ↦ made x k | inr k ↦ alone m.0.thread k ]
   where
     alone : (t : ℕ) → Holds (planted t ∷ []) x → IsMadeOf [] x
     alone t (inl e) = subst (IsMadeOf []) (sym e) tt

@@ -1,5 +1,5 @@
 -- Which paths a walk over a store has gone past.
-use Rattle.std.specs.Prelude.{◌≡◌, ◌⊎◌, ◌<◌, ◌+◌, ℕ, List, [], ◌∷◌, ◌++◌, take, Bool, MatchBool, Some, slice_get}
+use Rattle.std.specs.Prelude.{◌≡◌, ◌⊎◌, ◌<◌, ◌+◌, ℕ, List, ◌++◌, take, Bool, MatchBool, Some, slice_get}
 use Rattle.std.specs.List.{All}
 use Rattle.te_trail.specs.Paths.{Path, planted, branched, sent, got}
 use Rattle.te_trail.specs.Stores.{Holds}

@@ -88,7 +88,11 @@ fn push_end(code: &mut EventCode, sum: u8) -> Option<u32> {
 // b <- recv i; a <- always (the sum before + b.0); and the rest
 fn push_round(code: &mut EventCode, i: u8, rest: u32) -> Option<u32> {
     let before = level_of_sum(i.wrapping_sub(1));
-    let sum = Calc::Op(Arith::Add, first_of(before), first_of(before.wrapping_add(1)));
+    let sum = Calc::Op(
+        Arith::Add,
+        first_of(before),
+        first_of(before.wrapping_add(1)),
+    );
     let sum = code
         .push(Node::Always(Expr::Tuple(Calcs::of(&[sum])?)))
         .ok()?;

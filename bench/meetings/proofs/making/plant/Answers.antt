@@ -1,4 +1,4 @@
-use Rattle.std.proofs.Common.{◌≡◌, ◌<◌, length, ap, rules}
+use Rattle.std.proofs.Common.{◌<◌, length, ap, rules}
 use Rattle.te_trail.specs.Trails.{Trail}
 use Rattle.meetings.proofs.PathsMore.{planted_too}
 use Rattle.meetings.proofs.making.plant.Goals as goal
