@@ -302,6 +302,18 @@ impl Batched {
         }
     }
 
+    /// How many kept ends a look at a path compares with it.
+    pub(crate) fn ends_compared(&self, p: u32) -> usize
+        requires batched { IsBatched self.now }
+        requires path { p < self.now.batched }
+    {
+        match self.work.store.stop(p) {
+            Stop::Send(channel, _) => self.work.waiting.ends(channel, false).len(),
+            Stop::Recv(channel) => self.work.waiting.ends(channel, true).len(),
+            _ => 0,
+        }
+    }
+
     // Makes both branches of the lowest path of the batch.
     fn fork(&mut self) -> Result<(), Refused>
         requires batched { IsBatched self.old }

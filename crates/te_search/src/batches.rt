@@ -94,6 +94,19 @@ impl Search {
         }
     }
 
+    /// How many kept ends a look at a path compares with it, which may be more than the partners that it tells. Condition:
+    /// the path is in the present batch and isn't applied. It is public for the crates above alone, which share the looks
+    /// among workers where they compare many.
+    #[doc(hidden)]
+    pub fn ends_compared(&self, p: u32) -> usize
+        requires { IsInBatch self.now p }
+    {
+        match &self.batched {
+            Some(batched) => batched.ends_compared(p),
+            None => unreachable!(),
+        }
+    }
+
     /// Does what a look says of a path: makes both branches, or one meeting for each partner, or tries partial groups from a
     /// path that is at its end. `Some` has the certificate of a group, as `find` gives it; then the search doesn't go on.
     /// `None` comes only where no set of applied final paths of different threads, this one among them, is what one chain of
