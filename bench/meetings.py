@@ -22,6 +22,7 @@ import subprocess
 import sys
 import tempfile
 
+sys.dont_write_bytecode = True
 from search import NOTHING, SERIAL, TOP, blocked
 
 CRATES = ("te_terms: thiserror", "te_path: te_terms smallvec", "te_trail: te_path te_terms", "te_pair: te_trail te_path te_terms",

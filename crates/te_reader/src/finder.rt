@@ -88,13 +88,17 @@ fn want(wanted: &mut Stack<Part>, parts: &[Part]) -> Result<(), NoMemory>
     Ok(())
 }
 
-// The fault of a text of any length.
-fn find(alloc: Global, text: &[u8]) -> Result<Option<Found>, NoMemory>
+// The fault of a text of any length, from what is wanted and stands before at its beginning. It is lent both, and so has
+// nothing to drop where it returns.
+fn find_in<'a>(
+    text: &'a [u8],
+    wanted: &mut Stack<Part>,
+    context: &mut Context<'a>,
+) -> Result<Option<Found>, NoMemory>
+    requires wanted { wanted.old ≡ Script ∷ [] }
+    requires before { context.old ≡ nothing_before }
     ensures { IfOk result (λ o. option_map found_of o ≡ run (Script ∷ []) nothing_before (spots text.now)) }
 {
-    let mut wanted = Stack::new(alloc);
-    wanted.push(Part::Script)?;
-    let mut context = Context::new(alloc);
     let mut scanner = Scanner::new(text);
     'tokens: loop {
         let here = scanner.look();
@@ -104,7 +108,7 @@ fn find(alloc: Global, text: &[u8]) -> Result<Option<Found>, NoMemory>
                 left: here.left,
             }));
         };
-        let Some(form) = next_form(&mut wanted, part, here.lexeme, here.dotted)? else {
+        let Some(form) = next_form(wanted, part, here.lexeme, here.dotted)? else {
             return Ok(Some(Found {
                 cause: misfit(here.lexeme),
                 left: here.left,
@@ -117,12 +121,22 @@ fn find(alloc: Global, text: &[u8]) -> Result<Option<Found>, NoMemory>
             }));
         }
         context.pass(form.role, here.lexeme)?;
-        want(&mut wanted, form.wanted)?;
+        want(wanted, form.wanted)?;
         if is_end(here.lexeme) {
             return Ok(None);
         }
         scanner.advance();
     }
+}
+
+// The fault of a text of any length.
+fn find(alloc: Global, text: &[u8]) -> Result<Option<Found>, NoMemory>
+    ensures { IfOk result (λ o. option_map found_of o ≡ run (Script ∷ []) nothing_before (spots text.now)) }
+{
+    let mut wanted = Stack::new(alloc);
+    wanted.push(Part::Script)?;
+    let mut context = Context::new(alloc);
+    find_in(text, &mut wanted, &mut context)
 }
 
 /// The fault of a text, if it has one.

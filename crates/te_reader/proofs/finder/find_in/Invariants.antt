@@ -3,7 +3,7 @@ use Rattle.te_reader.specs.declared.part.Part.TheVariants.{Script}
 use Rattle.te_reader.specs.Spots.{spots}
 use Rattle.te_reader.specs.Rules.{nothing_before}
 use Rattle.te_reader.specs.Runs.{run}
-use Rattle.te_reader.proofs.finder.find.Given as goal
+use Rattle.te_reader.proofs.finder.find_in.Given as goal
 
 abbrev pub decreases-tokens : goal.decreases-tokens
 decreases-tokens l = length l.scanner

@@ -5,7 +5,7 @@ use Rattle.te_reader.specs.Rules.{rules as rules_of, first_broken}
 use Rattle.te_reader.specs.Runs.{found, pick}
 use Rattle.te_reader.specs.Finding.{lexeme_head, is_end, IsPickedAs}
 use Rattle.te_reader.proofs.NextForm.{nothing_wanted, no_form, broken_rule, ended_there, went_on}
-use Rattle.te_reader.proofs.finder.find.Goals as goal
+use Rattle.te_reader.proofs.finder.find_in.Goals as goal
 
 pub returns-in_default : goal.returns-in_default
 returns-in_default c =
