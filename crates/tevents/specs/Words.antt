@@ -42,6 +42,8 @@ abbrev pub mode_name : Mode → Text
 mode_name modes.Serial = codes "serial"
 mode_name modes.Print = codes "print"
 mode_name modes.Gen = codes "gen"
+mode_name modes.Check = codes "check"
+mode_name modes.Lift = codes "lift"
 
 -- the option has this number, of this range
 pub record HasNumber (words : List Text) (name : Text) (low high n : ℕ) : Type 0 where

@@ -1,3 +1,4 @@
+mod checks;
 mod modes;
 mod printing;
 mod reading;
