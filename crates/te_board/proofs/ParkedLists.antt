@@ -10,8 +10,7 @@ use Rattle.te_history.specs.declared.status.Status.TheVariants as statuses
 use Rattle.te_history.specs.State.{Standing, idle, parked, given, ended, State, parked_by, parked_from, parked_list}
 use Rattle.te_history.specs.Follows.{Stands}
 use Rattle.te_history.specs.Histories.{HasStatus, status_of}
-use Rattle.te_terms.proofs.Lists.{drop_at}
-use Rattle.te_terms.proofs.Lists.{take_next as take_suc}
+use Rattle.te_terms.proofs.Lists.{drop_at, take_next as take_suc}
 
 -- the parked callers from one caller on
 abbrev pub parked_after : ℕ → State → List Parked

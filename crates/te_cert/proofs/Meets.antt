@@ -106,7 +106,9 @@ module _ (j : ℕ) (mt : Meeting) (ps : List Player) (a b : Stop) (sender : Stan
     pub sender_fails : (e : CertFault) → (e ≡ faults.Memory) ⊎ ((e ≡ faults.Choices mt.sender) × Lacks mt.sender [] ps) → (word : List Label) → TellsFault (meets j mt (at word)) e
     sender_fails e (inl memory) word = inl memory
     sender_fails e (inr lacks) word =
-        let so : advanced mt.sender (player_handed [] p) ≡ Err (no_letter mt.sender) = ap (λ x. advanced mt.sender (player_handed [] x)) (sym (one_sender lacks.1.player lacks.1.is_there)) ∙ lacks.1.lacks in
+        let so : advanced mt.sender (player_handed [] p) ≡ Err (no_letter mt.sender) =
+        ap (λ x. advanced mt.sender (player_handed [] x)) (sym (one_sender lacks.1.player lacks.1.is_there))
+        ∙ lacks.1.lacks in
         inr (no_letter mt.sender, they_go word ∙ rw so refl, lacks.0)
 
     module _ (apart : mt.sender ≢ mt.receiver) (after : List Player) (went : PlayerGoesOn mt.sender [] ps after) where
@@ -128,7 +130,9 @@ module _ (j : ℕ) (mt : Meeting) (ps : List Player) (a b : Stop) (sender : Stan
       receiver_fails : (e : CertFault) → (e ≡ faults.Memory) ⊎ ((e ≡ faults.Choices mt.receiver) × Lacks mt.receiver v after) → (word : List Label) → TellsFault (meets j mt (at word)) e
       receiver_fails e (inl memory) word = inl memory
       receiver_fails e (inr lacks) word =
-          let so : advanced mt.receiver (player_handed v q) ≡ Err (no_letter mt.receiver) = ap (λ x. advanced mt.receiver (player_handed v x)) (sym (one_receiver lacks.1.player lacks.1.is_there)) ∙ lacks.1.lacks in
+          let so : advanced mt.receiver (player_handed v q) ≡ Err (no_letter mt.receiver) =
+          ap (λ x. advanced mt.receiver (player_handed v x)) (sym (one_receiver lacks.1.player lacks.1.is_there))
+          ∙ lacks.1.lacks in
           inr (no_letter mt.receiver, they_go word ∙ rw (sender_goes, so) refl, lacks.0)
 
       both_go : (last : List Player) → PlayerGoesOn mt.receiver v after last → (word : List Label) → BecomesTable (meets j mt (at word)) last

@@ -15,8 +15,7 @@ use Rattle.te_cert.specs.declared.seat.Seat.{Seat}
 use Rattle.te_cert.specs.Play.{Player}
 use Rattle.te_cert.specs.Players.{Entering, entering, all_entering, IsSeat, AreSeated, seats_of, seat_of, Comes, player_handed, PlayerGoesOn, Lacks}
 use Rattle.te_cert.proofs.Advancing.{advanced_is}
-use Rattle.te_terms.proofs.Lists.{get_some}
-use Rattle.te_terms.proofs.Lists.{found_here}
+use Rattle.te_terms.proofs.Lists.{get_some, found_here}
 
 -- ---- who enters
 

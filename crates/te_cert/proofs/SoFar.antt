@@ -1,5 +1,7 @@
 -- What the three loops of a play have done so far, and what one more turn of each does.
-use Rattle.std.proofs.Common.{◌≡◌, inl, inr, ℕ, zero, suc, ◌+◌, ◌<◌, ◌≤◌, List, [], ◌∷◌, ◌++◌, length, get_or, take, drop, Some, Result, Ok, Err, refl, sym, ap, subst, ◌∙◌, append_assoc, append-nil, take_all, add-one}
+use Rattle.std.proofs.Common.{◌≡◌, inl, inr, ℕ, zero, suc, ◌+◌, ◌<◌, ◌≤◌, List, [], ◌∷◌, ◌++◌, length, get_or, take}
+use Rattle.std.proofs.Common.{drop, Some, Result, Ok, Err, refl, sym, ap, subst, ◌∙◌, append_assoc, append-nil}
+use Rattle.std.proofs.Common.{take_all, add-one}
 use Rattle.std.specs.Prelude.{slice_get}
 use Rattle.std.proofs.Math.Seq.{drop-cons}
 use Rattle.std.proofs.Math.ListN.{drop_of_length-le}
@@ -14,8 +16,7 @@ use Rattle.te_cert.specs.declared.seat.Seat.{Seat}
 use Rattle.te_cert.specs.Play.{PlayFault, Player, Table, ◌>>=◌, advanced, all_advanced, meets, all_meet, ending, endings}
 use Rattle.te_cert.specs.Players.{Entering, IsSeat, AreSeated, IsSeatedAt, start_of, starts_of, seat_of, seats_of, BecomesTable, players_before, outcomes_before, TellsFault, TellsPart}
 use Rattle.te_cert.proofs.SeatsByPlace.{seated_stay, seats_stay}
-use Rattle.te_terms.proofs.Lists.{drop_at}
-use Rattle.te_terms.proofs.Lists.{take_next}
+use Rattle.te_terms.proofs.Lists.{drop_at, take_next}
 
 -- ---- a list by its place
 

@@ -22,7 +22,8 @@ use Rattle.te_cert.specs.declared.group.Group.{Group}
 use Rattle.te_cert.specs.declared.seat.Seat.{Seat}
 use Rattle.te_cert.specs.declared.seat.End.{End}
 use Rattle.te_cert.specs.declared.seat.End.TheVariants as ends
-use Rattle.te_cert.specs.Play.{PlayFault, no_letter, no_meeting, unfinished, letters_left, Player, Advance, Table, Played, ◌>>=◌, with_label, player_with_term, advanced, all_advanced, all_meet, endings}
+use Rattle.te_cert.specs.Play.{PlayFault, no_letter, no_meeting, unfinished, letters_left, Player, Advance, Table}
+use Rattle.te_cert.specs.Play.{Played, ◌>>=◌, with_label, player_with_term, advanced, all_advanced, all_meet, endings}
 use Rattle.te_cert.specs.Advances.{by_letters}
 
 -- ---- who enters

@@ -10,9 +10,14 @@ use Rattle.te_terms.specs.declared.value.Trap.TheVariants.{Range, Kind}
 use Rattle.te_terms.specs.declared.event.Outcome.{Outcome}
 use Rattle.te_terms.specs.declared.event.Outcome.TheVariants.{Gives, Raises}
 use Rattle.te_terms.specs.Values.{trap_value, arith_result, fits_i64, fresh_channel}
-use Rattle.te_terms.specs.Expressions.{Variable, register, name, known, Primitive, int, chan, part, Calculation, one, both, Expression, whole, tuple, in_primitive, in_calculation, in_expression, ◌>>=◌, primitive_atom, channel_of, channel_value, integer_of, calculation_atom, calculated_atoms, value_of, test_value}
+use Rattle.te_terms.specs.Expressions.{Variable, register, name, known, Primitive, int, chan, part, Calculation, one}
+use Rattle.te_terms.specs.Expressions.{both, Expression, whole, tuple, in_primitive, in_calculation, in_expression}
+use Rattle.te_terms.specs.Expressions.{◌>>=◌, primitive_atom, channel_of, channel_value, integer_of, calculation_atom}
+use Rattle.te_terms.specs.Expressions.{calculated_atoms, value_of, test_value}
 use Rattle.te_terms.specs.Terms.{Term, always, never, fresh, throw, send, recv, and_then, choose, catch, when, name_to, bound}
-use Rattle.te_terms.specs.Steps.{Member, come_to, giving, raising, given_by, raised_by, outcome_of, thrown, send_trap, recv_trap, decided, under_then, under_catch, goes_on, is_caught, quiet_step_of, quiet_step, head, with_head}
+use Rattle.te_terms.specs.Steps.{Member, come_to, giving, raising, given_by, raised_by, outcome_of, thrown, send_trap}
+use Rattle.te_terms.specs.Steps.{recv_trap, decided, under_then, under_catch, goes_on, is_caught, quiet_step_of}
+use Rattle.te_terms.specs.Steps.{quiet_step, head, with_head}
 use Rattle.te_terms.specs.Joint.{Message, message, chosen_from, after_choice, sent_from, channel_at, received_on, sending, receiving}
 use Rattle.te_forms.specs.Rings.{IsRing, IsOnRing}
 use Rattle.te_forms.specs.Privacy.{AtomAvoids, ValueAvoids, VariableAvoids, PrimitiveAvoids, CalculationAvoids, ExpressionAvoids, TermAvoids}

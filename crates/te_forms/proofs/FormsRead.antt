@@ -9,7 +9,9 @@ use Rattle.te_terms.specs.Shape.{IsForest}
 use Rattle.te_forms.specs.declared.form.Form.{Form}
 use Rattle.te_forms.specs.declared.form.Form.TheVariants.{Swap, Barrier}
 use Rattle.te_forms.specs.declared.reading.Sent.{Sent}
-use Rattle.te_forms.specs.Reading.{replaced_under, both_under, parts_at, sent_by, received_by, gives_name, gives_unit, form_if, is_on, role_on, last_channel, waits_first, form_after_sending, sends_first, by_end, by_role, by_sent, receives_first, by_first, by_parts, form_in}
+use Rattle.te_forms.specs.Reading.{replaced_under, both_under, parts_at, sent_by, received_by, gives_name, gives_unit}
+use Rattle.te_forms.specs.Reading.{form_if, is_on, role_on, last_channel, waits_first, form_after_sending, sends_first}
+use Rattle.te_forms.specs.Reading.{by_end, by_role, by_sent, receives_first, by_first, by_parts, form_in}
 use Rattle.te_forms.proofs.NodesRead.{under_node}
 
 -- the children of a `then` are its parts

@@ -51,7 +51,8 @@ module _ (channel place : ℕ) (test : Test) (bound : ℤ) where
 
   -- ---- its steps
 
-  waits : (i : ℕ) (p : Player) → advanced i (player_with_term p (guarded_term channel place test bound)) ≡ Ok (record { player = player_with_term p (guarded_term channel place test bound); word = [] })
+  waits : (i : ℕ) (p : Player) → advanced i (player_with_term p (guarded_term channel place test bound)) ≡ Ok
+      (record { player = player_with_term p (guarded_term channel place test bound); word = [] })
   waits i p = refl
 
   decides : (i : ℕ) (p : Player) (v : List Atom) (r : Result Bool Trap)
@@ -61,7 +62,9 @@ module _ (channel place : ℕ) (test : Test) (bound : ℤ) where
   decides i p v (Err Range) = refl
   decides i p v (Err Kind) = refl
 
-  receives : (i : ℕ) (p : Player) (v : List Atom) → advanced i (player_with_term p (with_head (giving v) (guarded_term channel place test bound))) ≡ Ok (record { player = player_with_term p (after v); word = [] })
+  receives : (i : ℕ) (p : Player) (v : List Atom) → advanced i
+      (player_with_term p (with_head (giving v) (guarded_term channel place test bound))) ≡ Ok
+      (record { player = player_with_term p (after v); word = [] })
   receives i p v = decides i p v (tested v)
 
   sends_nothing : (v : List Atom) (r : Result Bool Trap) → sending (decided r (giving v) never) ≡ None

@@ -94,7 +94,8 @@ module _ (ring : List ℕ) (regs : List (List Atom)) where
     whole : (level : ℕ) → term_at code level i ≡ over (term_at code) level (Some m)
     whole level = node_at code i (Some m) forest at level
 
-    pub leaf_tells : (test : Bool) → children m ≡ [] → ((level : ℕ) → IsTrue test ↔ Avoids (formed m level never never)) → (level : ℕ) → IsTrue test ↔ TermAvoids ring (replaced_under code regs level i)
+    pub leaf_tells : (test : Bool) → children m ≡ [] → ((level : ℕ) → IsTrue test ↔ Avoids (formed m level never never))
+        → (level : ℕ) → IsTrue test ↔ TermAvoids ring (replaced_under code regs level i)
     leaf_tells test none tells level =
         subst (λ (t : Term). IsTrue test ↔ Avoids t) (sym (whole level ∙ leaf_formed (term_at code) level m none)) (tells level)
 

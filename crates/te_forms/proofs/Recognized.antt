@@ -13,7 +13,10 @@ use Rattle.te_forms.specs.declared.reading.Sent.{Sent}
 use Rattle.te_forms.specs.Rings.{IsRing, IsOnRing}
 use Rattle.te_forms.specs.Forms.{form_term, role_of, IsForm}
 use Rattle.te_forms.specs.Privacy.{TermAvoids}
-use Rattle.te_forms.specs.Reading.{parts_at, channel_named, constant, sent_so, sent_by, received_by, gives_name, is_unit, gives_unit, form_if, is_on, role_on, last_channel, waits_first, form_after_sending, sends_first, by_end, by_role, by_sent, receives_first, by_first, by_parts, form_in}
+use Rattle.te_forms.specs.Reading.{parts_at, channel_named, constant, sent_so, sent_by, received_by, gives_name}
+use Rattle.te_forms.specs.Reading.{is_unit, gives_unit, form_if, is_on, role_on, last_channel, waits_first}
+use Rattle.te_forms.specs.Reading.{form_after_sending, sends_first, by_end, by_role, by_sent, receives_first, by_first}
+use Rattle.te_forms.specs.Reading.{by_parts, form_in}
 use Rattle.te_forms.proofs.Moves.{in_ring}
 use Rattle.te_terms.proofs.Lists.{both_true}
 

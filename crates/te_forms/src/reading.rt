@@ -7,7 +7,9 @@ ghost use Rattle.te_terms.specs.Expressions.{Variable, in_primitive, in_expressi
 ghost use Rattle.te_terms.specs.Terms.{registers_to};
 ghost use Rattle.te_terms.specs.Codes.{primitive_of, expression_of};
 ghost use Rattle.te_terms.specs.Views.{expression_seen};
-ghost use Rattle.te_forms.specs.Reading.{replaced_under, both_under, parts_at, channel_named, constant, sent_by, received_by, gives_name, gives_unit, form_if, waits_first, sends_first, receives_first, by_end, form_in};
+ghost use Rattle.te_forms.specs.Reading.{replaced_under, both_under, parts_at, channel_named, constant, sent_by};
+ghost use Rattle.te_forms.specs.Reading.{received_by, gives_name, gives_unit, form_if, waits_first, sends_first};
+ghost use Rattle.te_forms.specs.Reading.{receives_first, by_end, form_in};
 
 use crate::form::Form;
 use crate::ring::Ring;

@@ -21,8 +21,7 @@ use Rattle.te_history.specs.Histories.{phase_of}
 use Rattle.te_history.specs.Kept.{StateIsKept, to_status, to_post, with_status, seats_given, seats_after, phase_after, resting_after}
 use Rattle.te_history.proofs.AfterEntry.{state-after, counted, posts_by-after, posts_by_at_most, length-state, loose-after}
 use Rattle.te_history.proofs.SeatsAfter.{length-changed, length-seats_after, seat_shows-longer, shows_along, posts_of_seat, AllShow, all_changed, all_restand}
-use Rattle.te_terms.proofs.Lists.{get-last}
-use Rattle.te_terms.proofs.Lists.{get_some}
+use Rattle.te_terms.proofs.Lists.{get-last, get_some}
 
 -- ---- members
 

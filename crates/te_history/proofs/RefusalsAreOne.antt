@@ -23,7 +23,9 @@ use Rattle.te_history.specs.declared.status.Status.TheVariants as statuses
 use Rattle.te_history.specs.State.{Standing, parked, State, posts_by}
 use Rattle.te_history.specs.Follows.{Stands, IsParkedOrEnded, caller_of}
 use Rattle.te_history.specs.Histories.{History, now, HasStatus}
-use Rattle.te_history.specs.Refusals.{IsFirstLive, AreCallers, IsFirstStranger, IsFirstStale, AreParked, IsFirstOther, RefusesPost, RefusesWithdraw, RefusesTake, RefusesRest, RefusesStuck, RefusesEnd, RefusesCommit, RefusesEntry, IsEndEntry, IsOpenFor, IsRefused}
+use Rattle.te_history.specs.Refusals.{IsFirstLive, AreCallers, IsFirstStranger, IsFirstStale, AreParked, IsFirstOther}
+use Rattle.te_history.specs.Refusals.{RefusesPost, RefusesWithdraw, RefusesTake, RefusesRest, RefusesStuck, RefusesEnd}
+use Rattle.te_history.specs.Refusals.{RefusesCommit, RefusesEntry, IsEndEntry, IsOpenFor, IsRefused}
 use Rattle.te_history.proofs.AfterEntry.{length-state}
 use Rattle.te_history.proofs.Events.{length-parked}
 use Rattle.te_terms.proofs.Lists.{all_at}

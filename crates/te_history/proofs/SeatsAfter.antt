@@ -13,9 +13,7 @@ use Rattle.te_history.specs.declared.status.Status.TheVariants as statuses
 use Rattle.te_history.specs.declared.seat.Seat.{Seat}
 use Rattle.te_history.specs.State.{Standing, idle, parked, given, ended}
 use Rattle.te_history.specs.Kept.{Shows, SeatShows, seat_changed, to_status, to_post, with_status, seats_given, seats_after}
-use Rattle.te_terms.proofs.Lists.{get_some}
-use Rattle.te_terms.proofs.Lists.{get-longer}
-use Rattle.te_terms.proofs.Lists.{get-last}
+use Rattle.te_terms.proofs.Lists.{get_some, get-longer, get-last}
 
 -- ---- seats
 

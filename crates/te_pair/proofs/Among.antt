@@ -59,4 +59,5 @@ all_front P (x ∷ xs) ys (p, h) = (p, all_front P xs ys h)
 pub distinct_front : (xs ys : List ℕ) → IsDistinct nat_eq (xs ++ ys) → IsDistinct nat_eq xs
 unfolding IsDistinct
 distinct_front [] ys h = _
-distinct_front (x ∷ xs) ys h = IsDistinct-cons nat_eq x xs (all_front (λ y. nat_eq x y ≡ false) xs ys (IsDistinct-head nat_eq x (xs ++ ys) h)) (distinct_front xs ys (IsDistinct-tail nat_eq x (xs ++ ys) h))
+distinct_front (x ∷ xs) ys h = IsDistinct-cons nat_eq x xs (all_front (λ y. nat_eq x y ≡ false) xs ys
+    (IsDistinct-head nat_eq x (xs ++ ys) h)) (distinct_front xs ys (IsDistinct-tail nat_eq x (xs ++ ys) h))

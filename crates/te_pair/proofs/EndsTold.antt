@@ -16,7 +16,9 @@ abbrev pub OnlyStop : Trail → ℕ → Stop → Type 0
 OnlyStop store p told = (x : Path) (m : Member) (stop : Stop) → slice_get store.paths p ≡ Some x → path_state store.events x ≡ Some m → StandsAt m.term stop → told ≡ stop
 
 end_is : (e : End) (p c : ℕ) (s : Bool) → e.path ≡ p → e.channel ≡ c → e.sends ≡ s → e ≡ record { path = p; channel = c; sends = s }
-end_is e p c s hp hc hs = ap {B = End} (λ q. record { path = q; channel = e.channel; sends = e.sends }) hp ∙ ap {B = End} (λ d. record { path = p; channel = d; sends = e.sends }) hc ∙ ap {B = End} (λ b. record { path = p; channel = c; sends = b }) hs
+end_is e p c s hp hc hs = ap {B = End} (λ q. record { path = q; channel = e.channel; sends = e.sends }) hp
+    ∙ ap {B = End} (λ d. record { path = p; channel = d; sends = e.sends }) hc ∙ ap {B = End}
+    (λ b. record { path = p; channel = c; sends = b }) hs
 
 pub path_there : (xs : List Path) (p : ℕ) → p < length xs → (x : Path) × (slice_get xs p ≡ Some x)
 path_there [] p h = absurd (omega (arith, h))
@@ -83,15 +85,34 @@ pub some_end : (store : Trail) (p : ℕ) (told : Stop) → p < length store.path
 some_end store p told low stands is only = by (path_there store.paths p low)
   where
     by : (x : Path) × (slice_get store.paths p ≡ Some x) → (e : End) × (e.path ≡ p) × Seen e told
-    by (x, ex) = (let at : (sends : Bool) × (channel : ℕ) × StandsOn sends channel (is x ex).0 = stands x (is x ex).0 ex (is x ex).1.state in
-        (record { path = p; channel = at.1; sends = at.0 }, refl, seen store p told only (record { path = p; channel = at.1; sends = at.0 }) refl (record { of = x; made = ex; member = (is x ex).0; state = (is x ex).1.state; stands = at.2 })))
+    by (x, ex) = (let at : (sends : Bool) × (channel : ℕ) × StandsOn sends channel (is x ex).0 = stands x (is x ex).0 ex (is x ex).1.state in (
+      record { path = p; channel = at.1; sends = at.0 },
+      refl,
+      seen store p told only (record { path = p; channel = at.1; sends = at.0 }) refl
+          (record { of = x; made = ex; member = (is x ex).0; state = (is x ex).1.state; stands = at.2 }),
+    ))
 
 -- what is seen at a send or a receive is at an end
 pub one_state : (o : Option Member) (a b : Member) → o ≡ Some a → o ≡ Some b → a ≡ b
 one_state o a b e f = (let same : Some a ≡ Some b = sym e ∙ f in cc)
 
 pub at_send : (store : Trail) (p c : ℕ) (v : List Atom) (told : Stop) → told ≡ stops.Send c v → IsStop store p told → IsAtEnd store p
-at_send store p c v told e is x m ex em = (true, c, (record { channel = c; value = v }, subst (λ k. StandsAt k.term (stops.Send c v)) (one_state (path_state store.events x) (is x ex).0 m (is x ex).1.state em) (subst (StandsAt (is x ex).0.term) e (is x ex).2), refl))
+at_send store p c v told e is x m ex em = (
+  true,
+  c,
+  (
+    record { channel = c; value = v },
+    subst (λ k. StandsAt k.term (stops.Send c v)) (one_state (path_state store.events x) (is x ex).0 m
+        (is x ex).1.state em) (subst (StandsAt (is x ex).0.term) e (is x ex).2),
+    refl,
+  ),
+)
 
 pub at_receive : (store : Trail) (p c : ℕ) (told : Stop) → told ≡ stops.Recv c → IsStop store p told → IsAtEnd store p
-at_receive store p c told e is x m ex em = (false, c, subst (λ k. StandsAt k.term (stops.Recv c)) (one_state (path_state store.events x) (is x ex).0 m (is x ex).1.state em) (subst (StandsAt (is x ex).0.term) e (is x ex).2))
+at_receive store p c told e is x m ex em = (
+  false,
+  c,
+  subst (λ k. StandsAt k.term (stops.Recv c))
+      (one_state (path_state store.events x) (is x ex).0 m (is x ex).1.state em)
+      (subst (StandsAt (is x ex).0.term) e (is x ex).2),
+)

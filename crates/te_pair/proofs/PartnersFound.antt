@@ -1,5 +1,7 @@
 -- What a walk over a place finds.
-use Rattle.std.proofs.Common.{◌≡◌, ◌≢◌, ◌<◌, ◌↔◌, ◌⊎◌, ℕ, zero, suc, ◌+◌, Bool, true, false, not, cond, ◌&&◌, List, [], ◌∷◌, ◌++◌, length, take, get_or, Some, slice_get, nat_eq, eqb-true, eq-eqb, refl, ap, ap₂, sym, ◌∙◌, subst, arith, inl, inr}
+use Rattle.std.proofs.Common.{◌≡◌, ◌≢◌, ◌<◌, ◌↔◌, ◌⊎◌, ℕ, zero, suc, ◌+◌, Bool, true, false, not, cond, ◌&&◌, List, []}
+use Rattle.std.proofs.Common.{◌∷◌, ◌++◌, length, take, get_or, Some, slice_get, nat_eq, eqb-true, eq-eqb, refl, ap, ap₂}
+use Rattle.std.proofs.Common.{sym, ◌∙◌, subst, arith, inl, inr}
 use Rattle.std.specs.List.{Contains, IsDistinct, AllByRecursion, filter}
 use Rattle.std.specs.List.Sorted.{IsPermutation, IsStrictlyIncreasing, IsSorted}
 use Rattle.std.specs.Ordering.{nat_cmp}
@@ -13,8 +15,7 @@ use Rattle.te_pair.specs.declared.end.End.{End}
 use Rattle.te_pair.specs.Ends.{path_of, paths_kept, IsEnd, AreEnds, is_at, paths_at, IsPartner}
 use Rattle.te_pair.proofs.Among.{nothing_twice, next_taken}
 use Rattle.te_pair.proofs.EndsTold.{path_low, path_there}
-use Rattle.te_terms.proofs.Lists.{both_true}
-use Rattle.te_terms.proofs.Lists.{not_true}
+use Rattle.te_terms.proofs.Lists.{both_true, not_true}
 
 -- ---- what is picked of a list
 
@@ -72,7 +73,9 @@ all_picked P R (x ∷ xs) ys (o, a) (inr (f, r)) = all_picked P R xs ys a r
 
 picked_once : (P : ℕ → Type 0) (xs ys : List ℕ) → IsDistinct nat_eq xs → Picks P xs ys → IsDistinct nat_eq ys
 picked_once P [] ys d h = subst (IsDistinct nat_eq) (sym h) nothing_twice
-picked_once P (x ∷ xs) ys d (inl (zs, e, p, r)) = subst (IsDistinct nat_eq) (sym e) (IsDistinct-cons nat_eq x zs (all_picked P (λ y. nat_eq x y ≡ false) xs zs (IsDistinct-head nat_eq x xs d) r) (picked_once P xs zs (IsDistinct-tail nat_eq x xs d) r))
+picked_once P (x ∷ xs) ys d (inl (zs, e, p, r)) = subst (IsDistinct nat_eq) (sym e)
+    (IsDistinct-cons nat_eq x zs (all_picked P (λ y. nat_eq x y ≡ false) xs zs (IsDistinct-head nat_eq x xs d) r)
+    (picked_once P xs zs (IsDistinct-tail nat_eq x xs d) r))
 picked_once P (x ∷ xs) ys d (inr (f, r)) = picked_once P xs ys (IsDistinct-tail nat_eq x xs d) r
 
 -- ---- the paths of a place
@@ -102,7 +105,9 @@ to_place : (test : End → Bool) (kept : List End) (e : End) → Contains kept e
 to_place test [] e c t = absurd (none_there e c)
 to_place test (d ∷ kept) e c t = by (test d) refl (λ more. to_place test kept e more t) (Contains-append_cases (d ∷ []) kept e c)
   where
-    by : (b : Bool) → test d ≡ b → (Contains kept e → Contains (paths_kept (filter test kept)) e.path) → Contains (d ∷ []) e ⊎ Contains kept e → Contains (paths_kept (cond b (d ∷ filter test kept) (filter test kept))) e.path
+    by : (b : Bool) → test d ≡ b → (Contains kept e → Contains (paths_kept (filter test kept)) e.path)
+        → Contains (d ∷ []) e ⊎ Contains kept e → Contains (paths_kept (cond b (d ∷ filter test kept) (filter test kept)))
+        e.path
     by true o rest (inl one) = here d.path e.path (paths_kept (filter test kept)) (ap path_of (one_there d e one))
     by true o rest (inr more) = Contains-append_right (d.path ∷ []) (paths_kept (filter test kept)) e.path (rest more)
     by false o rest (inl one) = (let both : true ≡ false = sym t ∙ ap test (sym (one_there d e one)) ∙ o in cc)
@@ -164,7 +169,9 @@ differs store p q low high told agree = by (path_there store.paths p low) (path_
     by : (x : Path) × (slice_get store.paths p ≡ Some x) → (y : Path) × (slice_get store.paths q ≡ Some y) → ⊥
     by (x, ex) (y, ey) = (let yes : false ≡ true = (told x y ex ey).1 (agree x y ex ey) in cc)
 
-pub found_exact : (store : Trail) (kept : List End) (p : ℕ) (own : End) (found sorted : List ℕ) → Own store p own → Picks (AreAgreeing store p) (paths_at own.channel (not own.sends) kept) found → IsPermutation found sorted → (q : ℕ) → Contains sorted q ↔ IsPartner store kept p q
+pub found_exact : (store : Trail) (kept : List End) (p : ℕ) (own : End) (found sorted : List ℕ) → Own store p own
+    → Picks (AreAgreeing store p) (paths_at own.channel (not own.sends) kept) found → IsPermutation found sorted
+    → (q : ℕ) → Contains sorted q ↔ IsPartner store kept p q
 found_exact store kept p own found sorted o picks moved q = (is, has)
   where
     place : List ℕ
@@ -173,16 +180,33 @@ found_exact store kept p own found sorted o picks moved q = (is, has)
     of : Contains place q → AreAgreeing store p q → IsPartner store kept p q
     of c agree = (let h : From (is_at own.channel (not own.sends)) kept q = from_place (is_at own.channel (not own.sends)) kept q c in
         let at : (h.end.channel ≡ own.channel) × (h.end.sends ≡ not own.sends) = at_told own.channel (not own.sends) h.end h.passes in
-        record { own = own; own_path = o.path; own_end = o.is; other = h.end; other_path = h.path; other_kept = h.kept_is; channel = at.0; direction = turned h.end.sends own.sends at.1; agree = agree })
+        record {
+          own = own;
+          own_path = o.path;
+          own_end = o.is;
+          other = h.end;
+          other_path = h.path;
+          other_kept =
+              h.kept_is;
+          channel = at.0;
+          direction = turned h.end.sends own.sends at.1;
+          agree = agree;
+        })
 
     is : Contains sorted q → IsPartner store kept p q
-    is c = (let both : Contains place q × AreAgreeing store p q = picked_there (AreAgreeing store p) place found q picks (Contains-permutation sorted found q (IsPermutation-sym found sorted moved) c) in of both.0 both.1)
+    is c = (let both : Contains place q × AreAgreeing store p q =
+        picked_there (AreAgreeing store p) place found q picks
+        (Contains-permutation sorted found q (IsPermutation-sym found sorted moved) c) in of both.0 both.1)
 
     has : IsPartner store kept p q → Contains sorted q
     has h =
         let same : h.own ≡ own = o.only h.own h.own_path h.own_end in
-        let test : is_at own.channel (not own.sends) h.other ≡ true = at_is own.channel (not own.sends) h.other (h.channel ∙ ap (λ (e : End). e.channel) same) (other_side h.other.sends own.sends (λ e. h.direction (e ∙ ap (λ (d : End). d.sends) (sym same)))) in
-        Contains-permutation found sorted q moved (there_picked (AreAgreeing store p) place found q picks (subst (Contains place) h.other_path (to_place (is_at own.channel (not own.sends)) kept h.other h.other_kept test)) h.agree)
+        let test : is_at own.channel (not own.sends) h.other ≡ true =
+        at_is own.channel (not own.sends) h.other (h.channel ∙ ap (λ (e : End). e.channel) same)
+        (other_side h.other.sends own.sends (λ e. h.direction (e ∙ ap (λ (d : End). d.sends) (sym same)))) in
+        Contains-permutation found sorted q moved (there_picked (AreAgreeing store p) place found q picks
+        (subst (Contains place) h.other_path (to_place (is_at own.channel (not own.sends)) kept h.other h.other_kept
+        test)) h.agree)
 
 flips : (x y : ℕ) → nat_eq x y ≡ nat_eq y x
 flips x y = by (nat_eq x y) refl (nat_eq y x) refl
@@ -199,8 +223,11 @@ found_rise P ends found sorted once picks moved rise =
 
 -- ---- the walk
 
-pub walk_more : (P : ℕ → Type 0) (ends found more : List ℕ) (i : ℕ) → i < length ends → Picks P (take i ends) found → P (get_or ends i 0) → more ≡ found ++ get_or ends i 0 ∷ [] → Picks P (take (i + 1) ends) more
-walk_more P ends found more i low h p is = subst (λ xs. Picks P xs more) (sym (next_taken ends i 0 low)) (subst (Picks P (take i ends ++ get_or ends i 0 ∷ [])) (sym is) (picks_more P (take i ends) found (get_or ends i 0) h p))
+pub walk_more : (P : ℕ → Type 0) (ends found more : List ℕ) (i : ℕ) → i < length ends → Picks P (take i ends) found
+    → P (get_or ends i 0) → more ≡ found ++ get_or ends i 0 ∷ [] → Picks P (take (i + 1) ends) more
+walk_more P ends found more i low h p is = subst (λ xs. Picks P xs more) (sym (next_taken ends i 0 low))
+    (subst (Picks P (take i ends ++ get_or ends i 0 ∷ [])) (sym is)
+    (picks_more P (take i ends) found (get_or ends i 0) h p))
 
 pub walk_pass : (P : ℕ → Type 0) (ends found : List ℕ) (i : ℕ) → i < length ends → Picks P (take i ends) found → (¬ P (get_or ends i 0)) → Picks P (take (i + 1) ends) found
 walk_pass P ends found i low h p = subst (λ xs. Picks P xs found) (sym (next_taken ends i 0 low)) (picks_pass P (take i ends) found (get_or ends i 0) h p)

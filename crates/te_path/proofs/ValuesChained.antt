@@ -7,12 +7,10 @@ use Rattle.std.proofs.lemmas.Bool.{cases_order}
 use Rattle.std.proofs.lemmas.Option.{slice_get_within, slice_get_past}
 use Rattle.te_terms.specs.declared.value.Atom.{Atom}
 use Rattle.te_terms.proofs.TermLemmas.{slice_get_seam}
-use Rattle.te_terms.proofs.Lists.{get_front}
+use Rattle.te_terms.proofs.Lists.{get_front, in_beginning, back}
 use Rattle.te_path.specs.declared.values.ValueCell.{ValueCell}
 use Rattle.te_path.specs.Chains.{chain, IsLinked, Extends, value_parent, value_in_cell, inner_at, AreValues}
 use Rattle.te_path.proofs.Chained.{slice_get_new, chain_is, chain_grown, chain_new, linked_new, linked_cut, chain_past, chain_short}
-use Rattle.te_terms.proofs.Lists.{in_beginning}
-use Rattle.te_terms.proofs.Lists.{back}
 
 turned : (c : ValueCell) (cs : List ValueCell) → reverse (map value_in_cell (c ∷ cs)) ≡ reverse (map value_in_cell cs) ++ c.value ∷ []
 turned c cs = reverse_onto (map value_in_cell cs) c.value []

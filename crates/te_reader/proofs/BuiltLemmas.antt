@@ -1,5 +1,6 @@
 -- A code that grew by the nodes of one event: by a node without parts, and by a node over two events.
-use Rattle.std.proofs.Common.{◌≡◌, ℕ, zero, suc, ◌+◌, ◌<◌, ◌≤◌, ◌⊎◌, inl, inr, Bool, true, false, cond, eqb, zero-add, List, [], ◌∷◌, ◌++◌, length, refl, sym, ◌∙◌, ap, append_assoc, length-append, arith}
+use Rattle.std.proofs.Common.{◌≡◌, ℕ, zero, suc, ◌+◌, ◌<◌, ◌≤◌, ◌⊎◌, inl, inr, Bool, true, false, cond, eqb, zero-add}
+use Rattle.std.proofs.Common.{List, [], ◌∷◌, ◌++◌, length, refl, sym, ◌∙◌, ap, append_assoc, length-append, arith}
 use Rattle.std.specs.Prelude.{Option, Some, None, Result, Ok, Err, ◌==◌, ◌&&◌, nat_le, slice_get}
 use Rattle.std.specs.List.{count_by}
 use Rattle.std.proofs.lemmas.List.Sums.{sum_by_push}
@@ -84,7 +85,9 @@ leaf_over under level (nodes.Choose a b) h = absurd cc
 leaf_over under level (nodes.Catch a b) h = absurd cc
 leaf_over under level (nodes.If c a b) h = absurd cc
 
-pub leaf_built : (r : Result ℕ Refusal) (level : ℕ) (before after : List Node) (node : Node) (s : Names) (old new : Stream) → children node ≡ [] → Puts r before after node → read_leaf s old.tokens ≡ Some (leaf node, new.tokens) → new.whole ≡ old.whole
+pub leaf_built : (r : Result ℕ Refusal) (level : ℕ) (before after : List Node) (node : Node) (s : Names)
+    (old new : Stream) → children node ≡ [] → Puts r before after node
+    → read_leaf s old.tokens ≡ Some (leaf node, new.tokens) → new.whole ≡ old.whole
     → AnswersEvent r level before after old new (read_one s (tally before) old.tokens)
 unfolding read_one
 leaf_built (Ok root) level before after node s old new none put read whole =
@@ -94,7 +97,9 @@ leaf_built (Ok root) level before after node s old new none put read whole =
     let term : term_at after level root ≡ leaf node = rw (put.0, put.1) (term_at_new before node forest.earlier (free_earlier before node free) level ∙ leaf_over (term_at before) level node none) in
     let long : length after ≡ length before + 1 = rw put.1 (length-append before (node ∷ [])) in
     let channels : fresh_nodes after ≡ fresh_nodes before + one_if_fresh node = rw put.1 (sum_by_push one_if_fresh before node) in (
-      (rw read (made_within (tally before) (leaf node) new.tokens (omega (arith, put.2, size.0), omega (arith, channels, size.2, put.5.few_fresh)) (omega (arith, size.1)))) ∙ ap (λ t. Some (t, new.tokens)) (sym term),
+      (rw read (made_within (tally before) (leaf node) new.tokens
+          (omega (arith, put.2, size.0), omega (arith, channels, size.2, put.5.few_fresh)) (omega (arith, size.1))))
+          ∙ ap (λ t. Some (t, new.tokens)) (sym term),
       whole,
       record {
         forest = put.5;
@@ -196,7 +201,8 @@ times_other c a b cs e h k = rw (e, zero-add) (by (grind (arith, nat_tests)) (gr
   by : (a == c) ≡ false → (b == c) ≡ false → cond (eqb a c) 1 0 + cond (eqb b c) 1 0 ≡ 0
   by f g = rw (f, g) refl
 
-module _ (node : Node) (a b level up : ℕ) (before mid last : List Node) (two : children node ≡ a ∷ b ∷ []) (raised : up ≡ second_level node level) (first : IsBuilt level before mid a) (second : IsBuilt up mid last b) where
+module _ (node : Node) (a b level up : ℕ) (before mid last : List Node) (two : children node ≡ a ∷ b ∷ [])
+    (raised : up ≡ second_level node level) (first : IsBuilt level before mid a) (second : IsBuilt up mid last b) where
   apart : a < b
   apart = omega (arith, first.last, second.last, second.nodes, some_nodes (term_at last up b))
 
@@ -223,7 +229,9 @@ module _ (node : Node) (a b level up : ℕ) (before mid last : List Node) (two :
   height_is : height (term_over last node) ≡ height (formed node level (term_at mid level a) (term_at last up b))
   height_is = over_height (term_at last) (height_at last) 0 level (Some node) ∙ ap height is_formed
 
-  pub joined : (r : Result ℕ Refusal) (after : List Node) (old new : Stream) (o : Read Term) → Puts r last after node → o ≡ made (tally before) (formed node level (term_at mid level a) (term_at last up b)) new.tokens → new.whole ≡ old.whole
+  pub joined : (r : Result ℕ Refusal) (after : List Node) (old new : Stream) (o : Read Term) → Puts r last after node
+      → o ≡ made (tally before) (formed node level (term_at mid level a) (term_at last up b)) new.tokens
+      → new.whole ≡ old.whole
       → AnswersEvent r level before after old new o
   joined (Ok root) after old new o put read whole =
       let forest = put.4 in
@@ -232,12 +240,18 @@ module _ (node : Node) (a b level up : ℕ) (before mid last : List Node) (two :
       let long : length after ≡ length last + 1 = rw put.1 (length-append last (node ∷ [])) in
       let pushed : fresh_nodes (last ++ node ∷ []) ≡ fresh_nodes last + one_if_fresh node = sum_by_push one_if_fresh last node in
       let same : fresh_nodes after ≡ fresh_nodes last = rw put.1 (omega (arith, pushed, not_fresh node a b two)) in (
-        read ∙ made_within (tally before) _ new.tokens (omega (arith, size, put.2), omega (arith, channels, same, put.5.few_fresh)) (omega (arith, height_is, put.3)) ∙ ap (λ t. Some (t, new.tokens)) (sym term),
+        read ∙ made_within (tally before) _ new.tokens (
+          omega (arith, size, put.2),
+          omega (arith, channels, same, put.5.few_fresh),
+        ) (omega (arith, height_is, put.3))
+            ∙ ap (λ t. Some (t, new.tokens)) (sym term),
         whole,
         record {
           forest = put.5;
           added = first.added ++ (second.added ++ node ∷ []);
-          appended = put.1 ∙ ap (λ xs. xs ++ node ∷ []) (second.appended ∙ ap (λ xs. xs ++ second.added) first.appended) ∙ append_assoc (before ++ first.added) second.added (node ∷ []) ∙ append_assoc before first.added (second.added ++ node ∷ []);
+          appended = put.1 ∙ ap (λ xs. xs ++ node ∷ []) (second.appended ∙ ap (λ xs. xs ++ second.added) first.appended)
+              ∙ append_assoc (before ++ first.added) second.added (node ∷ []) ∙ append_assoc before first.added
+              (second.added ++ node ∷ []);
           last = omega (arith, long, put.0);
           nodes = omega (arith, long, ap node_count term, size);
           fresh = omega (arith, same, ap fresh_count term, channels);
@@ -255,7 +269,9 @@ module _ (node : Node) (a b level up : ℕ) (before mid last : List Node) (two :
           some_or_none (suc n) = inl (omega arith)
 
         other_new : (c : ℕ) → c < length before → times_in c node ≡ 0
-        other_new c h = times_other c a b (children node) two (omega (arith, h, first.last, first.nodes, some_nodes (term_at mid level a))) (omega (arith, h, first.last, first.nodes, apart, some_nodes (term_at mid level a)))
+        other_new c h = times_other c a b (children node) two
+            (omega (arith, h, first.last, first.nodes, some_nodes (term_at mid level a)))
+            (omega (arith, h, first.last, first.nodes, apart, some_nodes (term_at mid level a)))
   joined (Err faults.Refused) after old new o put read whole =
       read ∙ made_beyond (tally before) _ new.tokens elim put [
         | inl many ↦ inl (omega (arith, many, size))

@@ -11,7 +11,9 @@ use Rattle.te_reader.specs.ExpressionReads.{read_calculation, read_calculations}
 use Rattle.te_reader.specs.Behind.{behind}
 use Rattle.te_reader.proofs.LoopSteps.{one_turn}
 
-opened : (most i : ℕ) (done : List Calculation) (s : Names) (ts : List Token) (all : Read (List Calculation)) → i < most → behind done (read_calculations (most - i) s ts) ≡ all → behind done (read_calculations (suc (most - (i + 1))) s ts) ≡ all
+opened : (most i : ℕ) (done : List Calculation) (s : Names) (ts : List Token) (all : Read (List Calculation)) → i < most
+    → behind done (read_calculations (most - i) s ts) ≡ all → behind done
+    (read_calculations (suc (most - (i + 1))) s ts) ≡ all
 opened most i done s ts all h e = rw (← one_turn most i h) e
 
 module _ (most i : ℕ) (done : List Calculation) (s : Names) (ts : List Token) (all : Read (List Calculation)) (lt : i < most) (kept : behind done (read_calculations (most - i) s ts) ≡ all) where
@@ -28,10 +30,14 @@ module _ (most i : ℕ) (done : List Calculation) (s : Names) (ts : List Token) 
     unfolding read_calculations
     no_comma e f = sym (opened most i done s ts all lt kept) ∙ (rw (read, e, f) refl)
 
-    pub more_calculations : (next : List Token) → sign_first signs.Close after ≡ None → sign_first signs.Comma after ≡ Some next → behind (done ++ c ∷ []) (read_calculations (most - (i + 1)) s next) ≡ all
+    pub more_calculations : (next : List Token) → sign_first signs.Close after ≡ None
+        → sign_first signs.Comma after ≡ Some next → behind (done ++ c ∷ [])
+        (read_calculations (most - (i + 1)) s next) ≡ all
     unfolding read_calculations
     more_calculations next e f =
-        let start : behind done (read_calculations (suc (most - (i + 1))) s ts) ≡ behind (done ++ c ∷ []) (read_calculations (most - (i + 1)) s next) = rw (read, e, f) (by (read_calculations (most - (i + 1)) s next)) in
+        let start : behind done (read_calculations (suc (most - (i + 1))) s ts) ≡ behind (done ++ c ∷ [])
+        (read_calculations (most - (i + 1)) s next) = rw (read, e, f)
+        (by (read_calculations (most - (i + 1)) s next)) in
         sym start ∙ opened most i done s ts all lt kept where
           by : (o : Read (List Calculation)) → behind done (o >>= λ cs. Some (c ∷ cs.0, cs.1)) ≡ behind (done ++ c ∷ []) o
           by None = refl

@@ -14,7 +14,9 @@ use Rattle.te_reader.specs.Canonical.{lines_text, thread_text, spaced, channels_
 use Rattle.te_reader.specs.Text.{Text}
 use Rattle.te_reader.specs.Limits.{most_bytes}
 use Rattle.te_reader.proofs.Regrouped.{five}
-use Rattle.te_reader.proofs.TokensWritten.{Writes, StandsApart, brace_opens, brace_closes, semicolon_is, then_writes, nothing_writes, word_writes, name_writes, sign_before, sign_writes, blank_writes, under_writes}
+use Rattle.te_reader.proofs.TokensWritten.{Writes, StandsApart, brace_opens, brace_closes, semicolon_is, then_writes}
+use Rattle.te_reader.proofs.TokensWritten.{nothing_writes, word_writes, name_writes, sign_before, sign_writes}
+use Rattle.te_reader.proofs.TokensWritten.{blank_writes, under_writes}
 use Rattle.te_reader.proofs.StatementsWritten.{lines_write}
 
 -- ---- threads
@@ -29,10 +31,13 @@ up_to_brace channels t = codes "thread " ++ (t.name ++ (codes " {\n" ++ (lines_o
 thread_writes : (channels : List (List ℕ)) (t : Thread) → AllByRecursion IsName channels → HasNames t → IsThread (length channels) t → Writes (up_to_brace channels t) (spells_thread true channels t)
 thread_writes channels t named_channels names kept =
     let statements = lines_write channels t.registers named_channels names.registers (length channels) 0 0 t.statements refl kept.in_order tt in
-    let ended = then_writes (lines_of channels t) (codes "}") (spells_statements true channels t.registers 0 0 t.statements) (is (sign signs.CloseBrace)) statements (sign_writes signs.CloseBrace 125 brace_closes) (λ b a. refl) in
+    let ended = then_writes (lines_of channels t) (codes "}")
+    (spells_statements true channels t.registers 0 0 t.statements) (is (sign signs.CloseBrace)) statements
+    (sign_writes signs.CloseBrace 125 brace_closes) (λ b a. refl) in
     let body = blank_writes 32 _ _ refl (sign_before signs.OpenBrace 123 (10 ∷ (lines_of channels t ++ codes "}")) _ brace_opens (blank_writes 10 _ _ refl ended)) in
     let named = then_writes t.name (codes " {\n" ++ (lines_of channels t ++ codes "}")) (is (tokens.name t.name)) _ (name_writes t.name names.name.identifier) body (λ b a. refl) in
-    let whole = then_writes (codes "thread") (32 ∷ (t.name ++ (codes " {\n" ++ (lines_of channels t ++ codes "}")))) (is (word words.Thread)) _ (word_writes words.Thread) (blank_writes 32 _ _ refl named) (λ b a. refl) in
+    let whole = then_writes (codes "thread") (32 ∷ (t.name ++ (codes " {\n" ++ (lines_of channels t ++ codes "}"))))
+    (is (word words.Thread)) _ (word_writes words.Thread) (blank_writes 32 _ _ refl named) (λ b a. refl) in
     under_writes (up_to_brace channels t) (IsShortName t.name) _ names.name.short whole
 
 -- what comes last in it
@@ -53,7 +58,9 @@ threads_write channels (t ∷ threads) named_channels names kept =
     let later = threads_write channels threads named_channels names.1 kept.1 in
     let more : List ℕ = flat_map (thread_text channels) threads in
     subst (λ (xs : List ℕ). Writes xs (spells_threads true channels (t ∷ threads))) (thread_line channels t more)
-    (then_writes (up_to_brace channels t) (10 ∷ more) (spells_thread true channels t) (spells_threads true channels threads) (thread_writes channels t named_channels names.0 kept.0) (blank_writes 10 more _ refl later) (λ b a. refl))
+    (then_writes (up_to_brace channels t) (10 ∷ more) (spells_thread true channels t)
+    (spells_threads true channels threads) (thread_writes channels t named_channels names.0 kept.0)
+    (blank_writes 10 more _ refl later) (λ b a. refl))
 
 -- ---- channels
 
@@ -68,7 +75,8 @@ names_write (n ∷ names) named =
     under_writes (flat_map spaced (n ∷ names)) (IsShortName n) _ named.0.short (blank_writes 32 (n ++ flat_map spaced names) _ refl first)
 
 -- the channels, up to their `;`, and what is behind them
-channels_write : (n : List ℕ) (names : List (List ℕ)) (more : List ℕ) (span : Span) → AllByRecursion IsName (n ∷ names) → Writes more span → Writes (channels_text (n ∷ names) ++ more) (spells_channels true (n ∷ names) ⨟ span)
+channels_write : (n : List ℕ) (names : List (List ℕ)) (more : List ℕ) (span : Span) → AllByRecursion IsName (n ∷ names)
+    → Writes more span → Writes (channels_text (n ∷ names) ++ more) (spells_channels true (n ∷ names) ⨟ span)
 channels_write n names more span named f =
     let listed = names_write (n ∷ names) named in
     let all : List ℕ = flat_map spaced (n ∷ names) in
@@ -76,7 +84,9 @@ channels_write n names more span named f =
     let line = then_writes (codes "channels") (all ++ codes ";") (is (word words.Channels)) _ (word_writes words.Channels) ended (λ b a. refl) in
     let text : (codes "channels" ++ (all ++ codes ";")) ++ (10 ∷ more) ≡ channels_text (n ∷ names) ++ more =
     ap (λ xs. codes "channels" ++ xs) (append_assoc all (codes ";") (10 ∷ more) ∙ sym (append_assoc all (codes ";\n") more)) in
-    subst (λ (xs : List ℕ). Writes xs (spells_channels true (n ∷ names) ⨟ span)) text (then_writes (codes "channels" ++ (all ++ codes ";")) (10 ∷ more) _ span line (blank_writes 10 more span refl f) (λ b a. refl))
+    subst (λ (xs : List ℕ). Writes xs (spells_channels true (n ∷ names) ⨟ span)) text
+    (then_writes (codes "channels" ++ (all ++ codes ";")) (10 ∷ more) _ span line (blank_writes 10 more span refl f)
+    (λ b a. refl))
 
 -- ---- programs
 

@@ -1,5 +1,6 @@
 -- The index of channels, empty and with one name more.
-use Rattle.std.proofs.Common.{◌≡◌, ◌≢◌, ℕ, zero, suc, ◌<◌, ◌⊎◌, inl, inr, Bool, true, false, cond, List, [], ◌∷◌, ◌++◌, length, get_or, set, refl, sym, ◌∙◌, ap, subst, arith, length-append, length-set}
+use Rattle.std.proofs.Common.{◌≡◌, ◌≢◌, ℕ, zero, suc, ◌<◌, ◌⊎◌, inl, inr, Bool, true, false, cond, List, [], ◌∷◌, ◌++◌}
+use Rattle.std.proofs.Common.{length, get_or, set, refl, sym, ◌∙◌, ap, subst, arith, length-append, length-set}
 use Rattle.std.proofs.lemmas.Bool.Decides.{nat_tests}
 use Rattle.std.proofs.lemmas.Grind.{get_or-set_at}
 use Rattle.std.proofs.lemmas.List.{get_or-set_other}
@@ -36,13 +37,15 @@ place_push [] n q new = place_cons n [] q ∙ by (bytes_eq n q) (first_place_of 
   by true o e = refl
   by false o e = rw e refl
 place_push (x ∷ xs) n q new =
-    place_cons x (xs ++ n ∷ []) q ∙ by (bytes_eq x q) (bytes_eq n q) (bytes_eq-Decides x q).0 (bytes_eq-Decides n q).0 (place_push xs n q new.1) ∙ sym (ap (λ o. if bytes_eq n q then Some (suc (length xs)) else o) (place_cons x xs q)) where
-      by : (a b : Bool) → (a ≡ true → x ≡ q) → (b ≡ true → n ≡ q) → first_place_of (xs ++ n ∷ []) q ≡ (if b then Some (length xs) else first_place_of xs q)
-          → (if a then Some 0 else option_map suc (first_place_of (xs ++ n ∷ []) q)) ≡ (if b then Some (suc (length xs)) else (if a then Some 0 else option_map suc (first_place_of xs q)))
-      by true true first other later = absurd (new.0 (first refl ∙ sym (other refl)))
-      by true false first other later = refl
-      by false true first other later = rw later refl
-      by false false first other later = rw later refl
+    place_cons x (xs ++ n ∷ []) q ∙ by (bytes_eq x q) (bytes_eq n q) (bytes_eq-Decides x q).0 (bytes_eq-Decides n q).0
+    (place_push xs n q new.1) ∙ sym (ap (λ o. if bytes_eq n q then Some (suc (length xs)) else o) (place_cons x xs q))
+  where
+    by : (a b : Bool) → (a ≡ true → x ≡ q) → (b ≡ true → n ≡ q) → first_place_of (xs ++ n ∷ []) q ≡ (if b then Some (length xs) else first_place_of xs q)
+        → (if a then Some 0 else option_map suc (first_place_of (xs ++ n ∷ []) q)) ≡ (if b then Some (suc (length xs)) else (if a then Some 0 else option_map suc (first_place_of xs q)))
+    by true true first other later = absurd (new.0 (first refl ∙ sym (other refl)))
+    by true false first other later = refl
+    by false true first other later = rw later refl
+    by false false first other later = rw later refl
 
 -- ---- marks
 
@@ -59,7 +62,8 @@ mark_stays slots i j v within some h = by (nat_eq j i) refl where
   by true e = let same : j ≡ i = grind (arith, nat_tests) in omega (arith, get_or-set_at slots i j v 0 same within)
   by false e = let other : j ≢ i = grind (arith, nat_tests) in omega (arith, get_or-set_other slots i j v 0 other)
 
-pub index_push : (names more : List (List ℕ)) (n : List ℕ) (number value : ℕ) (old new : BTreeMap (Bor (List ℕ)) ℕ) (slots : List ℕ) → IsIndex names old slots → declared_in 256 names n ≡ Some more → number ≡ length names
+pub index_push : (names more : List (List ℕ)) (n : List ℕ) (number value : ℕ) (old new : BTreeMap (Bor (List ℕ)) ℕ)
+    (slots : List ℕ) → IsIndex names old slots → declared_in 256 names n ≡ Some more → number ≡ length names
     → UpdatesBy (λ x y. slice_cmp nat_cmp x.now y.now) (λ k. slice_cmp nat_cmp n k.now) old new (Some number)
     → (slot : ℕ) → slot ≡ slot_behind 0 n → slot < 256 → 0 < value → IsIndex more new (set slots slot value)
 index_push names more n number value old new slots index e is updates slot at_slot below some =
@@ -82,11 +86,13 @@ index_push names more n number value old new slots index e is updates slot at_sl
 
 -- ---- lookups
 
-pub no_mark : (names : List (List ℕ)) (numbers : BTreeMap (Bor (List ℕ)) ℕ) (slots : List ℕ) (n : List ℕ) → IsIndex names numbers slots → slice_index slots (slot_behind 0 n) ≡ 0 → first_place_of names n ≡ None
+pub no_mark : (names : List (List ℕ)) (numbers : BTreeMap (Bor (List ℕ)) ℕ) (slots : List ℕ) (n : List ℕ)
+    → IsIndex names numbers slots → slice_index slots (slot_behind 0 n) ≡ 0 → first_place_of names n ≡ None
 no_mark names numbers slots n index none = by (first_place_of names n) refl where
   by : (o : Option ℕ) → first_place_of names n ≡ o → o ≡ None
   by None e = refl
   by (Some i) e = absurd (omega (arith, none, index.marked i n (place_is names n i e).0))
 
-pub is_marked : (names : List (List ℕ)) (numbers : BTreeMap (Bor (List ℕ)) ℕ) (slots : List ℕ) (i : ℕ) (n m : List ℕ) → IsIndex names numbers slots → Some m ≡ slice_get names i → m ≡ n → first_place_of names n ≡ Some i
+pub is_marked : (names : List (List ℕ)) (numbers : BTreeMap (Bor (List ℕ)) ℕ) (slots : List ℕ) (i : ℕ) (n m : List ℕ)
+    → IsIndex names numbers slots → Some m ≡ slice_get names i → m ≡ n → first_place_of names n ≡ Some i
 is_marked names numbers slots i n m index at same = place_found names i n index.distinct (sym at ∙ ap Some same)

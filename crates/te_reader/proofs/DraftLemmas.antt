@@ -60,7 +60,9 @@ module _ (most room : ℕ) (channels registers : List (List ℕ)) (ts : List Tok
         → map statement_of new ≡ map statement_of old ++ map (draft_of code) ds → AreSyncsRead most channels registers ts old new last rest
     by [] none within written listed = absurd (omega arith)
     by (d ∷ ds) one within written listed =
-        let long : length (map statement_of new) ≡ length (map statement_of old) + suc (length (map (draft_of code) ds)) = ap length listed ∙ length-append (map statement_of old) (draft_of code d ∷ map (draft_of code) ds) in
+        let long : length (map statement_of new) ≡ length (map statement_of old) + suc
+        (length (map (draft_of code) ds)) = ap length listed ∙ length-append (map statement_of old)
+        (draft_of code d ∷ map (draft_of code) ds) in
         record {
           first = draft_of code d;
           others = map (draft_of code) ds;
@@ -69,9 +71,12 @@ module _ (most room : ℕ) (channels registers : List (List ℕ)) (ts : List Tok
           written = written;
         }
 
-pub appended : {U : Type 0} (r : Result U Refusal) (most room : ℕ) (channels registers : List (List ℕ)) (ts : List Token) (old new : List Stmt) (last : List (List ℕ)) (rest : List Token) (code : List Node) (drafts : List Draft)
+pub appended : {U : Type 0} (r : Result U Refusal) (most room : ℕ) (channels registers : List (List ℕ))
+    (ts : List Token) (old new : List Stmt) (last : List (List ℕ)) (rest : List Token) (code : List Node)
+    (drafts : List Draft)
     (o : Read (Statement × List (List ℕ))) → room ≡ most - length old → length old < most → AreDrafts room channels registers ts code drafts last rest
     → OnOk r (map statement_of new ≡ map statement_of old ++ map (draft_of code) drafts) → (IsErrOf r faults.Refused → ⊥) → OnRead r (λ u. AreSyncsRead most channels registers ts old new last rest) o
-appended (Ok u) most room channels registers ts old new last rest code drafts o size some read listed never = all_read most room channels registers ts old new last rest code drafts size some read listed
+appended (Ok u) most room channels registers ts old new last rest code drafts o size some read listed never =
+    all_read most room channels registers ts old new last rest code drafts size some read listed
 appended (Err faults.Refused) most room channels registers ts old new last rest code drafts o size some read listed never = absurd (never refl)
 appended (Err faults.Memory) most room channels registers ts old new last rest code drafts o size some read listed never = tt

@@ -16,7 +16,11 @@ use Rattle.te_reader.specs.Grammar.{Names, is, ◌⨟◌, bound_name, with_inner
 use Rattle.te_reader.specs.NameReads.{Read, checked, bound_in}
 use Rattle.te_reader.specs.ExpressionReads.{read_primitive, read_expression}
 use Rattle.te_reader.specs.Tallies.{Tally, HasRoom, tally_with_event}
-use Rattle.te_reader.specs.EventReads.{or_recv, or_fresh, or_throw, or_never, or_send, or_always, read_leaf, is_within, made, Parts, read_braced, read_part, read_do, read_second, read_choose, read_try, or_less, or_equal, test_first, read_condition, read_if, read_one, if_or_one, try_or_other, choose_or_other, do_or_other, read_alone, part_or_last, read_in_do, bar_or_end, read_in_choose, read_standing, read_event}
+use Rattle.te_reader.specs.EventReads.{or_recv, or_fresh, or_throw, or_never, or_send, or_always, read_leaf, is_within}
+use Rattle.te_reader.specs.EventReads.{made, Parts, read_braced, read_part, read_do, read_second, read_choose, read_try}
+use Rattle.te_reader.specs.EventReads.{or_less, or_equal, test_first, read_condition, read_if, read_one, if_or_one}
+use Rattle.te_reader.specs.EventReads.{try_or_other, choose_or_other, do_or_other, read_alone, part_or_last, read_in_do}
+use Rattle.te_reader.specs.EventReads.{bar_or_end, read_in_choose, read_standing, read_event}
 use Rattle.te_reader.proofs.NameLemmas.{bind_some, checked_some, bound_is}
 use Rattle.te_reader.proofs.HeadLemmas.{carried, word_is, sign_is, bound_name_is}
 use Rattle.te_reader.proofs.ReadIsSpelled.{scope_of, primitive_read, expression_read}
@@ -121,7 +125,12 @@ module _ (m : ℕ) where
         let b = bind_some (read_expression s a.0.1) _ _ a.2 in
         let p = primitive_read m s many a.0.0 behind a.0.1 a.1 in
         let x = expression_read m s many b.0.0 a.0.1 b.0.1 b.1 in
-        carried (λ y last. ReadLeaf s y ts last) (send a.0.0 b.0.0) t b.0.1 rest b.2 (record { spelled = (behind, word_is words.Send ts behind f, (a.0.1, p.spelled, x.spelled)); scoped = (p.scoped, x.scoped) })
+        carried (λ y last. ReadLeaf s y ts last) (send a.0.0 b.0.0) t b.0.1 rest b.2
+        (record {
+          spelled = (behind, word_is words.Send ts behind f, (a.0.1, p.spelled, x.spelled));
+          scoped =
+              (p.scoped, x.scoped);
+        })
 
     by_always : (o : Option (List Token)) → word_first words.Always ts ≡ o → or_always s ts o ≡ Some (t, rest) → ReadLeaf s t ts rest
     by_always None f e = by_send (word_first words.Send ts) refl e
@@ -164,7 +173,9 @@ module _ (m : ℕ) where
     still_many : (s more : Names) (n : List ℕ) → more ≡ with_inner s n → length s.channels ≤ m → length more.channels ≤ m
     still_many s more n e many = subst (λ (x : Names). length x.channels ≤ m) (sym e) many
 
-    part_of : (s : Names) (used later_used : Tally) (n : List ℕ) (e f : Term) (ts a b c rest : List Token) → ts ≡ sign signs.Arrow ∷ a → ReadEvent alone s used e a b → b ≡ sign signs.Semicolon ∷ c → IsFreeName s n → ReadEvent in_do (with_inner s n) later_used f c rest
+    part_of : (s : Names) (used later_used : Tally) (n : List ℕ) (e f : Term) (ts a b c rest : List Token)
+        → ts ≡ sign signs.Arrow ∷ a → ReadEvent alone s used e a b → b ≡ sign signs.Semicolon ∷ c → IsFreeName s n
+        → ReadEvent in_do (with_inner s n) later_used f c rest
         → HasRoom used (and_then e (length s.inners) f) → height (and_then e (length s.inners) f) ≤ 32 → ReadPart s used n (and_then e (length s.inners) f) ts rest
     part_of s used later_used n e f ts a b c rest arrow first semicolon free later few low = record {
       in_parts = λ all name. inr (n, (free, (ts, name, (a, arrow, (b, first.spelled, (c, semicolon, later.spelled))))));
@@ -183,15 +194,20 @@ module _ (m : ℕ) where
         let d = bind_some (bound_in s n) _ _ c.2 in
         let f = bind_some (next in_do d.0 (tally_with_event used b.0.0) c.0) _ _ d.2 in
         by b.0.0 f.0.0 a.0 b.0.1 c.0 f.0.1 d.0 (a.1) (b.1) (c.1) (bound_is s n d.0 d.1) (f.1) (made_some used (and_then b.0.0 (length s.inners) f.0.0) t f.0.1 rest f.2) where
-          by : (e f : Term) (a b c last : List Token) (more : Names) → sign_first signs.Arrow ts ≡ Some a → next alone s used a ≡ Some (e, b) → sign_first signs.Semicolon b ≡ Some c → IsFreeName s n × (more ≡ with_inner s n) → next in_do more (tally_with_event used e) c ≡ Some (f, last)
-              → (◌≡◌ {A = Read Term} (Some (and_then e (length s.inners) f, last)) (Some (t, rest))) × (HasRoom used (and_then e (length s.inners) f)) × (height (and_then e (length s.inners) f) ≤ 32) → ReadPart s used n t ts rest
+          by : (e f : Term) (a b c last : List Token) (more : Names) → sign_first signs.Arrow ts ≡ Some a
+              → next alone s used a ≡ Some (e, b) → sign_first signs.Semicolon b ≡ Some c
+              → IsFreeName s n × (more ≡ with_inner s n) → next in_do more (tally_with_event used e) c ≡ Some (f, last)
+              → (◌≡◌ {A = Read Term} (Some (and_then e (length s.inners) f, last)) (Some (t, rest)))
+              × (HasRoom used (and_then e (length s.inners) f)) × (height (and_then e (length s.inners) f) ≤ 32)
+              → ReadPart s used n t ts rest
           by e f a b c last more arrow first semicolon free second limits =
               let later = sound in_do more (tally_with_event used e) f c last (still_many s more n free.1 many) second in
               carried (λ x end. ReadPart s used n x ts end) (and_then e (length s.inners) f) t last rest limits.0
               (part_of s used (tally_with_event used e) n e f ts a b c last (sign_is signs.Arrow ts a arrow) (sound alone s used e a b many first) (sign_is signs.Semicolon b c semicolon) free.0
               (subst (λ (x : Names). ReadEvent in_do x (tally_with_event used e) f c last) free.1 later) limits.1 limits.2)
 
-    do_read : (s : Names) (used : Tally) (t : Term) (ts behind rest : List Token) → length s.channels ≤ m → ts ≡ word words.Do ∷ behind → read_do next s used behind ≡ Some (t, rest) → ReadEvent alone s used t ts rest
+    do_read : (s : Names) (used : Tally) (t : Term) (ts behind rest : List Token) → length s.channels ≤ m
+        → ts ≡ word words.Do ∷ behind → read_do next s used behind ≡ Some (t, rest) → ReadEvent alone s used t ts rest
     unfolding read_do
     do_read s used t ts behind rest many begins e =
         let a = bind_some (sign_first signs.OpenBrace behind) _ _ e in
@@ -202,7 +218,9 @@ module _ (m : ℕ) where
     -- what was read behind a bar, whose first event is e
     record ReadSecond (s : Names) (used : Tally) (e t : Term) (ts rest : List Token) : Type 0 where
       in_bars : (all bar : List Token) → spells_event true alone s e all bar → bar ≡ sign signs.Bar ∷ ts → spells_event true in_choose s t all rest
-      by_itself : (front inside all bar : List Token) → front ≡ word words.Choose ∷ inside → inside ≡ sign signs.OpenBrace ∷ all → spells_event true alone s e all bar → bar ≡ sign signs.Bar ∷ ts → spells_event true alone s t front rest
+      by_itself : (front inside all bar : List Token) → front ≡ word words.Choose ∷ inside
+          → inside ≡ sign signs.OpenBrace ∷ all → spells_event true alone s e all bar → bar ≡ sign signs.Bar ∷ ts
+          → spells_event true alone s t front rest
       scoped : IsEvent (scope_of m s) e → IsEvent (scope_of m s) t
       few : HasRoom used t
       low : height t ≤ 32
@@ -222,7 +240,9 @@ module _ (m : ℕ) where
           low = limits.2;
         })
 
-    choose_read : (s : Names) (used : Tally) (t : Term) (ts behind rest : List Token) → length s.channels ≤ m → ts ≡ word words.Choose ∷ behind → read_choose next s used behind ≡ Some (t, rest) → ReadEvent alone s used t ts rest
+    choose_read : (s : Names) (used : Tally) (t : Term) (ts behind rest : List Token) → length s.channels ≤ m
+        → ts ≡ word words.Choose ∷ behind → read_choose next s used behind ≡ Some (t, rest)
+        → ReadEvent alone s used t ts rest
     unfolding read_choose
     choose_read s used t ts behind rest many begins e =
         let a = bind_some (sign_first signs.OpenBrace behind) _ _ e in
@@ -237,7 +257,8 @@ module _ (m : ℕ) where
           low = second.low;
         }
 
-    try_read : (s : Names) (used : Tally) (t : Term) (ts behind rest : List Token) → length s.channels ≤ m → ts ≡ word words.Try ∷ behind → read_try next s used behind ≡ Some (t, rest) → ReadEvent alone s used t ts rest
+    try_read : (s : Names) (used : Tally) (t : Term) (ts behind rest : List Token) → length s.channels ≤ m
+        → ts ≡ word words.Try ∷ behind → read_try next s used behind ≡ Some (t, rest) → ReadEvent alone s used t ts rest
     unfolding read_try
     try_read s used t ts behind rest many begins h =
         let a = bind_some (read_braced next s used behind) _ _ h in
@@ -246,8 +267,13 @@ module _ (m : ℕ) where
         let d = bind_some (bound_in s c.0.0) _ _ c.2 in
         let f = bind_some (read_braced next d.0 (tally_with_event used a.0.0) c.0.1) _ _ d.2 in
         by a.0.0 f.0.0 c.0.0 a.0.1 b.0 c.0.1 f.0.1 d.0 a.1 b.1 c.1 (bound_is s c.0.0 d.0 d.1) f.1 (made_some used (catch a.0.0 (length s.inners) f.0.0) t f.0.1 rest f.2) where
-          by : (e f : Term) (n : List ℕ) (a b c last : List Token) (more : Names) → read_braced next s used behind ≡ Some (e, a) → word_first words.Catch a ≡ Some b → bound_first b ≡ Some (n, c) → IsFreeName s n × (more ≡ with_inner s n) → read_braced next more (tally_with_event used e) c ≡ Some (f, last)
-              → (◌≡◌ {A = Read Term} (Some (catch e (length s.inners) f, last)) (Some (t, rest))) × (HasRoom used (catch e (length s.inners) f)) × (height (catch e (length s.inners) f) ≤ 32) → ReadEvent alone s used t ts rest
+          by : (e f : Term) (n : List ℕ) (a b c last : List Token) (more : Names)
+              → read_braced next s used behind ≡ Some (e, a) → word_first words.Catch a ≡ Some b
+              → bound_first b ≡ Some (n, c) → IsFreeName s n × (more ≡ with_inner s n)
+              → read_braced next more (tally_with_event used e) c ≡ Some (f, last)
+              → (◌≡◌ {A = Read Term} (Some (catch e (length s.inners) f, last)) (Some (t, rest)))
+              × (HasRoom used (catch e (length s.inners) f)) × (height (catch e (length s.inners) f) ≤ 32)
+              → ReadEvent alone s used t ts rest
           by e f n a b c last more braced caught name free second limits =
               let first = braced_read s used e behind a many braced in
               let later : ReadBraced (with_inner s n) (tally_with_event used e) f c last =
@@ -277,15 +303,20 @@ module _ (m : ℕ) where
         carried (λ x end. ReadCondition s x ts end) (test.0.0, p.0.0, q.0.0) c q.0.1 rest q.2
         (record { spelled = (p.0.1, left.spelled, (test.0.1, test_read test.0.0 p.0.1 test.0.1 test.1, right.spelled)); left = left.scoped; right = right.scoped })
 
-    if_read : (s : Names) (used : Tally) (t : Term) (ts behind rest : List Token) → length s.channels ≤ m → ts ≡ word words.If ∷ behind → read_if next s used behind ≡ Some (t, rest) → ReadEvent alone s used t ts rest
+    if_read : (s : Names) (used : Tally) (t : Term) (ts behind rest : List Token) → length s.channels ≤ m
+        → ts ≡ word words.If ∷ behind → read_if next s used behind ≡ Some (t, rest) → ReadEvent alone s used t ts rest
     unfolding read_if
     if_read s used t ts behind rest many begins h =
         let a = bind_some (read_condition s behind) _ _ h in
         let b = bind_some (read_braced next s used a.0.1) _ _ a.2 in
         let c = bind_some (word_first words.Else b.0.1) _ _ b.2 in
         let d = bind_some (read_braced next s (tally_with_event used b.0.0) c.0) _ _ c.2 in
-        by a.0.0.0 a.0.0.1 a.0.0.2 b.0.0 d.0.0 a.0.1 b.0.1 c.0 d.0.1 (condition_read s a.0.0 behind a.0.1 many a.1) b.1 c.1 d.1 (made_some used (when a.0.0.0 a.0.0.1 a.0.0.2 b.0.0 d.0.0) t d.0.1 rest d.2) where
-          by : (test : Test) (p q : Primitive) (e f : Term) (a b c last : List Token) → ReadCondition s (test, p, q) behind a → read_braced next s used a ≡ Some (e, b) → word_first words.Else b ≡ Some c → read_braced next s (tally_with_event used e) c ≡ Some (f, last)
+        by a.0.0.0 a.0.0.1 a.0.0.2 b.0.0 d.0.0 a.0.1 b.0.1 c.0 d.0.1
+        (condition_read s a.0.0 behind a.0.1 many a.1) b.1 c.1 d.1
+        (made_some used (when a.0.0.0 a.0.0.1 a.0.0.2 b.0.0 d.0.0) t d.0.1 rest d.2) where
+          by : (test : Test) (p q : Primitive) (e f : Term) (a b c last : List Token)
+              → ReadCondition s (test, p, q) behind a → read_braced next s used a ≡ Some (e, b)
+              → word_first words.Else b ≡ Some c → read_braced next s (tally_with_event used e) c ≡ Some (f, last)
               → (◌≡◌ {A = Read Term} (Some (when test p q e f, last)) (Some (t, rest))) × (HasRoom used (when test p q e f)) × (height (when test p q e f) ≤ 32) → ReadEvent alone s used t ts rest
           by test p q e f a b c last asks braced other second limits =
               let first = braced_read s used e a b many braced in
@@ -346,7 +377,9 @@ module _ (m : ℕ) where
     in_choose_read s used t ts rest many e =
         let a = bind_some (read_alone next s used ts) _ _ e in
         by a.0.0 a.0.1 (alone_read s used a.0.0 ts a.0.1 many a.1) (sign_first signs.Bar a.0.1) refl a.2 where
-          by : (e : Term) (after : List Token) → ReadEvent alone s used e ts after → (o : Option (List Token)) → sign_first signs.Bar after ≡ o → bar_or_end next s used e after o ≡ Some (t, rest) → ReadEvent in_choose s used t ts rest
+          by : (e : Term) (after : List Token) → ReadEvent alone s used e ts after → (o : Option (List Token))
+              → sign_first signs.Bar after ≡ o → bar_or_end next s used e after o ≡ Some (t, rest)
+              → ReadEvent in_choose s used t ts rest
           by e after first (Some behind) f h =
               let second = second_read s used e t behind rest many h in
               record { spelled = second.in_bars ts after first.spelled (sign_is signs.Bar after behind f); scoped = second.scoped first.scoped; few = second.few; low = second.low }
@@ -355,7 +388,8 @@ module _ (m : ℕ) where
               carried (λ x end. ReadEvent in_choose s used x ts end) e t b.0 rest b.2
               (record { spelled = closed_in_choose s e ts after b.0 first.spelled (sign_is signs.CloseBrace after b.0 b.1); scoped = first.scoped; few = first.few; low = first.low })
 
-    standing_read : (at : EventPlace) (s : Names) (used : Tally) (t : Term) (ts rest : List Token) → length s.channels ≤ m → read_standing next at s used ts ≡ Some (t, rest) → ReadEvent at s used t ts rest
+    standing_read : (at : EventPlace) (s : Names) (used : Tally) (t : Term) (ts rest : List Token)
+        → length s.channels ≤ m → read_standing next at s used ts ≡ Some (t, rest) → ReadEvent at s used t ts rest
     standing_read alone s used t ts rest many e = alone_read s used t ts rest many e
     standing_read in_do s used t ts rest many e = in_do_read s used t ts rest many e
     standing_read in_choose s used t ts rest many e = in_choose_read s used t ts rest many e

@@ -27,8 +27,7 @@ use Rattle.te_reader.proofs.TallyLemmas.{tally_same}
 use Rattle.te_reader.proofs.Passing.{spots_of, dotted, Goes, goes, goes_alone, names_in, at, at_same, reaching_same, not_among}
 use Rattle.te_reader.proofs.SpelledPasses.{IsFew, expression_goes, expression_plain, primitive_goes, operand_is}
 use Rattle.te_reader.proofs.EventIsRead.{some_height}
-use Rattle.te_terms.proofs.Lists.{deeper}
-use Rattle.te_terms.proofs.Lists.{whole_taken}
+use Rattle.te_terms.proofs.Lists.{deeper, whole_taken}
 
 -- ---- what is reached
 
@@ -92,10 +91,13 @@ unfolding pick
 part_more x t d (inl e) = rw e refl
 part_more x t d (inr e) = rw e refl
 
-part_name : (p : Part) (w : List Part) → BeginsPart p w → (x : List ℕ) (c : Context) (b : Brace) (bs : List Brace) (n : Tally) (wanted : List Part) (ts rest : List Token) → IsFreeName (names_in c) x → bound_name x ts rest
+part_name : (p : Part) (w : List Part) → BeginsPart p w → (x : List ℕ) (c : Context) (b : Brace) (bs : List Brace)
+    (n : Tally) (wanted : List Part) (ts rest : List Token) → IsFreeName (names_in c) x → bound_name x ts rest
     → Goes (p ∷ wanted) (at c b bs n) ts (w ++ wanted) (at (record c { bound = x ∷ c.bound }) (behind_name b) bs (one_node n)) rest
-part_name p w is x c b bs n wanted ts rest free (inl e) = goes p (form roles.PartName w) wanted (at c b bs n) (tokens.name x) ts rest e (is x (tokens.name x) (dotted rest) (inl refl)) (free_kept (at c b bs n) x free)
-part_name p w is x c b bs n wanted ts rest free (inr e) = goes p (form roles.PartName w) wanted (at c b bs n) (tokens.inner x) ts rest e (is x (tokens.inner x) (dotted rest) (inr refl)) (free_kept (at c b bs n) x free)
+part_name p w is x c b bs n wanted ts rest free (inl e) = goes p (form roles.PartName w) wanted (at c b bs n)
+    (tokens.name x) ts rest e (is x (tokens.name x) (dotted rest) (inl refl)) (free_kept (at c b bs n) x free)
+part_name p w is x c b bs n wanted ts rest free (inr e) = goes p (form roles.PartName w) wanted (at c b bs n)
+    (tokens.inner x) ts rest e (is x (tokens.inner x) (dotted rest) (inr refl)) (free_kept (at c b bs n) x free)
 
 -- ---- the promises
 
@@ -118,12 +120,16 @@ HasDepth k n t = (k + height t ≤ 33) × (n.fresh + fresh_count t ≤ 16)
 
 abbrev pub Alone : Term → Type 0
 Alone t =
-    (c : Context) (b : Brace) (bs : List Brace) (n : Tally) (wanted : List Part) (ts rest : List Token) → spells_event true alone (names_in c) t ts rest → AreFew t → HasDepth (length (b ∷ bs)) n t → c.calculations ≡ 0 → dotted rest ≡ false
+    (c : Context) (b : Brace) (bs : List Brace) (n : Tally) (wanted : List Part) (ts rest : List Token)
+    → spells_event true alone (names_in c) t ts rest → AreFew t → HasDepth (length (b ∷ bs)) n t → c.calculations ≡ 0
+    → dotted rest ≡ false
     → Goes (parts.Event ∷ wanted) (at c b bs n) ts wanted (at c (reached b t) bs (tally_with_event n t)) rest
 
 abbrev InDo : Term → Type 0
 InDo t =
-    (c : Context) (b b0 : Brace) (bs : List Brace) (n : Tally) (wanted : List Part) (ts rest : List Token) → spells_event true in_do (names_in c) t ts rest → AreFew t → HasDepth (length (b ∷ b0 ∷ bs)) n t → c.calculations ≡ 0 → b.outer ≤ length c.inners
+    (c : Context) (b b0 : Brace) (bs : List Brace) (n : Tally) (wanted : List Part) (ts rest : List Token)
+    → spells_event true in_do (names_in c) t ts rest → AreFew t → HasDepth (length (b ∷ b0 ∷ bs)) n t
+    → c.calculations ≡ 0 → b.outer ≤ length c.inners
     → Goes (parts.Parts ∷ wanted) (at c b (b0 ∷ bs) n) ts wanted (at (cut b c) (reaching (depth_within (reached b t)) b0) bs (tally_with_event n t)) rest
 
 -- no event stands behind the last bar yet
@@ -132,7 +138,9 @@ fresh_bar b = record b { deepest = 0 }
 
 abbrev InChoose : Term → Type 0
 InChoose t =
-    (c : Context) (b b0 : Brace) (bs : List Brace) (n : Tally) (wanted : List Part) (ts rest : List Token) → spells_event true in_choose (names_in c) t ts rest → AreFew t → HasDepth (length (b ∷ b0 ∷ bs)) n t → c.calculations ≡ 0 → b.outer ≤ length c.inners
+    (c : Context) (b b0 : Brace) (bs : List Brace) (n : Tally) (wanted : List Part) (ts rest : List Token)
+    → spells_event true in_choose (names_in c) t ts rest → AreFew t → HasDepth (length (b ∷ b0 ∷ bs)) n t
+    → c.calculations ≡ 0 → b.outer ≤ length c.inners
     → Goes (parts.Event ∷ parts.Bars ∷ wanted) (at c (fresh_bar b) (b0 ∷ bs) n) ts wanted (at (cut b c) (reaching (depth_within (reached (fresh_bar b) t)) b0) bs (tally_with_event n t)) rest
 
 record Passes (t : Term) : Type 0 where
@@ -143,7 +151,8 @@ record Passes (t : Term) : Type 0 where
 -- ---- an event before its closing brace
 
 -- behind a part, an event's word is that of the last event and the brace
-pub parts_as_event : (c : Context) (wanted : List Part) (w : Word) (ts m : List Token) → ts ≡ word w ∷ m → run (parts.Parts ∷ wanted) c (spots_of ts) ≡ run (parts.Event ∷ parts.Only roles.Close ∷ wanted) c (spots_of ts)
+pub parts_as_event : (c : Context) (wanted : List Part) (w : Word) (ts m : List Token) → ts ≡ word w ∷ m
+    → run (parts.Parts ∷ wanted) c (spots_of ts) ≡ run (parts.Event ∷ parts.Only roles.Close ∷ wanted) c (spots_of ts)
 unfolding run pick pick_plain
 parts_as_event c wanted w ts m e = rw e (by (event_form (token (word w)))) where
   by : (o : Option Form)
@@ -168,7 +177,9 @@ begins_with_word (when o p q e f) s ts rest h = (words.If, h.0, h.1)
 abbrev pub ClosedEvent : Names → Term → List Token → List Token → Type 0
 ClosedEvent s t ts rest = (m : List Token) × spells_event true alone s t ts m × (m ≡ sign signs.CloseBrace ∷ rest)
 
-closed_in_do : (t : Term) → Alone t → (c : Context) (b b0 : Brace) (bs : List Brace) (n : Tally) (wanted : List Part) (ts rest : List Token) → ClosedEvent (names_in c) t ts rest → AreFew t → HasDepth (length (b ∷ b0 ∷ bs)) n t → c.calculations ≡ 0
+closed_in_do : (t : Term) → Alone t → (c : Context) (b b0 : Brace) (bs : List Brace) (n : Tally) (wanted : List Part)
+    (ts rest : List Token) → ClosedEvent (names_in c) t ts rest → AreFew t → HasDepth (length (b ∷ b0 ∷ bs)) n t
+    → c.calculations ≡ 0
     → Goes (parts.Parts ∷ wanted) (at c b (b0 ∷ bs) n) ts wanted (at (cut b c) (reaching (depth_within (reached b t)) b0) bs (tally_with_event n t)) rest
 closed_in_do t a c b b0 bs n wanted ts rest h few low none =
     let w = begins_with_word t (names_in c) ts h.0 h.1 in
@@ -176,7 +187,9 @@ closed_in_do t a c b b0 bs n wanted ts rest h few low none =
     ∙ a c b (b0 ∷ bs) n (parts.Only roles.Close ∷ wanted) ts h.0 h.1 few low none (rw h.2 refl)
     ∙ close_alone c (reached b t) b0 bs (tally_with_event n t) wanted h.0 rest h.2
 
-closed_in_choose : (t : Term) → Alone t → (c : Context) (b b0 : Brace) (bs : List Brace) (n : Tally) (wanted : List Part) (ts rest : List Token) → ClosedEvent (names_in c) t ts rest → AreFew t → HasDepth (length (b ∷ b0 ∷ bs)) n t → c.calculations ≡ 0
+closed_in_choose : (t : Term) → Alone t → (c : Context) (b b0 : Brace) (bs : List Brace) (n : Tally)
+    (wanted : List Part) (ts rest : List Token) → ClosedEvent (names_in c) t ts rest → AreFew t
+    → HasDepth (length (b ∷ b0 ∷ bs)) n t → c.calculations ≡ 0
     → Goes (parts.Event ∷ parts.Bars ∷ wanted) (at c (fresh_bar b) (b0 ∷ bs) n) ts wanted (at (cut b c) (reaching (depth_within (reached (fresh_bar b) t)) b0) bs (tally_with_event n t)) rest
 closed_in_choose t a c b b0 bs n wanted ts rest h few low none =
     a c (fresh_bar b) (b0 ∷ bs) n (parts.Bars ∷ wanted) ts h.0 h.1 few low none (rw h.2 refl)
@@ -185,11 +198,16 @@ closed_in_choose t a c b b0 bs n wanted ts rest h few low none =
 -- ---- events of one node
 
 -- a node behind others, of which so many make a channel
-leaf_same : (c : Context) (b : Brace) (bs : List Brace) (n context_after : Tally) (h k m : ℕ) → h ≡ 1 → context_after.nodes ≡ n.nodes + k → context_after.fresh ≡ n.fresh + m → at c (reaching b.level b) bs context_after ≡ at c (reaching (b.level + h - 1) b) bs (record { nodes = n.nodes + k; fresh = n.fresh + m })
+leaf_same : (c : Context) (b : Brace) (bs : List Brace) (n context_after : Tally) (h k m : ℕ) → h ≡ 1
+    → context_after.nodes ≡ n.nodes + k → context_after.fresh ≡ n.fresh + m
+    → at c (reaching b.level b) bs context_after ≡ at c (reaching (b.level + h - 1) b) bs
+    (record { nodes = n.nodes + k; fresh = n.fresh + m })
 leaf_same c b bs n context_after h k m e f g = at_same c _ _ bs _ _ (ap (λ d. reaching d b) (omega (arith, e))) (tally_same _ _ f g)
 
 -- the word of an event
-word_goes : (w : Word) (f : Form) → event_form (token (word w)) ≡ Some f → (c : Context) (wanted : List Part) (ts rest : List Token) → ts ≡ word w ∷ rest → first_broken (rules f.role c (token (word w))) ≡ None
+word_goes : (w : Word) (f : Form) → event_form (token (word w)) ≡ Some f
+    → (c : Context) (wanted : List Part) (ts rest : List Token) → ts ≡ word w ∷ rest
+    → first_broken (rules f.role c (token (word w))) ≡ None
     → Goes (parts.Event ∷ wanted) c ts (f.wanted ++ wanted) (context_after f.role c (token (word w))) rest
 unfolding pick pick_plain
 word_goes w f e c wanted ts rest is kept = goes parts.Event f wanted c (word w) ts rest is e kept
@@ -251,7 +269,9 @@ abbrev pub with_inners : Context → List (List ℕ) → Context
 with_inners c xs = record c { inners = xs }
 
 -- an event in braces
-braced_goes : (e : Term) → Alone e → (c : Context) (b : Brace) (bs : List Brace) (n : Tally) (wanted : List Part) (ts rest : List Token) → in_braces (spells_event true alone (names_in c) e) ts rest → AreFew e → HasDepth (suc (length (b ∷ bs))) n e → c.calculations ≡ 0
+braced_goes : (e : Term) → Alone e → (c : Context) (b : Brace) (bs : List Brace) (n : Tally) (wanted : List Part)
+    (ts rest : List Token) → in_braces (spells_event true alone (names_in c) e) ts rest → AreFew e
+    → HasDepth (suc (length (b ∷ bs))) n e → c.calculations ≡ 0
     → Goes (parts.Only roles.OpenBranch ∷ parts.Event ∷ parts.Only roles.Close ∷ wanted) (at c b bs n) ts wanted (at c (reaching (suc b.level + height e - 1) b) bs (tally_with_event n e)) rest
 braced_goes e a c b bs n wanted ts rest h few low none =
     let i = opened_at (suc b.level) c in
@@ -266,7 +286,9 @@ braced_goes e a c b bs n wanted ts rest h few low none =
 abbrev pub PartAndMore : Names → Term → Term → List Token → List Token → Type 0
 PartAndMore s e f ts rest = binds true s (λ x. do_parts (spells_event true alone s e) (spells_event true in_do (with_inner s x) f)) ts rest
 
-part_goes : (p : Part) (w tail : List Part) → BeginsPart p w → (e : Term) (m : ℕ) (f : Term) → Alone e → InDo f → (c : Context) (b b0 : Brace) (bs : List Brace) (n : Tally) (wanted : List Part) (ts rest : List Token) → w ++ tail ≡ bound_event (parts.Parts ∷ wanted)
+part_goes : (p : Part) (w tail : List Part) → BeginsPart p w → (e : Term) (m : ℕ) (f : Term) → Alone e → InDo f
+    → (c : Context) (b b0 : Brace) (bs : List Brace) (n : Tally) (wanted : List Part) (ts rest : List Token)
+    → w ++ tail ≡ bound_event (parts.Parts ∷ wanted)
     → PartAndMore (names_in c) e f ts rest → AreFew (and_then e m f) → HasDepth (length (b0 ∷ bs)) n (and_then e m f) → c.calculations ≡ 0 → b.outer ≤ length c.inners
     → Goes (p ∷ tail) (at c b (b0 ∷ bs) n) ts wanted (at (cut b c) (reaching (depth_within (reached b (and_then e m f))) b0) bs (tally_with_event n (and_then e m f))) rest
 part_goes p w tail is e m f a d c b b0 bs n wanted ts rest same h few low none room =
@@ -286,9 +308,13 @@ part_goes p w tail is e m f a d c b b0 bs n wanted ts rest same h few low none r
     ∙ a inside b1 (b0 ∷ bs) (one_node n) (parts.Only roles.PartEnd ∷ fresh) arrow.0 event.0 event.1 few.0 (omega (arith, low.0), omega (arith, low.1)) none (rw ends.1 refl)
     ∙ goes_alone roles.PartEnd fresh (at inside b2 (b0 ∷ bs) (tally_with_event (one_node n) e)) (sign signs.Semicolon) event.0 ends.0 ends.1 refl refl
     ∙ d more b2 b0 bs (tally_with_event (one_node n) e) wanted ends.0 rest ends.2 few.1 (omega (arith, low.0), omega (arith, low.1)) none (omega (arith, room, length-append c.inners (x ∷ [])))
-    ∙ ap (λ y. run wanted (at (with_inners c y) (reaching (depth_within (reached b2 f)) b0) bs (tally_with_event (tally_with_event (one_node n) e) f)) (spots_of rest)) (take_front b.outer c.inners (x ∷ []) room)
+    ∙ ap (λ y. run wanted (at (with_inners c y) (reaching (depth_within (reached b2 f)) b0) bs
+    (tally_with_event (tally_with_event (one_node n) e) f)) (spots_of rest))
+    (take_front b.outer c.inners (x ∷ []) room)
     ∙ ap (λ y. run wanted y (spots_of rest))
-    (at_same (cut b c) _ _ bs _ _ (reaching_same b0 _ _ (ap (λ k. max b0.deepest (max b.settled k)) (deeper b.deepest b.level (height e) (height f) (some_height e) (some_height f)))) (tally_same _ _ (omega arith) (omega arith)))
+    (at_same (cut b c) _ _ bs _ _ (reaching_same b0 _ _ (ap (λ k. max b0.deepest (max b.settled k))
+    (deeper b.deepest b.level (height e) (height f) (some_height e) (some_height f))))
+    (tally_same _ _ (omega arith) (omega arith)))
 
 do_goes : (e : Term) (m : ℕ) (f : Term) → Alone e → InDo f → Alone (and_then e m f)
 do_goes e m f a d c b bs n wanted ts rest h few low none plain =
@@ -298,14 +324,16 @@ do_goes e m f a d c b bs n wanted ts rest h few low none plain =
     word_goes words.Do (form (roles.Chain words.Do) (parts.Only roles.OpenChain ∷ parts.Only roles.PartName ∷ bound_event (parts.Parts ∷ []))) refl (at c b bs n) wanted ts h.0 h.1
     (rw (shallow (length (b ∷ bs)) (height t) low.0 (some_height t)) refl)
     ∙ goes_alone roles.OpenChain (parts.Only roles.PartName ∷ bound_event (parts.Parts ∷ wanted)) (at c b bs n) (sign signs.OpenBrace) h.0 k.0 k.1 refl refl
-    ∙ part_goes (parts.Only roles.PartName) [] (bound_event (parts.Parts ∷ wanted)) part_alone e m f a d c i b bs n wanted k.0 rest refl k.2 few (omega (arith, low.0), omega (arith, low.1)) none (omega arith)
+    ∙ part_goes (parts.Only roles.PartName) [] (bound_event (parts.Parts ∷ wanted)) part_alone e m f a d c i b bs n
+    wanted k.0 rest refl k.2 few (omega (arith, low.0), omega (arith, low.1)) none (omega arith)
     ∙ ap (λ y. run wanted (at (with_inners c y) (reaching (depth_within (reached i t)) b) bs (tally_with_event n t)) (spots_of rest)) (whole_taken c.inners)
     ∙ ap (λ y. run wanted y (spots_of rest)) (at_same c _ _ bs _ _ (reaching_same b _ _ (omega arith)) refl)
 
 -- a bar, and what goes on behind it
 abbrev BeginsBar : Part → List Part → List Part → Type 0
 BeginsBar p tail wanted =
-    (c : Context) (b : Brace) (bs : List Brace) (n : Tally) (ts rest : List Token) → ts ≡ sign signs.Bar ∷ rest → Goes (p ∷ tail) (at c b bs n) ts (parts.Event ∷ parts.Bars ∷ wanted) (at c (behind_bar b) bs (one_node n)) rest
+    (c : Context) (b : Brace) (bs : List Brace) (n : Tally) (ts rest : List Token) → ts ≡ sign signs.Bar ∷ rest
+    → Goes (p ∷ tail) (at c b bs n) ts (parts.Event ∷ parts.Bars ∷ wanted) (at c (behind_bar b) bs (one_node n)) rest
 
 abbrev pub EventAndMore : Names → Term → Term → List Token → List Token → Type 0
 EventAndMore s e f ts rest = (spells_event true alone s e ⨟ is (sign signs.Bar) ⨟ spells_event true in_choose s f) ts rest
@@ -313,9 +341,13 @@ EventAndMore s e f ts rest = (spells_event true alone s e ⨟ is (sign signs.Bar
 pub settled_deeper : (d l a b : ℕ) → 1 ≤ a → 1 ≤ b → max (max d (suc (max 0 (l + a - 1)))) (max 0 (suc l + b - 1)) ≡ max d (max 0 (l + (1 + max a b) - 1))
 settled_deeper d l a b ha hb = omega (arith, ha, hb)
 
-bar_goes : (p : Part) (tail : List Part) (e f : Term) → Alone e → InChoose f → (c : Context) (b b0 : Brace) (bs : List Brace) (n : Tally) (wanted : List Part) (ts rest : List Token) → BeginsBar p tail wanted
+bar_goes : (p : Part) (tail : List Part) (e f : Term) → Alone e → InChoose f
+    → (c : Context) (b b0 : Brace) (bs : List Brace) (n : Tally) (wanted : List Part) (ts rest : List Token)
+    → BeginsBar p tail wanted
     → EventAndMore (names_in c) e f ts rest → AreFew (choose e f) → HasDepth (length (b0 ∷ bs)) n (choose e f) → c.calculations ≡ 0 → b.outer ≤ length c.inners
-    → Goes (parts.Event ∷ p ∷ tail) (at c (fresh_bar b) (b0 ∷ bs) n) ts wanted (at (cut b c) (reaching (depth_within (reached (fresh_bar b) (choose e f))) b0) bs (tally_with_event n (choose e f))) rest
+    → Goes (parts.Event ∷ p ∷ tail) (at c (fresh_bar b) (b0 ∷ bs) n) ts wanted
+    (at (cut b c) (reaching (depth_within (reached (fresh_bar b) (choose e f))) b0) bs
+    (tally_with_event n (choose e f))) rest
 bar_goes p tail e f a d c b b0 bs n wanted ts rest begins h few low none room =
     let b1 = reached (fresh_bar b) e in
     let b2 = behind_bar b1 in
@@ -323,7 +355,9 @@ bar_goes p tail e f a d c b b0 bs n wanted ts rest begins h few low none room =
     a c (fresh_bar b) (b0 ∷ bs) n (p ∷ tail) ts h.0 h.1 few.0 (omega (arith, low.0), omega (arith, low.1)) none (rw k.1 refl)
     ∙ begins c b1 (b0 ∷ bs) (tally_with_event n e) h.0 k.0 k.1
     ∙ d c b2 b0 bs (one_node (tally_with_event n e)) wanted k.0 rest k.2 few.1 (omega (arith, low.0), omega (arith, low.1)) none room
-    ∙ ap (λ y. run wanted y (spots_of rest)) (at_same (cut b c) _ _ bs _ _ (reaching_same b0 _ _ (ap (λ x. max b0.deepest x) (settled_deeper b.settled b.level (height e) (height f) (some_height e) (some_height f)))) (tally_same _ _ (omega arith) (omega arith)))
+    ∙ ap (λ y. run wanted y (spots_of rest)) (at_same (cut b c) _ _ bs _ _
+    (reaching_same b0 _ _ (ap (λ x. max b0.deepest x) (settled_deeper b.settled b.level (height e) (height f)
+    (some_height e) (some_height f)))) (tally_same _ _ (omega arith) (omega arith)))
 
 choose_goes : (e f : Term) → Alone e → InChoose f → Alone (choose e f)
 choose_goes e f a d c b bs n wanted ts rest h few low none plain =
@@ -333,14 +367,19 @@ choose_goes e f a d c b bs n wanted ts rest h few low none plain =
     word_goes words.Choose (form (roles.Chain words.Choose) (parts.Only roles.OpenChain ∷ parts.Event ∷ parts.Only roles.Bar ∷ parts.Event ∷ parts.Bars ∷ [])) refl (at c b bs n) wanted ts h.0 h.1
     (rw (shallow (length (b ∷ bs)) (height t) low.0 (some_height t)) refl)
     ∙ goes_alone roles.OpenChain (parts.Event ∷ parts.Only roles.Bar ∷ parts.Event ∷ parts.Bars ∷ wanted) (at c b bs n) (sign signs.OpenBrace) h.0 k.0 k.1 refl refl
-    ∙ bar_goes (parts.Only roles.Bar) (parts.Event ∷ parts.Bars ∷ wanted) e f a d c i b bs n wanted k.0 rest (λ c b bs n ts rest e. bar_alone c b bs n (parts.Event ∷ parts.Bars ∷ wanted) ts rest e) k.2 few low none (omega arith)
+    ∙ bar_goes (parts.Only roles.Bar) (parts.Event ∷ parts.Bars ∷ wanted) e f a d c i b bs n wanted k.0 rest
+    (λ c b bs n ts rest e. bar_alone c b bs n (parts.Event ∷ parts.Bars ∷ wanted) ts rest e) k.2 few low none
+    (omega arith)
     ∙ ap (λ y. run wanted (at (with_inners c y) (reaching (depth_within (reached i t)) b) bs (tally_with_event n t)) (spots_of rest)) (whole_taken c.inners)
     ∙ ap (λ y. run wanted y (spots_of rest)) (at_same c _ _ bs _ _ (reaching_same b _ _ (omega arith)) refl)
 
 -- the event of a `catch`, behind its name
-catch_goes : (e : Term) → Alone e → (x : List ℕ) (c : Context) (b : Brace) (bs : List Brace) (n : Tally) (wanted : List Part) (ts rest : List Token) → IsFreeName (names_in c) x → (bound_name x ⨟ in_braces (spells_event true alone (with_inner (names_in c) x) e)) ts rest → AreFew e
+catch_goes : (e : Term) → Alone e → (x : List ℕ) (c : Context) (b : Brace) (bs : List Brace) (n : Tally)
+    (wanted : List Part) (ts rest : List Token) → IsFreeName (names_in c) x
+    → (bound_name x ⨟ in_braces (spells_event true alone (with_inner (names_in c) x) e)) ts rest → AreFew e
     → HasDepth (suc (length (b ∷ bs))) n e → c.calculations ≡ 0
-    → Goes (parts.Only roles.CatchName ∷ parts.Only (roles.Sign signs.OpenBrace) ∷ parts.Event ∷ parts.Only roles.Close ∷ wanted) (at c b bs n) ts wanted (at c (reaching (suc b.level + height e - 1) b) bs (tally_with_event n e)) rest
+    → Goes (parts.Only roles.CatchName ∷ parts.Only (roles.Sign signs.OpenBrace) ∷ parts.Event ∷ parts.Only roles.Close
+    ∷ wanted) (at c b bs n) ts wanted (at c (reaching (suc b.level + height e - 1) b) bs (tally_with_event n e)) rest
 catch_goes e a x c b bs n wanted ts rest free h few low none =
     let i = opened_at (suc b.level) c in
     let inside = with_inners c (c.inners ++ x ∷ []) in
@@ -350,13 +389,16 @@ catch_goes e a x c b bs n wanted ts rest free h few low none =
     ∙ goes_alone (roles.Sign signs.OpenBrace) (parts.Event ∷ parts.Only roles.Close ∷ wanted) (at inside i (b ∷ bs) n) (sign signs.OpenBrace) h.0 brace.0 brace.1 refl refl
     ∙ a inside i (b ∷ bs) n (parts.Only roles.Close ∷ wanted) brace.0 k.0 k.1 few low none (rw k.2 refl)
     ∙ close_alone inside (reached i e) b bs (tally_with_event n e) wanted k.0 rest k.2
-    ∙ ap (λ y. run wanted (at (with_inners c y) (reaching (depth_within (reached i e)) b) bs (tally_with_event n e)) (spots_of rest)) (take_front (length c.inners) c.inners (x ∷ []) (omega arith) ∙ whole_taken c.inners)
+    ∙ ap (λ y. run wanted (at (with_inners c y) (reaching (depth_within (reached i e)) b) bs (tally_with_event n e))
+    (spots_of rest)) (take_front (length c.inners) c.inners (x ∷ []) (omega arith) ∙ whole_taken c.inners)
     ∙ ap (λ y. run wanted y (spots_of rest)) (at_same c _ _ bs _ _ (reaching_same b _ _ (omega arith)) refl) where
       name_goes : bound_name x ts h.0
           → Goes (parts.Only roles.CatchName ∷ parts.Only (roles.Sign signs.OpenBrace) ∷ parts.Event ∷ parts.Only roles.Close ∷ wanted) (at c b bs n) ts
           (parts.Only (roles.Sign signs.OpenBrace) ∷ parts.Event ∷ parts.Only roles.Close ∷ wanted) (at (with_inners c (c.inners ++ x ∷ [])) (opened_at (suc b.level) c) (b ∷ bs) n) h.0
-      name_goes (inl e) = goes_alone roles.CatchName (parts.Only (roles.Sign signs.OpenBrace) ∷ parts.Event ∷ parts.Only roles.Close ∷ wanted) (at c b bs n) (tokens.name x) ts h.0 e refl (free_kept (at c b bs n) x free)
-      name_goes (inr e) = goes_alone roles.CatchName (parts.Only (roles.Sign signs.OpenBrace) ∷ parts.Event ∷ parts.Only roles.Close ∷ wanted) (at c b bs n) (tokens.inner x) ts h.0 e refl (free_kept (at c b bs n) x free)
+      name_goes (inl e) = goes_alone roles.CatchName (parts.Only (roles.Sign signs.OpenBrace) ∷ parts.Event
+          ∷ parts.Only roles.Close ∷ wanted) (at c b bs n) (tokens.name x) ts h.0 e refl (free_kept (at c b bs n) x free)
+      name_goes (inr e) = goes_alone roles.CatchName (parts.Only (roles.Sign signs.OpenBrace) ∷ parts.Event
+          ∷ parts.Only roles.Close ∷ wanted) (at c b bs n) (tokens.inner x) ts h.0 e refl (free_kept (at c b bs n) x free)
 
 try_goes : (e : Term) (m : ℕ) (f : Term) → Alone e → Alone f → Alone (catch e m f)
 try_goes e m f a d c b bs n wanted ts rest h few low none plain =
@@ -374,7 +416,9 @@ try_goes e m f a d c b bs n wanted ts rest h few low none plain =
     ∙ braced_goes e a c b bs (one_node n) (parts.Only (roles.Word words.Catch) ∷ handler) h.0 k.0 k.1 few.0 (omega (arith, low.0), omega (arith, low.1)) none
     ∙ goes_alone (roles.Word words.Catch) handler (at c b1 bs (tally_with_event (one_node n) e)) (word words.Catch) k.0 l.0 l.1 refl refl
     ∙ catch_goes f d name.0 c b1 bs (tally_with_event (one_node n) e) wanted l.0 rest name.1.0 name.1.1 few.1 (omega (arith, low.0), omega (arith, low.1)) none
-    ∙ ap (λ y. run wanted y (spots_of rest)) (at_same c _ _ bs _ _ (ap (λ x. record b { deepest = x }) (deeper b.deepest b.level (height e) (height f) (some_height e) (some_height f))) (tally_same _ _ (omega arith) (omega arith)))
+    ∙ ap (λ y. run wanted y (spots_of rest)) (at_same c _ _ bs _ _
+    (ap (λ x. record b { deepest = x }) (deeper b.deepest b.level (height e) (height f) (some_height e)
+    (some_height f))) (tally_same _ _ (omega arith) (omega arith)))
 
 test_plain : (o : Test) (ts : List Token) → dotted (sign (test_sign o) ∷ ts) ≡ false
 test_plain tests.Equal ts = refl
@@ -403,7 +447,9 @@ if_goes o p q e f a d c b bs n wanted ts rest h few low none plain =
     ∙ braced_goes e a c b bs (one_node n) (parts.Only (roles.Word words.Else) ∷ second) right.0 then_part.0 then_part.1 few.0 (omega (arith, low.0), omega (arith, low.1)) none
     ∙ goes_alone (roles.Word words.Else) second (at c b1 bs (tally_with_event (one_node n) e)) (word words.Else) then_part.0 else_word.0 else_word.1 refl refl
     ∙ braced_goes f d c b1 bs (tally_with_event (one_node n) e) wanted else_word.0 rest else_word.2 few.1 (omega (arith, low.0), omega (arith, low.1)) none
-    ∙ ap (λ y. run wanted y (spots_of rest)) (at_same c _ _ bs _ _ (ap (λ x. record b { deepest = x }) (deeper b.deepest b.level (height e) (height f) (some_height e) (some_height f))) (tally_same _ _ (omega arith) (omega arith)))
+    ∙ ap (λ y. run wanted y (spots_of rest)) (at_same c _ _ bs _ _
+    (ap (λ x. record b { deepest = x }) (deeper b.deepest b.level (height e) (height f) (some_height e)
+    (some_height f))) (tally_same _ _ (omega arith) (omega arith)))
 
 -- ---- every event
 
@@ -415,12 +461,15 @@ then_passes e m f x y =
       after_part = λ c b b0 bs n wanted ts rest h few low none room. by c b b0 bs n wanted ts rest few low none room h;
       after_bar = λ c b b0 bs n wanted ts rest h few low none room. closed_in_choose (and_then e m f) a c b b0 bs n wanted ts rest h few low none;
     } where
-      by : (c : Context) (b b0 : Brace) (bs : List Brace) (n : Tally) (wanted : List Part) (ts rest : List Token) → AreFew (and_then e m f) → HasDepth (length (b ∷ b0 ∷ bs)) n (and_then e m f) → c.calculations ≡ 0 → b.outer ≤ length c.inners
+      by : (c : Context) (b b0 : Brace) (bs : List Brace) (n : Tally) (wanted : List Part) (ts rest : List Token)
+          → AreFew (and_then e m f) → HasDepth (length (b ∷ b0 ∷ bs)) n (and_then e m f) → c.calculations ≡ 0
+          → b.outer ≤ length c.inners
           → spells_event true in_do (names_in c) (and_then e m f) ts rest
           → Goes (parts.Parts ∷ wanted) (at c b (b0 ∷ bs) n) ts wanted (at (cut b c) (reaching (depth_within (reached b (and_then e m f))) b0) bs (tally_with_event n (and_then e m f))) rest
       by c b b0 bs n wanted ts rest few low none room (inl h) = closed_in_do (and_then e m f) (do_goes e m f x.by_itself y.after_part) c b b0 bs n wanted ts rest h few low none
       by c b b0 bs n wanted ts rest few low none room (inr h) =
-          part_goes parts.Parts (bound_event (parts.Parts ∷ [])) wanted part_more e m f x.by_itself y.after_part c b b0 bs n wanted ts rest refl h few (omega (arith, low.0), omega (arith, low.1)) none room
+          part_goes parts.Parts (bound_event (parts.Parts ∷ [])) wanted part_more e m f x.by_itself y.after_part c b b0
+          bs n wanted ts rest refl h few (omega (arith, low.0), omega (arith, low.1)) none room
 
 choice_passes : (e f : Term) → Passes e → Passes f → Passes (choose e f)
 choice_passes e f x y =
@@ -430,12 +479,18 @@ choice_passes e f x y =
       after_part = λ c b b0 bs n wanted ts rest h few low none room. closed_in_do (choose e f) a c b b0 bs n wanted ts rest h few low none;
       after_bar = λ c b b0 bs n wanted ts rest h few low none room. by c b b0 bs n wanted ts rest few low none room h;
     } where
-      by : (c : Context) (b b0 : Brace) (bs : List Brace) (n : Tally) (wanted : List Part) (ts rest : List Token) → AreFew (choose e f) → HasDepth (length (b ∷ b0 ∷ bs)) n (choose e f) → c.calculations ≡ 0 → b.outer ≤ length c.inners
+      by : (c : Context) (b b0 : Brace) (bs : List Brace) (n : Tally) (wanted : List Part) (ts rest : List Token)
+          → AreFew (choose e f) → HasDepth (length (b ∷ b0 ∷ bs)) n (choose e f) → c.calculations ≡ 0
+          → b.outer ≤ length c.inners
           → spells_event true in_choose (names_in c) (choose e f) ts rest
-          → Goes (parts.Event ∷ parts.Bars ∷ wanted) (at c (fresh_bar b) (b0 ∷ bs) n) ts wanted (at (cut b c) (reaching (depth_within (reached (fresh_bar b) (choose e f))) b0) bs (tally_with_event n (choose e f))) rest
+          → Goes (parts.Event ∷ parts.Bars ∷ wanted) (at c (fresh_bar b) (b0 ∷ bs) n) ts wanted
+          (at (cut b c) (reaching (depth_within (reached (fresh_bar b) (choose e f))) b0) bs
+          (tally_with_event n (choose e f))) rest
       by c b b0 bs n wanted ts rest few low none room (inl h) = closed_in_choose (choose e f) (choose_goes e f x.by_itself y.after_bar) c b b0 bs n wanted ts rest h few low none
       by c b b0 bs n wanted ts rest few low none room (inr h) =
-          bar_goes parts.Bars wanted e f x.by_itself y.after_bar c b b0 bs n wanted ts rest (λ c b bs n ts rest e. bar_bars c b bs n wanted ts rest e) h few (omega (arith, low.0), omega (arith, low.1)) none room
+          bar_goes parts.Bars wanted e f x.by_itself y.after_bar c b b0 bs n wanted ts rest
+          (λ c b bs n ts rest e. bar_bars c b bs n wanted ts rest e) h few
+          (omega (arith, low.0), omega (arith, low.1)) none room
 
 -- an event that a brace follows wherever it stands
 closed_passes : (t : Term) → ((c : Context) (ts rest : List Token) → spells_event true in_do (names_in c) t ts rest → ClosedEvent (names_in c) t ts rest)

@@ -14,10 +14,15 @@ use Rattle.te_reader.specs.declared.token.Word.TheVariants as words
 use Rattle.te_reader.specs.declared.token.Sign.TheVariants as signs
 use Rattle.te_reader.specs.Tokens as tokens
 use Rattle.te_reader.specs.Tokens.{Token, word, sign}
-use Rattle.te_reader.specs.Grammar.{Span, is, ◌⨟◌, Names, IsFreeName, with_inner, bound_name, binds, EventPlace, alone, in_do, in_choose, closed_span, closed_do, closed_choose, in_braces, do_event, choose_event, do_parts, test_sign, spells_primitive, spells_expression, spells_event}
+use Rattle.te_reader.specs.Grammar.{Span, is, ◌⨟◌, Names, IsFreeName, with_inner, bound_name, binds, EventPlace, alone}
+use Rattle.te_reader.specs.Grammar.{in_do, in_choose, closed_span, closed_do, closed_choose, in_braces, do_event}
+use Rattle.te_reader.specs.Grammar.{choose_event, do_parts, test_sign, spells_primitive, spells_expression}
+use Rattle.te_reader.specs.Grammar.{spells_event}
 use Rattle.te_reader.specs.Canonical.{inner_text, Spelling, primitive_text, expression_text, test_text, do_open, do_close, choose_open, choose_close, event_text}
 use Rattle.te_reader.proofs.Regrouped.{three, six, eight}
-use Rattle.te_reader.proofs.TokensWritten.{Writes, StandsApart, IsOneByte, brace_opens, brace_closes, semicolon_is, then_writes, word_writes, sign_before, sign_writes, sign_and_blank, blank_writes, named_writes, second_writes}
+use Rattle.te_reader.proofs.TokensWritten.{Writes, StandsApart, IsOneByte, brace_opens, brace_closes, semicolon_is}
+use Rattle.te_reader.proofs.TokensWritten.{then_writes, word_writes, sign_before, sign_writes, sign_and_blank}
+use Rattle.te_reader.proofs.TokensWritten.{blank_writes, named_writes, second_writes}
 use Rattle.te_reader.proofs.ExpressionsWritten.{names_at, scope_at, inner_writes, inner_is_free, primitive_writes, expression_writes}
 
 bar_is : IsOneByte signs.Bar 124
@@ -65,16 +70,21 @@ parts_text n e f = n ++ (codes " <- " ++ (e ++ (codes "; " ++ (f ++ codes " }"))
 
 do_writes : (at : EventPlace) (n e f : List ℕ) (parts : Span) → Writes (parts_text n e f) parts
     → Writes ((do_open at ++ n ++ codes " <- " ++ e ++ codes "; " ++ f ++ do_close at) ++ ending at) (closed_do at (do_event parts) parts)
-do_writes at n e f parts h = subst (λ (xs : List ℕ). Writes xs (closed_do at (do_event parts) parts)) (sym (eight (do_open at) n (codes " <- ") e (codes "; ") f (do_close at) (ending at))) (by at) where
-  whole_do : Writes (codes "do { " ++ parts_text n e f) (do_event parts)
-  whole_do =
-      then_writes (codes "do") (codes " { " ++ parts_text n e f) (is (word words.Do)) (is (sign signs.OpenBrace) ⨟ parts) (word_writes words.Do)
-      (blank_writes 32 (codes "{ " ++ parts_text n e f) (is (sign signs.OpenBrace) ⨟ parts) refl (sign_before signs.OpenBrace 123 (32 ∷ parts_text n e f) parts brace_opens (blank_writes 32 (parts_text n e f) parts refl h))) (λ b a. refl)
+do_writes at n e f parts h = subst (λ (xs : List ℕ). Writes xs (closed_do at (do_event parts) parts))
+    (sym (eight (do_open at) n (codes " <- ") e (codes "; ") f (do_close at) (ending at))) (by at) where
+      whole_do : Writes (codes "do { " ++ parts_text n e f) (do_event parts)
+      whole_do =
+          then_writes (codes "do") (codes " { " ++ parts_text n e f) (is (word words.Do)) (is (sign signs.OpenBrace) ⨟ parts) (word_writes words.Do)
+          (blank_writes 32 (codes "{ " ++ parts_text n e f) (is (sign signs.OpenBrace) ⨟ parts) refl
+          (sign_before signs.OpenBrace 123 (32 ∷ parts_text n e f) parts brace_opens
+          (blank_writes 32 (parts_text n e f) parts refl h))) (λ b a. refl)
 
-  by : (at : EventPlace) → Writes (do_open at ++ (n ++ (codes " <- " ++ (e ++ (codes "; " ++ (f ++ (do_close at ++ ending at))))))) (closed_do at (do_event parts) parts)
-  by alone = whole_do
-  by in_do = second_writes (parts_text n e f) (do_event parts ⨟ is (sign signs.CloseBrace)) parts h
-  by in_choose = subst (λ (xs : List ℕ). Writes xs (do_event parts ⨟ is (sign signs.CloseBrace))) (ap (λ xs. codes "do { " ++ xs) (last_of n e f (codes " }") (codes " }"))) (with_brace (codes "do { " ++ parts_text n e f) (do_event parts) whole_do)
+      by : (at : EventPlace) → Writes (do_open at ++ (n ++ (codes " <- " ++ (e ++ (codes "; " ++ (f ++ (do_close at ++ ending at))))))) (closed_do at (do_event parts) parts)
+      by alone = whole_do
+      by in_do = second_writes (parts_text n e f) (do_event parts ⨟ is (sign signs.CloseBrace)) parts h
+      by in_choose = subst (λ (xs : List ℕ). Writes xs (do_event parts ⨟ is (sign signs.CloseBrace)))
+          (ap (λ xs. codes "do { " ++ xs) (last_of n e f (codes " }") (codes " }")))
+          (with_brace (codes "do { " ++ parts_text n e f) (do_event parts) whole_do)
 
 -- ---- `choose`
 
@@ -86,16 +96,21 @@ last_event a b c more = append_assoc a (codes " | " ++ (b ++ c)) more ∙ ap (λ
 
 choose_writes : (at : EventPlace) (e f : List ℕ) (events : Span) → Writes (events_text e f) events
     → Writes ((choose_open at ++ e ++ codes " | " ++ f ++ choose_close at) ++ ending at) (closed_choose at (choose_event events) events)
-choose_writes at e f events h = subst (λ (xs : List ℕ). Writes xs (closed_choose at (choose_event events) events)) (sym (six (choose_open at) e (codes " | ") f (choose_close at) (ending at))) (by at) where
-  whole_choose : Writes (codes "choose { " ++ events_text e f) (choose_event events)
-  whole_choose =
-      then_writes (codes "choose") (codes " { " ++ events_text e f) (is (word words.Choose)) (is (sign signs.OpenBrace) ⨟ events) (word_writes words.Choose)
-      (blank_writes 32 (codes "{ " ++ events_text e f) (is (sign signs.OpenBrace) ⨟ events) refl (sign_before signs.OpenBrace 123 (32 ∷ events_text e f) events brace_opens (blank_writes 32 (events_text e f) events refl h))) (λ b a. refl)
+choose_writes at e f events h = subst (λ (xs : List ℕ). Writes xs (closed_choose at (choose_event events) events))
+    (sym (six (choose_open at) e (codes " | ") f (choose_close at) (ending at))) (by at) where
+      whole_choose : Writes (codes "choose { " ++ events_text e f) (choose_event events)
+      whole_choose =
+          then_writes (codes "choose") (codes " { " ++ events_text e f) (is (word words.Choose)) (is (sign signs.OpenBrace) ⨟ events) (word_writes words.Choose)
+          (blank_writes 32 (codes "{ " ++ events_text e f) (is (sign signs.OpenBrace) ⨟ events) refl
+          (sign_before signs.OpenBrace 123 (32 ∷ events_text e f) events brace_opens
+          (blank_writes 32 (events_text e f) events refl h))) (λ b a. refl)
 
-  by : (at : EventPlace) → Writes (choose_open at ++ (e ++ (codes " | " ++ (f ++ (choose_close at ++ ending at))))) (closed_choose at (choose_event events) events)
-  by alone = whole_choose
-  by in_choose = second_writes (events_text e f) (choose_event events ⨟ is (sign signs.CloseBrace)) events h
-  by in_do = subst (λ (xs : List ℕ). Writes xs (choose_event events ⨟ is (sign signs.CloseBrace))) (ap (λ xs. codes "choose { " ++ xs) (last_event e f (codes " }") (codes " }"))) (with_brace (codes "choose { " ++ events_text e f) (choose_event events) whole_choose)
+      by : (at : EventPlace) → Writes (choose_open at ++ (e ++ (codes " | " ++ (f ++ (choose_close at ++ ending at))))) (closed_choose at (choose_event events) events)
+      by alone = whole_choose
+      by in_choose = second_writes (events_text e f) (choose_event events ⨟ is (sign signs.CloseBrace)) events h
+      by in_do = subst (λ (xs : List ℕ). Writes xs (choose_event events ⨟ is (sign signs.CloseBrace)))
+          (ap (λ xs. codes "choose { " ++ xs) (last_event e f (codes " }") (codes " }")))
+          (with_brace (codes "choose { " ++ events_text e f) (choose_event events) whole_choose)
 
 -- ---- events
 
@@ -114,7 +129,9 @@ module _ (channels registers : List (List ℕ)) (named_channels : AllByRecursion
   binds_write : (l : ℕ) (text : List ℕ) (next : List ℕ → Span) → l ≤ 64 → StandsApart text → Writes text (next (inner_text l)) → Writes (inner_text l ++ text) (binds true (names l) next)
   binds_write l text next low apart f =
       named_writes (inner_text l ++ text) (inner_text l) (λ n. IsFreeName (names l) n) (λ n. bound_name n ⨟ next n) (inner_is_free channels registers w l named_channels named_registers low)
-      (then_writes (inner_text l) text (bound_name (inner_text l)) (next (inner_text l)) (second_writes (inner_text l) (is (tokens.name (inner_text l))) (is (tokens.inner (inner_text l))) (inner_writes l low)) f apart)
+      (then_writes (inner_text l) text (bound_name (inner_text l)) (next (inner_text l))
+      (second_writes (inner_text l) (is (tokens.name (inner_text l))) (is (tokens.inner (inner_text l)))
+      (inner_writes l low)) f apart)
 
   -- `<-`, an event, `;` and what is behind them
   parts_write : (e f : List ℕ) (event rest : Span) → Writes e event → Writes f rest → Writes (codes " <- " ++ (e ++ (codes "; " ++ f))) (do_parts event rest)
@@ -134,82 +151,117 @@ module _ (channels registers : List (List ℕ)) (named_channels : AllByRecursion
   OfLevel l t = IsEvent (scope_at channels w l) t × (l + height t ≤ 64)
 
   -- what an `if` compares, with what is behind it
-  condition_writes : (l : ℕ) (test : Test) (p q : Primitive) (text : List ℕ) (span : Span) → l ≤ 64 → IsPrimitive (scope_at channels w l) p → IsPrimitive (scope_at channels w l) q → StandsApart text → Writes text span
-      → Writes (primitive_text spelling p ++ (test_text test ++ (primitive_text spelling q ++ text))) (spells_primitive true (names l) p ⨟ is (sign (test_sign test)) ⨟ spells_primitive true (names l) q ⨟ span)
+  condition_writes : (l : ℕ) (test : Test) (p q : Primitive) (text : List ℕ) (span : Span) → l ≤ 64
+      → IsPrimitive (scope_at channels w l) p → IsPrimitive (scope_at channels w l) q → StandsApart text
+      → Writes text span
+      → Writes (primitive_text spelling p ++ (test_text test ++ (primitive_text spelling q ++ text)))
+      (spells_primitive true (names l) p ⨟ is (sign (test_sign test)) ⨟ spells_primitive true (names l) q ⨟ span)
   condition_writes l test p q text span low left right apart f =
-      let second = then_writes (primitive_text spelling q) text (spells_primitive true (names l) q) span (primitive_writes channels registers named_channels named_registers w l written low q right) f apart in
+      let second = then_writes (primitive_text spelling q) text (spells_primitive true (names l) q) span
+      (primitive_writes channels registers named_channels named_registers w l written low q right) f apart in
       then_writes (primitive_text spelling p) _ (spells_primitive true (names l) p) _ (primitive_writes channels registers named_channels named_registers w l written low p left)
       (test_write test _ _ second) (test_apart test (primitive_text spelling q ++ text))
 
   pub event_writes : (t : Term) (at : EventPlace) (l : ℕ) → IsEvent (scope_at channels w l) t → l + height t ≤ 64 → Writes (event_text spelling at t ++ ending at) (spells_event true at (names l) t)
   event_writes (always e) at l h low =
-      closed_writes at _ _ (word_then (codes "always") (word words.Always) (expression_text spelling e) _ (word_writes words.Always) (expression_writes channels registers named_channels named_registers w l written (omega (arith, low)) e h))
+      closed_writes at _ _ (word_then (codes "always") (word words.Always) (expression_text spelling e) _
+      (word_writes words.Always) (expression_writes channels registers named_channels named_registers w l written
+      (omega (arith, low)) e h))
   event_writes never at l h low = closed_writes at _ _ (word_writes words.Never)
   event_writes fresh at l h low = closed_writes at _ _ (word_writes words.Fresh)
   event_writes (throw e) at l h low =
-      closed_writes at _ _ (word_then (codes "throw") (word words.Throw) (expression_text spelling e) _ (word_writes words.Throw) (expression_writes channels registers named_channels named_registers w l written (omega (arith, low)) e h))
+      closed_writes at _ _ (word_then (codes "throw") (word words.Throw) (expression_text spelling e) _
+      (word_writes words.Throw) (expression_writes channels registers named_channels named_registers w l written
+      (omega (arith, low)) e h))
   event_writes (send p e) at l h low =
       closed_writes at _ _ (word_then (codes "send") (word words.Send) _ _ (word_writes words.Send)
       (subst (λ (xs : List ℕ). Writes xs (spells_primitive true (names l) p ⨟ spells_expression true (names l) e)) (sym (three (primitive_text spelling p) (codes " ") (expression_text spelling e)))
       (then_writes (primitive_text spelling p) (32 ∷ expression_text spelling e) _ _ (primitive_writes channels registers named_channels named_registers w l written (omega (arith, low)) p h.0)
       (blank_writes 32 _ _ refl (expression_writes channels registers named_channels named_registers w l written (omega (arith, low)) e h.1)) (λ b a. refl))))
   event_writes (recv p) at l h low =
-      closed_writes at _ _ (word_then (codes "recv") (word words.Recv) _ _ (word_writes words.Recv) (primitive_writes channels registers named_channels named_registers w l written (omega (arith, low)) p h))
+      closed_writes at _ _ (word_then (codes "recv") (word words.Recv) _ _ (word_writes words.Recv)
+      (primitive_writes channels registers named_channels named_registers w l written (omega (arith, low)) p h))
   event_writes (and_then e n f) at l h low =
       subst (λ (k : ℕ). Writes (event_text spelling at (and_then e k f) ++ ending at) (spells_event true at (names l) (and_then e k f))) (sym h.0) (
       do_writes at (inner_text l) (event_text spelling alone e) (event_text spelling in_do f) _
       (binds_write l _ _ (omega (arith, low)) (λ b a. refl)
-      (parts_write (event_text spelling alone e) (event_text spelling in_do f ++ codes " }") _ _ (by_itself (event_writes e alone l h.1 (omega (arith, low)))) (event_writes f in_do (suc l) h.2 (omega (arith, low)))))) where
+      (parts_write (event_text spelling alone e) (event_text spelling in_do f ++ codes " }") _ _
+      (by_itself (event_writes e alone l h.1 (omega (arith, low))))
+      (event_writes f in_do (suc l) h.2 (omega (arith, low)))))) where
         by_itself : Writes (event_text spelling alone e ++ []) (spells_event true alone (names l) e) → Writes (event_text spelling alone e) (spells_event true alone (names l) e)
         by_itself g = subst (λ (xs : List ℕ). Writes xs (spells_event true alone (names l) e)) (append-nil (event_text spelling alone e)) g
   event_writes (choose e f) at l h low =
       choose_writes at (event_text spelling alone e) (event_text spelling in_choose f) _
       (then_writes (event_text spelling alone e) (codes " | " ++ (event_text spelling in_choose f ++ codes " }")) _ _ (by_itself (event_writes e alone l h.0 (omega (arith, low))))
-      (blank_writes 32 _ _ refl (sign_before signs.Bar 124 (32 ∷ (event_text spelling in_choose f ++ codes " }")) _ bar_is (blank_writes 32 _ _ refl (event_writes f in_choose l h.1 (omega (arith, low)))))) (λ b a. refl)) where
+      (blank_writes 32 _ _ refl (sign_before signs.Bar 124 (32 ∷ (event_text spelling in_choose f ++ codes " }")) _
+      bar_is (blank_writes 32 _ _ refl (event_writes f in_choose l h.1 (omega (arith, low)))))) (λ b a. refl)) where
         by_itself : Writes (event_text spelling alone e ++ []) (spells_event true alone (names l) e) → Writes (event_text spelling alone e) (spells_event true alone (names l) e)
         by_itself g = subst (λ (xs : List ℕ). Writes xs (spells_event true alone (names l) e)) (append-nil (event_text spelling alone e)) g
   event_writes (catch e n f) at l h low =
       subst (λ (k : ℕ). Writes (event_text spelling at (catch e k f) ++ ending at) (spells_event true at (names l) (catch e k f))) (sym h.0)
-      (closed_writes at _ _ (tried (event_text spelling alone e) (event_text spelling alone f) (by_itself e l (event_writes e alone l h.1 (omega (arith, low)))) (by_itself f (suc l) (event_writes f alone (suc l) h.2 (omega (arith, low)))))) where
+      (closed_writes at _ _ (tried (event_text spelling alone e) (event_text spelling alone f)
+      (by_itself e l (event_writes e alone l h.1 (omega (arith, low))))
+      (by_itself f (suc l) (event_writes f alone (suc l) h.2 (omega (arith, low)))))) where
         by_itself : (t : Term) (k : ℕ) → Writes (event_text spelling alone t ++ []) (spells_event true alone (names k) t) → Writes (event_text spelling alone t) (spells_event true alone (names k) t)
         by_itself t k g = subst (λ (xs : List ℕ). Writes xs (spells_event true alone (names k) t)) (append-nil (event_text spelling alone t)) g
 
-        pieces : (a b : List ℕ) → codes "try" ++ ((codes " { " ++ (a ++ codes " }")) ++ (codes " catch " ++ (inner_text l ++ (codes " { " ++ (b ++ codes " }"))))) ≡ codes "try { " ++ a ++ codes " } catch " ++ inner_text l ++ codes " { " ++ b ++ codes " }"
+        pieces : (a b : List ℕ) → codes "try" ++ ((codes " { " ++ (a ++ codes " }"))
+            ++ (codes " catch " ++ (inner_text l ++ (codes " { " ++ (b ++ codes " }"))))) ≡ codes "try { " ++ a
+            ++ codes " } catch " ++ inner_text l ++ codes " { " ++ b ++ codes " }"
         pieces a b =
             let more : List ℕ = codes " catch " ++ (inner_text l ++ (codes " { " ++ (b ++ codes " }"))) in
-            let tail : (a ++ codes " }") ++ more ≡ ((((a ++ codes " } catch ") ++ inner_text l) ++ codes " { ") ++ b) ++ codes " }" = three a (codes " }") more ∙ sym (six a (codes " } catch ") (inner_text l) (codes " { ") b (codes " }")) in
+            let tail : (a ++ codes " }") ++ more ≡ ((((a ++ codes " } catch ") ++ inner_text l) ++ codes " { ") ++ b)
+            ++ codes " }" = three a (codes " }") more ∙ sym
+            (six a (codes " } catch ") (inner_text l) (codes " { ") b (codes " }")) in
             ap (λ xs. codes "try { " ++ xs) tail
 
         tried : (a b : List ℕ) → Writes a (spells_event true alone (names l) e) → Writes b (spells_event true alone (with_inner (names l) (inner_text l)) f)
             → Writes (codes "try { " ++ a ++ codes " } catch " ++ inner_text l ++ codes " { " ++ b ++ codes " }")
             (is (word words.Try) ⨟ in_braces (spells_event true alone (names l) e) ⨟ is (word words.Catch) ⨟ binds true (names l) (λ x. in_braces (spells_event true alone (with_inner (names l) x) f)))
         tried a b first second =
-            let bound_then = binds_write l (codes " { " ++ (b ++ codes " }")) (λ x. in_braces (spells_event true alone (with_inner (names l) x) f)) (omega (arith, low)) (λ c d. refl) (braces_write b (spells_event true alone (with_inner (names l) (inner_text l)) f) second) in
-            let caught = then_writes (codes " catch") (32 ∷ (inner_text l ++ (codes " { " ++ (b ++ codes " }")))) (is (word words.Catch)) (binds true (names l) (λ x. in_braces (spells_event true alone (with_inner (names l) x) f))) (blank_writes 32 (codes "catch") (is (word words.Catch)) refl (word_writes words.Catch))
-            (blank_writes 32 (inner_text l ++ (codes " { " ++ (b ++ codes " }"))) (binds true (names l) (λ x. in_braces (spells_event true alone (with_inner (names l) x) f))) refl bound_then) (λ c d. refl) in
+            let bound_then = binds_write l (codes " { " ++ (b ++ codes " }"))
+            (λ x. in_braces (spells_event true alone (with_inner (names l) x) f)) (omega (arith, low))
+            (λ c d. refl) (braces_write b (spells_event true alone (with_inner (names l) (inner_text l)) f)
+            second) in
+            let caught = then_writes (codes " catch") (32 ∷ (inner_text l ++ (codes " { " ++ (b ++ codes " }"))))
+            (is (word words.Catch)) (binds true (names l)
+            (λ x. in_braces (spells_event true alone (with_inner (names l) x) f)))
+            (blank_writes 32 (codes "catch") (is (word words.Catch)) refl (word_writes words.Catch))
+            (blank_writes 32 (inner_text l ++ (codes " { " ++ (b ++ codes " }")))
+            (binds true (names l) (λ x. in_braces (spells_event true alone (with_inner (names l) x) f))) refl
+            bound_then) (λ c d. refl) in
             let event : Span = spells_event true alone (names l) e in
             let handler : Span = binds true (names l) (λ x. in_braces (spells_event true alone (with_inner (names l) x) f)) in
             let tail : List ℕ = codes " catch " ++ (inner_text l ++ (codes " { " ++ (b ++ codes " }"))) in
             let both = then_writes (codes " { " ++ (a ++ codes " }")) tail (in_braces event) (is (word words.Catch) ⨟ handler) (braces_write a event first) caught (λ c d. refl) in
             subst (λ (xs : List ℕ). Writes xs (is (word words.Try) ⨟ in_braces event ⨟ is (word words.Catch) ⨟ handler)) (pieces a b)
-            (then_writes (codes "try") ((codes " { " ++ (a ++ codes " }")) ++ tail) (is (word words.Try)) (in_braces event ⨟ is (word words.Catch) ⨟ handler) (word_writes words.Try) both (λ c d. refl))
+            (then_writes (codes "try") ((codes " { " ++ (a ++ codes " }")) ++ tail) (is (word words.Try))
+            (in_braces event ⨟ is (word words.Catch) ⨟ handler) (word_writes words.Try) both (λ c d. refl))
   event_writes (when test p q e f) at l h low =
       closed_writes at _ _ (
       word_then (codes "if") (word words.If) _ _ (word_writes words.If)
       (subst
-      (λ (xs : List ℕ). Writes xs (spells_primitive true (names l) p ⨟ is (sign (test_sign test)) ⨟ spells_primitive true (names l) q ⨟ in_braces (spells_event true alone (names l) e) ⨟ is (word words.Else) ⨟ in_braces (spells_event true alone (names l) f)))
+      (λ (xs : List ℕ). Writes xs (spells_primitive true (names l) p ⨟ is
+      (sign (test_sign test)) ⨟ spells_primitive true (names l) q ⨟ in_braces
+      (spells_event true alone (names l) e) ⨟ is (word words.Else) ⨟ in_braces (spells_event true alone (names l) f)))
       (sym (eight (primitive_text spelling p) (test_text test) (primitive_text spelling q) (codes " { ") (event_text spelling alone e) (codes " } else { ") (event_text spelling alone f) (codes " }")))
       (condition_writes l test p q _ _ (omega (arith, low)) h.0 h.1 (λ b a. refl)
-      (branches (event_text spelling alone e) (event_text spelling alone f) (by_itself e (event_writes e alone l h.2 (omega (arith, low)))) (by_itself f (event_writes f alone l h.3 (omega (arith, low)))))))) where
+      (branches (event_text spelling alone e) (event_text spelling alone f)
+      (by_itself e (event_writes e alone l h.2 (omega (arith, low))))
+      (by_itself f (event_writes f alone l h.3 (omega (arith, low)))))))) where
         by_itself : (t : Term) → Writes (event_text spelling alone t ++ []) (spells_event true alone (names l) t) → Writes (event_text spelling alone t) (spells_event true alone (names l) t)
         by_itself t g = subst (λ (xs : List ℕ). Writes xs (spells_event true alone (names l) t)) (append-nil (event_text spelling alone t)) g
 
         branches : (a b : List ℕ) → Writes a (spells_event true alone (names l) e) → Writes b (spells_event true alone (names l) f)
-            → Writes (codes " { " ++ (a ++ (codes " } else { " ++ (b ++ codes " }")))) (in_braces (spells_event true alone (names l) e) ⨟ is (word words.Else) ⨟ in_braces (spells_event true alone (names l) f))
+            → Writes (codes " { " ++ (a ++ (codes " } else { " ++ (b ++ codes " }"))))
+            (in_braces (spells_event true alone (names l) e) ⨟ is (word words.Else) ⨟ in_braces
+            (spells_event true alone (names l) f))
         branches a b first second =
             let event : Span = spells_event true alone (names l) e in
             let or_else : Span = spells_event true alone (names l) f in
             let tail : List ℕ = codes " else" ++ (codes " { " ++ (b ++ codes " }")) in
-            let other = then_writes (codes " else") (codes " { " ++ (b ++ codes " }")) (is (word words.Else)) (in_braces or_else) (blank_writes 32 (codes "else") (is (word words.Else)) refl (word_writes words.Else)) (braces_write b or_else second) (λ c d. refl) in
+            let other = then_writes (codes " else") (codes " { " ++ (b ++ codes " }")) (is (word words.Else))
+            (in_braces or_else) (blank_writes 32 (codes "else") (is (word words.Else)) refl
+            (word_writes words.Else)) (braces_write b or_else second) (λ c d. refl) in
             subst (λ (xs : List ℕ). Writes xs (in_braces event ⨟ is (word words.Else) ⨟ in_braces or_else)) (ap (λ xs. codes " { " ++ xs) (append_assoc a (codes " }") tail))
             (then_writes (codes " { " ++ (a ++ codes " }")) tail (in_braces event) (is (word words.Else) ⨟ in_braces or_else) (braces_write a event first) other (λ c d. refl))

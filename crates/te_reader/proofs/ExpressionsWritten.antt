@@ -18,12 +18,16 @@ use Rattle.te_script.proofs.GeneratedKept.{length_each, all_each}
 use Rattle.te_reader.specs.declared.token.Sign.TheVariants as signs
 use Rattle.te_reader.specs.Tokens as tokens
 use Rattle.te_reader.specs.Tokens.{Token, sign}
-use Rattle.te_reader.specs.Grammar.{is, ◌⨟◌, Names, IsAt, IsFreeName, bound_name, arith_sign, spells_variable, spells_integer, spells_primitive, spells_calculation, spells_further, spells_inside, spells_expression}
+use Rattle.te_reader.specs.Grammar.{is, ◌⨟◌, Names, IsAt, IsFreeName, bound_name, arith_sign, spells_variable}
+use Rattle.te_reader.specs.Grammar.{spells_integer, spells_primitive, spells_calculation, spells_further, spells_inside}
+use Rattle.te_reader.specs.Grammar.{spells_expression}
 use Rattle.te_reader.specs.Canonical.{name_at, inner_text, Spelling, variable_text, primitive_text, arith_text, calculation_text, further_text, inside_text, expression_text}
 use Rattle.te_reader.proofs.KeptIsRead.{at_taken, all_taken}
 use Rattle.te_reader.proofs.ListsKept.{all_at, all_weaker, at_more, at_last}
 use Rattle.te_reader.proofs.Regrouped.{three}
-use Rattle.te_reader.proofs.TokensWritten.{Writes, StandsApart, IsOneByte, then_writes, token_writes, inner_ends, name_writes, sign_before, sign_writes, sign_and_blank, blank_writes, named_writes, under_writes, second_writes}
+use Rattle.te_reader.proofs.TokensWritten.{Writes, StandsApart, IsOneByte, then_writes, token_writes, inner_ends}
+use Rattle.te_reader.proofs.TokensWritten.{name_writes, sign_before, sign_writes, sign_and_blank, blank_writes}
+use Rattle.te_reader.proofs.TokensWritten.{named_writes, under_writes, second_writes}
 use Rattle.te_reader.proofs.IntegersWritten.{decimal_writes, integer_writes}
 
 -- ---- names
@@ -70,7 +74,8 @@ names_at channels registers w l = record { channels = channels; registers = take
 abbrev pub scope_at : List (List ℕ) → ℕ → ℕ → Scope
 scope_at channels w l = record { written = w; level = l; channels = length channels }
 
-pub inner_is_free : (channels registers : List (List ℕ)) (w l : ℕ) → AllByRecursion IsName channels → AllByRecursion IsName registers → l ≤ 64 → IsFreeName (names_at channels registers w l) (inner_text l)
+pub inner_is_free : (channels registers : List (List ℕ)) (w l : ℕ) → AllByRecursion IsName channels
+    → AllByRecursion IsName registers → l ≤ 64 → IsFreeName (names_at channels registers w l) (inner_text l)
 inner_is_free channels registers w l named_channels named_registers low = record {
   short = omega (arith, length-decimal-le 2 l (omega arith) (omega (arith, low)) (omega (arith, low)));
   no_channel = all_weaker IsName (λ x. x ≢ inner_text l) (λ x h. no_identifier x (decimal l) h) channels named_channels;
@@ -98,7 +103,8 @@ plus_is = (refl, λ ys. refl)
 star_is : IsOneByte signs.Star 42
 star_is = (refl, λ ys. refl)
 
-module _ (channels registers : List (List ℕ)) (named_channels : AllByRecursion IsName channels) (named_registers : AllByRecursion IsName registers) (w l : ℕ) (written : w ≤ length registers) (low : l ≤ 64) where
+module _ (channels registers : List (List ℕ)) (named_channels : AllByRecursion IsName channels)
+    (named_registers : AllByRecursion IsName registers) (w l : ℕ) (written : w ≤ length registers) (low : l ≤ 64) where
   abbrev spelling : Spelling
   spelling = record { channels = channels; registers = registers }
 
@@ -112,9 +118,13 @@ module _ (channels registers : List (List ℕ)) (named_channels : AllByRecursion
   variable_writes (register r) h =
       let at = at_each registers r (omega (arith, h, written)) in
       let is_name = all_at IsName registers r (name_at registers r) named_registers at in
-      named_writes (name_at registers r) (name_at registers r) (λ n. IsAt (take w registers) r n) (λ n. is (tokens.name n)) (at_taken registers w r (name_at registers r) h at) (name_writes (name_at registers r) is_name.identifier)
+      named_writes (name_at registers r) (name_at registers r) (λ n. IsAt (take w registers) r n)
+      (λ n. is (tokens.name n)) (at_taken registers w r (name_at registers r) h at)
+      (name_writes (name_at registers r) is_name.identifier)
   variable_writes (name n) h =
-      named_writes (inner_text n) (inner_text n) (λ m. IsAt (each inner_text l) n m) bound_name (at_inner l n h) (second_writes (inner_text n) (is (tokens.name (inner_text n))) (is (tokens.inner (inner_text n))) (inner_writes n (omega (arith, h, low))))
+      named_writes (inner_text n) (inner_text n) (λ m. IsAt (each inner_text l) n m) bound_name (at_inner l n h)
+      (second_writes (inner_text n) (is (tokens.name (inner_text n))) (is (tokens.inner (inner_text n)))
+      (inner_writes n (omega (arith, h, low))))
   variable_writes (known v) h = absurd h
 
   pub primitive_writes : (p : Primitive) → IsPrimitive scope p → Writes (primitive_text spelling p) (spells_primitive true names p)
@@ -124,7 +134,9 @@ module _ (channels registers : List (List ℕ)) (named_channels : AllByRecursion
       let is_name = all_at IsName channels c (name_at channels c) named_channels at in
       named_writes (name_at channels c) (name_at channels c) (λ n. IsAt channels c n) (λ n. is (tokens.name n)) at (name_writes (name_at channels c) is_name.identifier)
   primitive_writes (part x d) h =
-      let place : Writes (46 ∷ decimal d) (is (sign signs.Dot) ⨟ spells_integer (pos d)) = sign_before signs.Dot 46 (decimal d) (spells_integer (pos d)) dot_is (decimal_writes d (omega (arith, h.1))) in
+      let place : Writes (46 ∷ decimal d) (is (sign signs.Dot) ⨟ spells_integer (pos d)) =
+      sign_before signs.Dot 46 (decimal d) (spells_integer (pos d)) dot_is
+      (decimal_writes d (omega (arith, h.1))) in
       under_writes (primitive_text spelling (part x d)) (d ≤ 3) (spells_variable true names x ⨟ is (sign signs.Dot) ⨟ spells_integer (pos d)) (omega (arith, h.1))
       (subst (λ (xs : List ℕ). Writes xs (spells_variable true names x ⨟ is (sign signs.Dot) ⨟ spells_integer (pos d))) (sym (three (variable_text spelling x) (codes ".") (decimal d)))
       (then_writes (variable_text spelling x) (46 ∷ decimal d) (spells_variable true names x) (is (sign signs.Dot) ⨟ spells_integer (pos d)) (variable_writes x h.0) place (λ b a. refl)))
@@ -133,7 +145,9 @@ module _ (channels registers : List (List ℕ)) (named_channels : AllByRecursion
   calculation_writes (one p) h = primitive_writes p h
   calculation_writes (both o p q) h =
       subst (λ (xs : List ℕ). Writes xs (spells_calculation true names (both o p q))) (sym (three (primitive_text spelling p) (arith_text o) (primitive_text spelling q)))
-      (then_writes (primitive_text spelling p) (arith_text o ++ primitive_text spelling q) (spells_primitive true names p) (is (sign (arith_sign o)) ⨟ spells_primitive true names q) (primitive_writes p h.0) (by o) (stands o)) where
+      (then_writes (primitive_text spelling p) (arith_text o ++ primitive_text spelling q)
+      (spells_primitive true names p) (is (sign (arith_sign o)) ⨟ spells_primitive true names q)
+      (primitive_writes p h.0) (by o) (stands o)) where
         by : (o : Arith) → Writes (arith_text o ++ primitive_text spelling q) (is (sign (arith_sign o)) ⨟ spells_primitive true names q)
         by ariths.Add = blank_writes 32 _ _ refl (sign_before signs.Plus 43 (32 ∷ primitive_text spelling q) _ plus_is (blank_writes 32 _ _ refl (primitive_writes q h.1)))
         by ariths.Sub = blank_writes 32 _ _ refl (sign_and_blank signs.Minus 45 [] (primitive_text spelling q) _ refl (λ ys. refl) (primitive_writes q h.1))
@@ -148,13 +162,18 @@ module _ (channels registers : List (List ℕ)) (named_channels : AllByRecursion
   further_writes : (cs : List Calculation) → AllByRecursion (IsCalculation scope) cs → Writes (further_text spelling cs ++ codes ")") (spells_further true names cs)
   further_writes [] h = sign_writes signs.Close 41 close_is
   further_writes (c ∷ cs) h = subst (λ (text : List ℕ). Writes text (spells_further true names (c ∷ cs))) (whole_text c cs)
-      (sign_before signs.Comma 44 (32 ∷ (calculation_text spelling c ++ (further_text spelling cs ++ codes ")"))) _ comma_is (blank_writes 32 _ _ refl (then_writes (calculation_text spelling c) (further_text spelling cs ++ codes ")") _ _ (calculation_writes c h.0) (further_writes cs h.1) (stands cs)))) where
-        whole_text : (c : Calculation) (cs : List Calculation) → 44 ∷ 32 ∷ (calculation_text spelling c ++ (further_text spelling cs ++ codes ")")) ≡ (codes ", " ++ calculation_text spelling c ++ further_text spelling cs) ++ codes ")"
-        whole_text c cs = ap (λ xs. 44 ∷ 32 ∷ xs) (sym (append_assoc (calculation_text spelling c) (further_text spelling cs) (codes ")")))
+      (sign_before signs.Comma 44 (32 ∷ (calculation_text spelling c ++ (further_text spelling cs ++ codes ")"))) _
+      comma_is (blank_writes 32 _ _ refl (then_writes (calculation_text spelling c)
+      (further_text spelling cs ++ codes ")") _ _ (calculation_writes c h.0) (further_writes cs h.1) (stands cs))))
+    where
+      whole_text : (c : Calculation) (cs : List Calculation)
+          → 44 ∷ 32 ∷ (calculation_text spelling c ++ (further_text spelling cs ++ codes ")"))
+          ≡ (codes ", " ++ calculation_text spelling c ++ further_text spelling cs) ++ codes ")"
+      whole_text c cs = ap (λ xs. 44 ∷ 32 ∷ xs) (sym (append_assoc (calculation_text spelling c) (further_text spelling cs) (codes ")")))
 
-        stands : (cs : List Calculation) → StandsApart (further_text spelling cs ++ codes ")")
-        stands [] behind apart = refl
-        stands (d ∷ ds) behind apart = refl
+      stands : (cs : List Calculation) → StandsApart (further_text spelling cs ++ codes ")")
+      stands [] behind apart = refl
+      stands (d ∷ ds) behind apart = refl
 
   inside_writes : (cs : List Calculation) → AllByRecursion (IsCalculation scope) cs → Writes (inside_text spelling cs ++ codes ")") (spells_inside true names cs)
   inside_writes [] h = sign_writes signs.Close 41 close_is

@@ -24,8 +24,10 @@ spelled_before parts.Script rs more h = (roles.End ∷ rs, ([], inr (inr (inl re
 spelled_before parts.Channels rs more h = (roles.Sign signs.Semicolon ∷ rs, ([], inr (inl refl), h))
 spelled_before parts.Threads rs more h = (roles.End ∷ rs, ([], inr (inl refl), h))
 spelled_before parts.Statements rs more h = (roles.Sign signs.CloseBrace ∷ rs, ([], inr (inr (inr (inl refl))), h))
-spelled_before parts.Sync rs more h =
-    (roles.Register ∷ roles.Sign signs.Arrow ∷ roles.SyncWord ∷ roles.Leaf words.Never ∷ roles.SyncEnd ∷ rs, (sync_behind [], inl refl, ([], inl refl, ([], inl refl, ([], inr (inl refl), ([], inl refl, h))))))
+spelled_before parts.Sync rs more h = (
+  roles.Register ∷ roles.Sign signs.Arrow ∷ roles.SyncWord ∷ roles.Leaf words.Never ∷ roles.SyncEnd ∷ rs,
+  (sync_behind [], inl refl, ([], inl refl, ([], inl refl, ([], inr (inl refl), ([], inl refl, h))))),
+)
 spelled_before parts.Syncs rs more h = (roles.Sign signs.CloseBrace ∷ rs, ([], inr (inl refl), h))
 spelled_before parts.Event rs more h = (roles.Leaf words.Never ∷ rs, ([], inr (inl refl), h))
 spelled_before parts.Parts rs more h = (roles.Leaf words.Never ∷ roles.Close ∷ rs, (parts.Only roles.Close ∷ [], inr (inr (inl refl)), ([], inl refl, h)))
@@ -75,7 +77,9 @@ one_more rs p more s f l e =
 
 -- ---- what was found stands there
 
-keep_more : (c : Context) (rs : List Role) (ss : List Spot) (d : Context) (r : Role) (s : Spot) → Keep c rs ss d → FitsRole r s → first_broken (rules r d s.head) ≡ None → Keep c (rs ++ r ∷ []) (ss ++ s ∷ []) (context_after r d s.head)
+keep_more : (c : Context) (rs : List Role) (ss : List Spot) (d : Context) (r : Role) (s : Spot) → Keep c rs ss d
+    → FitsRole r s → first_broken (rules r d s.head) ≡ None → Keep c (rs ++ r ∷ []) (ss ++ s ∷ [])
+    (context_after r d s.head)
 keep_more c [] [] d r s k f e = let same : c ≡ d = k in (f, rw same e, ap (λ x. context_after r x s.head) same)
 keep_more c [] (t ∷ ss) d r s k f e = absurd k
 keep_more c (x ∷ rs) [] d r s k f e = absurd k
@@ -93,7 +97,8 @@ Breaks rs c s k =
     ((k ≡ misfit s.head) × ((r : Role) → BeginScript (rs ++ r ∷ []) → FitsRole r s → ⊥))
     ⊎ ((r : Role) × BeginScript (rs ++ r ∷ []) × FitsRole r s × (first_broken (rules r c s.head) ≡ Some k))
 
-fault_of_stand : (all before : List Spot) (rs : List Role) (wanted : List Part) (c : Context) (s : Spot) (ss : List Spot) (k : Cause) → Stand all before rs wanted c (s ∷ ss) → Breaks rs c s k → IsFault all k s.left
+fault_of_stand : (all before : List Spot) (rs : List Role) (wanted : List Part) (c : Context) (s : Spot)
+    (ss : List Spot) (k : Cause) → Stand all before rs wanted c (s ∷ ss) → Breaks rs c s k → IsFault all k s.left
 fault_of_stand all before rs wanted c s ss k st b = record {
   before = before;
   at = s;
@@ -117,7 +122,8 @@ no_role rs p more s l e r b f =
 none_wanted : (rs : List Role) (s : Spot) → Leaves rs [] → (r : Role) → BeginScript (rs ++ r ∷ []) → FitsRole r s → ⊥
 none_wanted rs s l r b f = l.comes_from (r ∷ b.0) (subst (λ (x : List Role). MakeUp x (parts.Script ∷ [])) (append_assoc rs (r ∷ []) b.0) b.1)
 
-found_stands : (all before : List Spot) (rs : List Role) (wanted : List Part) (c : Context) (ss : List Spot) (k : Cause) (at : ℕ) → Stand all before rs wanted c ss → run wanted c ss ≡ Some (found k at) → IsFault all k at
+found_stands : (all before : List Spot) (rs : List Role) (wanted : List Part) (c : Context) (ss : List Spot) (k : Cause)
+    (at : ℕ) → Stand all before rs wanted c ss → run wanted c ss ≡ Some (found k at) → IsFault all k at
 unfolding run
 found_stands all before rs [] c [] k at st e = absurd cc
 found_stands all before rs (p ∷ more) c [] k at st e = absurd cc
@@ -126,7 +132,9 @@ found_stands all before rs [] c (s ∷ ss) k at st e =
     subst (λ (x : Found). IsFault all x.cause x.left) same (fault_of_stand all before rs [] c s ss (misfit s.head) st (inl (refl, none_wanted rs s st.leaves)))
 found_stands all before rs (p ∷ more) c (s ∷ ss) k at st e = by (λ b r w d h g. found_stands all b r w d ss k at h g) (pick p s.head s.dotted) refl e where
   broken : ((b : List Spot) (rs : List Role) (w : List Part) (d : Context) → Stand all b rs w d ss → run w d ss ≡ Some (found k at) → IsFault all k at)
-      → (f : Form) → pick p s.head s.dotted ≡ Some f → (o : Option Cause) → first_broken (rules f.role c s.head) ≡ o → broken_or (run (f.wanted ++ more) (context_after f.role c s.head) ss) s.left o ≡ Some (found k at) → IsFault all k at
+      → (f : Form) → pick p s.head s.dotted ≡ Some f → (o : Option Cause) → first_broken (rules f.role c s.head) ≡ o
+      → broken_or (run (f.wanted ++ more) (context_after f.role c s.head) ss) s.left o ≡ Some (found k at)
+      → IsFault all k at
   broken later f picked None kept e =
       let g = picked_fits p s f picked in
       let next : Stand all (before ++ s ∷ []) (rs ++ f.role ∷ []) (f.wanted ++ more) (context_after f.role c s.head) ss = record {
@@ -172,14 +180,18 @@ here rs (p ∷ more) c s ss k l (inr b) =
     let h = l.comes_from (b.0 ∷ b.1.0) (subst (λ (x : List Role). MakeUp x (parts.Script ∷ [])) (append_assoc rs (b.0 ∷ []) b.1.0) b.1.1) in
     rw (fitting_is_picked p s (form b.0 h.0) h.1 b.2, b.3) refl
 
-there : (rs : List Role) (wanted : List Part) (c : Context) (more : List Role) (before : List Spot) (s : Spot) (ss : List Spot) (d : Context) (k : Cause) → Leaves rs wanted → BeginScript (rs ++ more) → Keep c more before d → Breaks (rs ++ more) d s k
+there : (rs : List Role) (wanted : List Part) (c : Context) (more : List Role) (before : List Spot) (s : Spot)
+    (ss : List Spot) (d : Context) (k : Cause) → Leaves rs wanted → BeginScript (rs ++ more) → Keep c more before d
+    → Breaks (rs ++ more) d s k
     → run wanted c (before ++ s ∷ ss) ≡ Some (found k s.left)
 there rs wanted c [] [] s ss d k l begun kept b =
     let same : c ≡ d = kept in
     here rs wanted c s ss k l (subst (λ (x : List Role). Breaks x c s k) (append-nil rs) (subst (λ (x : Context). Breaks (rs ++ []) x s k) (sym same) b))
 there rs wanted c [] (t ∷ before) s ss d k l begun kept b = absurd kept
 there rs wanted c (r ∷ more) [] s ss d k l begun kept b = absurd kept
-there rs [] c (r ∷ more) (t ∷ before) s ss d k l begun kept b = absurd (l.comes_from (r ∷ (more ++ begun.0)) (subst (λ (x : List Role). MakeUp x (parts.Script ∷ [])) (append_assoc rs (r ∷ more) begun.0) begun.1))
+there rs [] c (r ∷ more) (t ∷ before) s ss d k l begun kept b =
+    absurd (l.comes_from (r ∷ (more ++ begun.0)) (subst (λ (x : List Role). MakeUp x (parts.Script ∷ []))
+    (append_assoc rs (r ∷ more) begun.0) begun.1))
 there rs (p ∷ wanted) c (r ∷ more) (t ∷ before) s ss d k l begun kept b =
     let h = l.comes_from (r ∷ (more ++ begun.0)) (subst (λ (x : List Role). MakeUp x (parts.Script ∷ [])) (append_assoc rs (r ∷ more) begun.0) begun.1) in
     let picked = fitting_is_picked p t (form r h.0) h.1 kept.0 in

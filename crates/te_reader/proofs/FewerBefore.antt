@@ -9,7 +9,10 @@ use Rattle.te_reader.specs.Heads.{word_first, sign_first, bound_first}
 use Rattle.te_reader.specs.Grammar.{Names, EventPlace, alone, in_do, in_choose}
 use Rattle.te_reader.specs.NameReads.{Read, bound_in}
 use Rattle.te_reader.specs.Tallies.{Tally, no_node, tally_with_event}
-use Rattle.te_reader.specs.EventReads.{Parts, made, read_condition, read_braced, read_part, read_do, read_second, read_choose, read_try, read_if, read_leaf, read_one, if_or_one, try_or_other, choose_or_other, do_or_other, read_alone, part_or_last, read_in_do, bar_or_end, read_in_choose, read_standing, read_event}
+use Rattle.te_reader.specs.EventReads.{Parts, made, read_condition, read_braced, read_part, read_do, read_second}
+use Rattle.te_reader.specs.EventReads.{read_choose, read_try, read_if, read_leaf, read_one, if_or_one, try_or_other}
+use Rattle.te_reader.specs.EventReads.{choose_or_other, do_or_other, read_alone, part_or_last, read_in_do, bar_or_end}
+use Rattle.te_reader.specs.EventReads.{read_in_choose, read_standing, read_event}
 use Rattle.te_reader.proofs.NameLemmas.{bind_some}
 use Rattle.te_reader.proofs.BuiltLemmas.{made_within}
 use Rattle.te_reader.proofs.EventIsSpelled.{made_some}

@@ -7,16 +7,23 @@ use Rattle.std.proofs.lemmas.Bool.Decides.{nat_tests}
 use Rattle.te_terms.specs.Expressions.{Expression}
 use Rattle.te_terms.specs.Terms.{Term}
 use Rattle.te_terms.specs.Limits.{IsWithinLimits}
-use Rattle.te_script.specs.Scripts.{Scope, IsExpression, IsEvent, Statement, sync, emit, repeat, Thread, Program, with_register, AreStatements, AreDistinct, AreApart, IsThread, thread_names, IsProgram}
+use Rattle.te_script.specs.Scripts.{Scope, IsExpression, IsEvent, Statement, sync, emit, repeat, Thread, Program}
+use Rattle.te_script.specs.Scripts.{with_register, AreStatements, AreDistinct, AreApart, IsThread, thread_names}
+use Rattle.te_script.specs.Scripts.{IsProgram}
 use Rattle.te_reader.specs.declared.token.Word.TheVariants as words
 use Rattle.te_reader.specs.declared.token.Sign.TheVariants as signs
 use Rattle.te_reader.specs.Tokens as tokens
 use Rattle.te_reader.specs.Tokens.{Token, word, sign}
 use Rattle.te_reader.specs.Heads.{word_first, sign_first, name_first, integer_first}
-use Rattle.te_reader.specs.Grammar.{Span, is, ◌⨟◌, IsAt, IsNew, IsShortName, alone, spells_expression, spells_event, spells_integer, spells_sync, spells_statements, spells_thread, spells_threads, spells_names, spells_channels, spells_program}
+use Rattle.te_reader.specs.Grammar.{Span, is, ◌⨟◌, IsAt, IsNew, IsShortName, alone, spells_expression, spells_event}
+use Rattle.te_reader.specs.Grammar.{spells_integer, spells_sync, spells_statements, spells_thread, spells_threads}
+use Rattle.te_reader.specs.Grammar.{spells_names, spells_channels, spells_program}
 use Rattle.te_reader.specs.NameReads.{Read, names_of, first_place_of, declared_in}
 use Rattle.te_reader.specs.Tallies.{no_node}
-use Rattle.te_reader.specs.Reads.{register_of, read_sync, read_written, read_emit, emit_or_sync, read_statement, read_times, Body, before_body, before_repeat, before_inside, before_brace, more_body, inside_body, read_body, read_thread, read_new_thread, read_threads, read_names, read_channels, read_program}
+use Rattle.te_reader.specs.Reads.{register_of, read_sync, read_written, read_emit, emit_or_sync, read_statement}
+use Rattle.te_reader.specs.Reads.{read_times, Body, before_body, before_repeat, before_inside, before_brace, more_body}
+use Rattle.te_reader.specs.Reads.{inside_body, read_body, read_thread, read_new_thread, read_threads, read_names}
+use Rattle.te_reader.specs.Reads.{read_channels, read_program}
 use Rattle.te_reader.proofs.ListsKept.{all_weaker, all_at}
 use Rattle.te_reader.proofs.ReadIsSpelled.{scope_of}
 use Rattle.te_reader.proofs.SpelledIsRead.{place_found, place_absent, declares, other_sign, InScope, expression_is_read}
@@ -107,12 +114,16 @@ module _ (m : ℕ) (channels registers : List (List ℕ)) (keeps : Registers cha
   in_scope : (w : ℕ) → InScope (names_of channels (take w registers))
   in_scope w = record { channels = keeps.channels_distinct; registers = distinct_taken registers w keeps.distinct; inners = tt; apart = tt }
 
-  emit_is_read : (w : ℕ) (s : Scope) (x : Expression) (ts rest : List Token) → IsExpression s x → (spells_expression true (names_of channels (take w registers)) x ⨟ is (sign signs.Semicolon)) ts rest → read_emit channels (take w registers) ts ≡ Some (x, rest)
+  emit_is_read : (w : ℕ) (s : Scope) (x : Expression) (ts rest : List Token) → IsExpression s x
+      → (spells_expression true (names_of channels (take w registers)) x ⨟ is (sign signs.Semicolon)) ts rest
+      → read_emit channels (take w registers) ts ≡ Some (x, rest)
   unfolding read_emit sign_first
   emit_is_read w s x ts rest scoped h = rw (expression_is_read (names_of channels (take w registers)) (in_scope w) s x ts h.0 scoped h.1, h.2) refl
 
   sync_is_read : (w : ℕ) (t : Term) (ts rest : List Token) → IsEvent (scope_of m (names_of channels (take w registers))) t → IsWithinLimits t
-      → (is (sign signs.Arrow) ⨟ is (word words.Sync) ⨟ spells_event true alone (names_of channels (take w registers)) t ⨟ is (sign signs.Semicolon)) ts rest → read_sync channels (take w registers) ts ≡ Some (t, rest)
+      → (is (sign signs.Arrow) ⨟ is (word words.Sync) ⨟ spells_event true alone
+      (names_of channels (take w registers)) t ⨟ is (sign signs.Semicolon)) ts rest
+      → read_sync channels (take w registers) ts ≡ Some (t, rest)
   unfolding read_sync sign_first word_first
   sync_is_read w t ts rest scoped within h =
       let a = h.2 in
@@ -121,41 +132,56 @@ module _ (m : ℕ) (channels registers : List (List ℕ)) (keeps : Registers cha
       rw (h.1, a.1, event_is_read m t 32 no_node alone (names_of channels (take w registers)) a.0 b.0 (in_scope w) scoped fits (other_sign signs.Dot signs.Semicolon b.0 rest b.2 refl) b.1, b.2) refl
 
   -- the closing brace ends the statements
-  body_ended : (w left : ℕ) (ts rest : List Token) → w ≡ length registers → ts ≡ sign signs.CloseBrace ∷ rest → read_body left channels false (take w registers) ts ≡ Some (record { statements = []; leading = 0; registers = registers }, rest)
+  body_ended : (w left : ℕ) (ts rest : List Token) → w ≡ length registers → ts ≡ sign signs.CloseBrace ∷ rest
+      → read_body left channels false (take w registers) ts ≡ Some
+      (record { statements = []; leading = 0; registers = registers }, rest)
   unfolding read_body sign_first
   body_ended w zero ts rest e f = rw (f, e, whole_taken registers) refl
   body_ended w (suc left) ts rest e f = rw (f, e, whole_taken registers) refl
 
-  statement_then_body : (left w v : ℕ) (s : Statement) (body : Body) (ts after rest : List Token) → sign_first signs.CloseBrace ts ≡ None → word_first words.Repeat ts ≡ None → read_statement channels (take w registers) ts ≡ Some ((s, take v registers), after)
+  statement_then_body : (left w v : ℕ) (s : Statement) (body : Body) (ts after rest : List Token)
+      → sign_first signs.CloseBrace ts ≡ None → word_first words.Repeat ts ≡ None
+      → read_statement channels (take w registers) ts ≡ Some ((s, take v registers), after)
       → read_body left channels false (take v registers) after ≡ Some (body, rest) → read_body (suc left) channels false (take w registers) ts ≡ Some (before_body s body, rest)
   unfolding read_body more_body
   statement_then_body left w v s body ts after rest open_yet no_repeat e f = rw (open_yet, no_repeat, e, f) refl
 
-  repeat_then_body : (left w times : ℕ) (body : Body) (ts behind inside rest : List Token) → ts ≡ word words.Repeat ∷ behind → read_times behind ≡ Some (times, inside) → read_body left channels true (take w registers) inside ≡ Some (body, rest)
+  repeat_then_body : (left w times : ℕ) (body : Body) (ts behind inside rest : List Token)
+      → ts ≡ word words.Repeat ∷ behind → read_times behind ≡ Some (times, inside)
+      → read_body left channels true (take w registers) inside ≡ Some (body, rest)
       → read_body (suc left) channels false (take w registers) ts ≡ Some (before_repeat times body, rest)
   unfolding read_body more_body sign_first word_first
   repeat_then_body left w times body ts behind inside rest begins e f = rw (begins, e, f) refl
 
-  last_then_body : (left w v : ℕ) (s : Statement) (body : Body) (ts after last rest : List Token) → read_written channels (take w registers) ts ≡ Some ((s, take v registers), after) → after ≡ sign signs.CloseBrace ∷ last
+  last_then_body : (left w v : ℕ) (s : Statement) (body : Body) (ts after last rest : List Token)
+      → read_written channels (take w registers) ts ≡ Some ((s, take v registers), after)
+      → after ≡ sign signs.CloseBrace ∷ last
       → read_body left channels false (take v registers) last ≡ Some (body, rest) → read_body (suc left) channels true (take w registers) ts ≡ Some (before_brace s body, rest)
   unfolding read_body inside_body sign_first
   last_then_body left w v s body ts after last rest e close f = rw (e, close, f) refl
 
-  sync_then_syncs : (left w v : ℕ) (s : Statement) (body : Body) (ts after rest : List Token) → read_written channels (take w registers) ts ≡ Some ((s, take v registers), after) → sign_first signs.CloseBrace after ≡ None
+  sync_then_syncs : (left w v : ℕ) (s : Statement) (body : Body) (ts after rest : List Token)
+      → read_written channels (take w registers) ts ≡ Some ((s, take v registers), after)
+      → sign_first signs.CloseBrace after ≡ None
       → read_body left channels true (take v registers) after ≡ Some (body, rest) → read_body (suc left) channels true (take w registers) ts ≡ Some (before_inside s body, rest)
   unfolding read_body inside_body
   sync_then_syncs left w v s body ts after rest e open_yet f = rw (e, open_yet, f) refl
 
-  emit_statement : (w : ℕ) (x : Expression) (ts inside after : List Token) → ts ≡ word words.Emit ∷ inside → read_emit channels (take w registers) inside ≡ Some (x, after) → read_statement channels (take w registers) ts ≡ Some ((emit x, take w registers), after)
+  emit_statement : (w : ℕ) (x : Expression) (ts inside after : List Token) → ts ≡ word words.Emit ∷ inside
+      → read_emit channels (take w registers) inside ≡ Some (x, after)
+      → read_statement channels (take w registers) ts ≡ Some ((emit x, take w registers), after)
   unfolding read_statement word_first
   emit_statement w x ts inside after begins e = rw (begins, e) refl
 
   sync_is_written : (w r : ℕ) (n : List ℕ) (t : Term) (ts inside after : List Token) → ts ≡ tokens.name n ∷ inside → read_sync channels (take w registers) inside ≡ Some (t, after)
-      → register_of channels (take w registers) n ≡ Some (r, take (with_register w r) registers) → read_written channels (take w registers) ts ≡ Some ((sync r t, take (with_register w r) registers), after)
+      → register_of channels (take w registers) n ≡ Some (r, take (with_register w r) registers)
+      → read_written channels (take w registers) ts ≡ Some ((sync r t, take (with_register w r) registers), after)
   unfolding read_written name_first
   sync_is_written w r n t ts inside after begins e f = rw (begins, e, f) refl
 
-  sync_statement : (w v : ℕ) (s : Statement) (n : List ℕ) (ts inside after : List Token) → ts ≡ tokens.name n ∷ inside → read_written channels (take w registers) ts ≡ Some ((s, take v registers), after) → read_statement channels (take w registers) ts ≡ Some ((s, take v registers), after)
+  sync_statement : (w v : ℕ) (s : Statement) (n : List ℕ) (ts inside after : List Token) → ts ≡ tokens.name n ∷ inside
+      → read_written channels (take w registers) ts ≡ Some ((s, take v registers), after)
+      → read_statement channels (take w registers) ts ≡ Some ((s, take v registers), after)
   unfolding read_statement word_first
   sync_statement w v s n ts inside after begins e = ap (λ o. emit_or_sync channels (take w registers) ts o) (no_word ts begins) ∙ e where
     no_word : (us : List Token) → us ≡ tokens.name n ∷ inside → word_first words.Emit us ≡ None
@@ -192,7 +218,8 @@ module _ (m : ℕ) (channels registers : List (List ℕ)) (keeps : Registers cha
   syncs_begin (repeat times count ∷ stmts) w left ts middle h = absurd h
   syncs_begin (sync r t ∷ stmts) w left ts middle h = (nothing_at_name h.0 ts h.1.1.0 h.1.1.1).0
 
-  times_is_read : (times : ℕ) (ts middle rest : List Token) → spells_integer (pos times) ts middle → middle ≡ sign signs.OpenBrace ∷ rest → 0 < times → times ≤ 10000 → read_times ts ≡ Some (times, rest)
+  times_is_read : (times : ℕ) (ts middle rest : List Token) → spells_integer (pos times) ts middle
+      → middle ≡ sign signs.OpenBrace ∷ rest → 0 < times → times ≤ 10000 → read_times ts ≡ Some (times, rest)
   unfolding read_times integer_first sign_first
   times_is_read times ts middle rest h opened some most =
       let a : nat_le 1 times ≡ true = grind (arith, nat_tests, some) in
@@ -200,7 +227,9 @@ module _ (m : ℕ) (channels registers : List (List ℕ)) (keeps : Registers cha
       rw (h.2, h.1, a, b, opened) refl
 
   -- a sync, at the name that it begins with
-  written_is_read : (w r : ℕ) (t : Term) (span : Span) (ts middle : List Token) → w ≤ length registers → r ≤ w → IsEvent (record { written = w; level = 0; channels = m }) t → IsWithinLimits t → (h : spells_sync true channels registers w r t span ts middle)
+  written_is_read : (w r : ℕ) (t : Term) (span : Span) (ts middle : List Token) → w ≤ length registers → r ≤ w
+      → IsEvent (record { written = w; level = 0; channels = m }) t → IsWithinLimits t
+      → (h : spells_sync true channels registers w r t span ts middle)
       → read_written channels (take w registers) ts ≡ Some ((sync r t, take (with_register w r) registers), h.1.1.2.2.2.2.0)
   written_is_read w r t span ts middle written most scope within h =
       let fits = h.1.0 in
@@ -213,8 +242,11 @@ module _ (m : ℕ) (channels registers : List (List ℕ)) (keeps : Registers cha
       let scoped : IsEvent (scope_of m (names_of channels (take w registers))) t = subst (λ (x : ℕ). IsEvent (record { written = x; level = 0; channels = m }) t) (sym long) scope in
       sync_is_written w r h.0 t ts k.0 d.0 k.1 (sync_is_read w t k.0 d.0 scoped within (a.0, a.1, (b.0, b.1, (c.0, c.1, d.1)))) (register_is_read w r h.0 most fits.1 fits.0)
 
-  pub body_is_read : (stmts : List Statement) (w left open_left : ℕ) (ts middle rest : List Token) → w ≤ length registers → length stmts ≤ left → AreStatements m (length registers) w stmts → spells_statements true channels registers w open_left stmts ts middle
-      → middle ≡ sign signs.CloseBrace ∷ rest → read_body left channels (is_open open_left) (take w registers) ts ≡ Some (record { statements = stmts; leading = open_left; registers = registers }, rest)
+  pub body_is_read : (stmts : List Statement) (w left open_left : ℕ) (ts middle rest : List Token)
+      → w ≤ length registers → length stmts ≤ left → AreStatements m (length registers) w stmts
+      → spells_statements true channels registers w open_left stmts ts middle
+      → middle ≡ sign signs.CloseBrace ∷ rest → read_body left channels (is_open open_left) (take w registers) ts ≡ Some
+      (record { statements = stmts; leading = open_left; registers = registers }, rest)
   body_is_read [] w left zero ts middle rest written most order h close = body_ended w left ts rest order (h ∙ close)
   body_is_read [] w left (suc open_left) ts middle rest written most order h close = absurd h
   body_is_read (s ∷ stmts) w zero open_left ts middle rest written most order h close = absurd (omega arith)
@@ -224,7 +256,9 @@ module _ (m : ℕ) (channels registers : List (List ℕ)) (keeps : Registers cha
       let number = k.2 in
       let brace = number.2 in
       let later = body_is_read stmts w left count brace.0 middle rest written (omega arith) order.1 brace.2 close in
-      let inside : read_body left channels true (take w registers) brace.0 ≡ Some (record { statements = stmts; leading = count; registers = registers }, rest) = ap (λ b. read_body left channels b (take w registers) brace.0) (sym (some_open count h.0)) ∙ later in
+      let inside : read_body left channels true (take w registers) brace.0 ≡ Some
+      (record { statements = stmts; leading = count; registers = registers }, rest) =
+      ap (λ b. read_body left channels b (take w registers) brace.0) (sym (some_open count h.0)) ∙ later in
       repeat_then_body left w times _ ts k.0 brace.0 rest k.1 (times_is_read times k.0 number.0 brace.0 number.1 brace.1 order.0.some_times order.0.most) inside
   body_is_read (emit x ∷ stmts) w (suc left) (suc open_left) ts middle rest written most order h close = absurd h
   body_is_read (emit x ∷ stmts) w (suc left) zero ts middle rest written most order h close =
@@ -288,16 +322,21 @@ unfolding read_threads word_first
 no_more_threads zero channels names = refl
 no_more_threads (suc left) channels names = refl
 
-new_thread_is_read : (channels names : List (List ℕ)) (t : Thread) (behind rest : List Token) → read_thread channels behind ≡ Some (t, rest) → IsNew t.name names → read_new_thread channels names behind ≡ Some ((t, names ++ t.name ∷ []), rest)
+new_thread_is_read : (channels names : List (List ℕ)) (t : Thread) (behind rest : List Token)
+    → read_thread channels behind ≡ Some (t, rest) → IsNew t.name names
+    → read_new_thread channels names behind ≡ Some ((t, names ++ t.name ∷ []), rest)
 unfolding read_new_thread
 new_thread_is_read channels names t behind rest e new = rw (e, place_absent names t.name new) refl
 
-thread_then_more : (left : ℕ) (channels names more : List (List ℕ)) (t : Thread) (threads : List Thread) (ts behind after rest : List Token) → ts ≡ word words.Thread ∷ behind → read_new_thread channels names behind ≡ Some ((t, more), after)
+thread_then_more : (left : ℕ) (channels names more : List (List ℕ)) (t : Thread) (threads : List Thread)
+    (ts behind after rest : List Token) → ts ≡ word words.Thread ∷ behind
+    → read_new_thread channels names behind ≡ Some ((t, more), after)
     → read_threads left channels more after ≡ Some (threads, rest) → read_threads (suc left) channels names ts ≡ Some (t ∷ threads, rest)
 unfolding read_threads word_first
 thread_then_more left channels names more t threads ts behind after rest begins e f = rw (begins, e, f) refl
 
-pub threads_are_read : (m : ℕ) (channels : List (List ℕ)) (threads : List Thread) (left : ℕ) (names : List (List ℕ)) (ts : List Token) → AreDistinct channels → length threads ≤ left → AreDistinct (names ++ thread_names threads)
+pub threads_are_read : (m : ℕ) (channels : List (List ℕ)) (threads : List Thread) (left : ℕ) (names : List (List ℕ))
+    (ts : List Token) → AreDistinct channels → length threads ≤ left → AreDistinct (names ++ thread_names threads)
     → AllByRecursion (IsThread m) threads → AllByRecursion (λ t. AreApart t.registers channels) threads → spells_threads true channels threads ts []
     → read_threads left channels names ts ≡ Some (threads, [])
 threads_are_read m channels [] left names ts distinct most apart kept regs h = rw h (no_more_threads left channels names)
@@ -317,11 +356,15 @@ unfolding read_names name_first sign_first
 names_ended zero names ts rest e = rw e refl
 names_ended (suc left) names ts rest e = rw e refl
 
-name_then_more : (left : ℕ) (names more all : List (List ℕ)) (n : List ℕ) (ts behind rest : List Token) → ts ≡ tokens.name n ∷ behind → declared_in 256 names n ≡ Some more → read_names left more behind ≡ Some (all, rest) → read_names (suc left) names ts ≡ Some (all, rest)
+name_then_more : (left : ℕ) (names more all : List (List ℕ)) (n : List ℕ) (ts behind rest : List Token)
+    → ts ≡ tokens.name n ∷ behind → declared_in 256 names n ≡ Some more → read_names left more behind ≡ Some (all, rest)
+    → read_names (suc left) names ts ≡ Some (all, rest)
 unfolding read_names name_first
 name_then_more left names more all n ts behind rest begins e f = rw (begins, e, f) refl
 
-names_are_read : (added : List (List ℕ)) (left : ℕ) (names : List (List ℕ)) (ts middle rest : List Token) → length added ≤ left → length (names ++ added) ≤ 256 → AreDistinct (names ++ added) → spells_names true added ts middle → middle ≡ sign signs.Semicolon ∷ rest
+names_are_read : (added : List (List ℕ)) (left : ℕ) (names : List (List ℕ)) (ts middle rest : List Token)
+    → length added ≤ left → length (names ++ added) ≤ 256 → AreDistinct (names ++ added)
+    → spells_names true added ts middle → middle ≡ sign signs.Semicolon ∷ rest
     → read_names left names ts ≡ Some (names ++ added, rest)
 names_are_read [] left names ts middle rest most few distinct h close = rw (append-nil names) (names_ended left names ts rest (h ∙ close))
 names_are_read (n ∷ added) zero names ts middle rest most few distinct h close = absurd (omega arith)
@@ -332,7 +375,9 @@ names_are_read (n ∷ added) (suc left) names ts middle rest most few distinct h
     let later = names_are_read added left (names ++ n ∷ []) a.0 middle rest (omega arith) (rw joined few) (subst (λ (xs : List (List ℕ)). AreDistinct xs) (sym joined) distinct) a.2 close in
     name_then_more left names (names ++ n ∷ []) (names ++ n ∷ added) n ts a.0 rest a.1 one (later ∙ ap (λ xs. Some (xs, rest)) joined)
 
-pub channels_are_read : (channels : List (List ℕ)) (ts behind middle : List Token) → length channels ≤ 256 → AreDistinct channels → spells_channels true channels ts middle → middle ≡ word words.Thread ∷ behind → read_channels ts ≡ Some (channels, middle)
+pub channels_are_read : (channels : List (List ℕ)) (ts behind middle : List Token) → length channels ≤ 256
+    → AreDistinct channels → spells_channels true channels ts middle → middle ≡ word words.Thread ∷ behind
+    → read_channels ts ≡ Some (channels, middle)
 unfolding read_channels word_first
 channels_are_read [] ts behind middle few distinct h begins = rw (h, begins) refl
 channels_are_read (n ∷ ns) ts behind middle few distinct h begins =
@@ -342,7 +387,8 @@ channels_are_read (n ∷ ns) ts behind middle few distinct h begins =
 
 -- ---- programs
 
-pub threads_begin : (channels : List (List ℕ)) (threads : List Thread) (ts rest : List Token) → 0 < length threads → spells_threads true channels threads ts rest → (behind : List Token) × (ts ≡ word words.Thread ∷ behind)
+pub threads_begin : (channels : List (List ℕ)) (threads : List Thread) (ts rest : List Token) → 0 < length threads
+    → spells_threads true channels threads ts rest → (behind : List Token) × (ts ≡ word words.Thread ∷ behind)
 threads_begin channels [] ts rest some h = absurd (omega arith)
 threads_begin channels (t ∷ threads) ts rest some h = (h.1.1.0, h.1.1.1)
 

@@ -114,14 +114,18 @@ ends_gap in_blanks = inl (refl, tt)
 ends_gap in_comment = inl (refl, tt)
 
 -- a text that is lexed to its end spells what was lexed
-spelled_from : (place : Between) (skipped : ℕ) (text : List ℕ) → (0 < skipped → place ≡ in_blanks) → (lexed_behind place skipped text).whole ≡ true → SpellsFrom place (lexed_behind place skipped text).tokens (drop skipped text)
+spelled_from : (place : Between) (skipped : ℕ) (text : List ℕ) → (0 < skipped → place ≡ in_blanks)
+    → (lexed_behind place skipped text).whole ≡ true → SpellsFrom place (lexed_behind place skipped text).tokens
+    (drop skipped text)
 unfolding lexed_behind
 spelled_from place zero [] only e = ends_gap place
 spelled_from place (suc k) [] only e = ends_gap place
 spelled_from place (suc k) (b ∷ bs) only e = spelled_from place k bs (λ h. only (omega arith)) e
 spelled_from place zero (b ∷ bs) only e = by (piece_at place b bs) refl e (spelled_from (place_after (piece_at place b bs)) (bytes_after (piece_at place b bs)) bs) where
   by : (p : Piece) → piece_at place b bs ≡ p → (before p (lexed_behind (place_after p) (bytes_after p) bs)).whole ≡ true
-      → ((0 < bytes_after p → place_after p ≡ in_blanks) → (lexed_behind (place_after p) (bytes_after p) bs).whole ≡ true → SpellsFrom (place_after p) (lexed_behind (place_after p) (bytes_after p) bs).tokens (drop (bytes_after p) bs))
+      → ((0 < bytes_after p → place_after p ≡ in_blanks) → (lexed_behind (place_after p) (bytes_after p) bs).whole
+      ≡ true → SpellsFrom (place_after p) (lexed_behind (place_after p) (bytes_after p) bs).tokens
+      (drop (bytes_after p) bs))
       → SpellsFrom place (before p (lexed_behind (place_after p) (bytes_after p) bs)).tokens (b ∷ bs)
   by (gap next) f e later = gap_before place next b _ bs (steps_of place next b bs f) (later (λ h. absurd (omega arith)) e)
   by (found t) f e later =

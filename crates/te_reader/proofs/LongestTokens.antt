@@ -240,24 +240,39 @@ token_found b bs t e = by_letter (is_ascii_alphabetic b) refl e where
       let good : Found b bs (sign o.0) = record { is_token = tt; long = rw (l, d, s, m, u, o.2) refl; split = rw (l, d, s, m, u, o.2) refl } in
       subst (λ (x : Token). Found b bs x) (sym o.1) good
 
-  by_inner : (v : Bool) → (b == 95) ≡ v → is_ascii_alphabetic b ≡ false → is_ascii_digit b ≡ false → (b == 60) ≡ false → (b == 45) ≡ false → (if v then found (inner (byte_run is_word_byte b bs)) else one_sign b) ≡ found t → Found b bs t
+  by_inner : (v : Bool) → (b == 95) ≡ v → is_ascii_alphabetic b ≡ false → is_ascii_digit b ≡ false → (b == 60) ≡ false
+      → (b == 45) ≡ false → (if v then found (inner (byte_run is_word_byte b bs)) else one_sign b) ≡ found t
+      → Found b bs t
   by_inner true f l d s m e = let same : inner (byte_run is_word_byte b bs) ≡ t = cc in subst (λ (x : Token). Found b bs x) same (inner_found b bs (eqb-true b 95 f))
   by_inner false f l d s m e = by_other l d s m f e
 
-  by_minus : (v : Bool) → (b == 45) ≡ v → is_ascii_alphabetic b ≡ false → is_ascii_digit b ≡ false → (b == 60) ≡ false → (if v then minus_sign bs else (if b == 95 then found (inner (byte_run is_word_byte b bs)) else one_sign b)) ≡ found t → Found b bs t
+  by_minus : (v : Bool) → (b == 45) ≡ v → is_ascii_alphabetic b ≡ false → is_ascii_digit b ≡ false → (b == 60) ≡ false
+      → (if v then minus_sign bs else (if b == 95 then found (inner (byte_run is_word_byte b bs)) else one_sign b))
+      ≡ found t → Found b bs t
   by_minus true f l d s e = minus_found b bs t (eqb-true b 45 f) e
   by_minus false f l d s e = by_inner (b == 95) refl l d s f e
 
-  by_less : (v : Bool) → (b == 60) ≡ v → is_ascii_alphabetic b ≡ false → is_ascii_digit b ≡ false → (if v then less_sign bs else (if b == 45 then minus_sign bs else (if b == 95 then found (inner (byte_run is_word_byte b bs)) else one_sign b))) ≡ found t → Found b bs t
+  by_less : (v : Bool) → (b == 60) ≡ v → is_ascii_alphabetic b ≡ false → is_ascii_digit b ≡ false
+      → (if v then less_sign bs else (if b == 45 then minus_sign bs else
+      (if b == 95 then found (inner (byte_run is_word_byte b bs)) else one_sign b))) ≡ found t → Found b bs t
   by_less true f l d e = less_found b bs t (eqb-true b 60 f) e
   by_less false f l d e = by_minus (b == 45) refl l d f e
 
-  by_digit : (v : Bool) → is_ascii_digit b ≡ v → is_ascii_alphabetic b ≡ false → (if v then found (integer (byte_run is_ascii_digit b bs)) else (if b == 60 then less_sign bs else (if b == 45 then minus_sign bs else (if b == 95 then found (inner (byte_run is_word_byte b bs)) else one_sign b)))) ≡ found t → Found b bs t
+  by_digit : (v : Bool) → is_ascii_digit b ≡ v → is_ascii_alphabetic b ≡ false
+      → (if v then found (integer (byte_run is_ascii_digit b bs)) else
+      (if b == 60 then less_sign bs else (if b == 45 then minus_sign bs else
+      (if b == 95 then found (inner (byte_run is_word_byte b bs)) else one_sign b)))) ≡ found t → Found b bs t
   by_digit true f l e = let same : integer (byte_run is_ascii_digit b bs) ≡ t = cc in subst (λ (x : Token). Found b bs x) same (digits_found b bs l f)
   by_digit false f l e = by_less (b == 60) refl l f e
 
-  by_letter : (v : Bool) → is_ascii_alphabetic b ≡ v → (if v then found (word_or_name (reserved_as (byte_run is_word_byte b bs)) (byte_run is_word_byte b bs)) else (if is_ascii_digit b then found (integer (byte_run is_ascii_digit b bs)) else (if b == 60 then less_sign bs else (if b == 45 then minus_sign bs else (if b == 95 then found (inner (byte_run is_word_byte b bs)) else one_sign b))))) ≡ found t → Found b bs t
-  by_letter true f e = let same : word_or_name (reserved_as (byte_run is_word_byte b bs)) (byte_run is_word_byte b bs) ≡ t = cc in subst (λ (x : Token). Found b bs x) same (word_found b bs (reserved_as (byte_run is_word_byte b bs)) f refl)
+  by_letter : (v : Bool) → is_ascii_alphabetic b ≡ v → (if v then found
+      (word_or_name (reserved_as (byte_run is_word_byte b bs)) (byte_run is_word_byte b bs)) else
+      (if is_ascii_digit b then found (integer (byte_run is_ascii_digit b bs)) else
+      (if b == 60 then less_sign bs else (if b == 45 then minus_sign bs else
+      (if b == 95 then found (inner (byte_run is_word_byte b bs)) else one_sign b))))) ≡ found t → Found b bs t
+  by_letter true f e = let same : word_or_name (reserved_as (byte_run is_word_byte b bs))
+      (byte_run is_word_byte b bs) ≡ t = cc in subst (λ (x : Token). Found b bs x) same
+      (word_found b bs (reserved_as (byte_run is_word_byte b bs)) f refl)
   by_letter false f e = by_digit (is_ascii_digit b) refl f e
 
 -- no token there is longer

@@ -35,7 +35,9 @@ place_cons x xs n = by (bytes_eq x n) where
   ahead k true e = let up : nat_lt (1 + k) (suc (length xs)) ≡ true = grind (arith, nat_tests) in let one : 1 + k ≡ suc k = omega arith in rw (up, e, one) refl
   ahead k false e = let up : nat_lt (1 + k) (suc (length xs)) ≡ false = grind (arith, nat_tests) in rw (up, e) refl
 
-  by : (b : Bool) → cond (nat_lt (cond (not b) (1 + prefix_len test xs) 0) (suc (length xs))) (Some (cond (not b) (1 + prefix_len test xs) 0)) None ≡ (if b then Some 0 else option_map suc (cond (nat_lt (prefix_len test xs) (length xs)) (Some (prefix_len test xs)) None))
+  by : (b : Bool) → cond (nat_lt (cond (not b) (1 + prefix_len test xs) 0) (suc (length xs)))
+      (Some (cond (not b) (1 + prefix_len test xs) 0)) None ≡ (if b then Some 0 else option_map suc
+      (cond (nat_lt (prefix_len test xs) (length xs)) (Some (prefix_len test xs)) None))
   by true = let up : nat_lt 0 (suc (length xs)) ≡ true = grind (arith, nat_tests) in rw up refl
   by false = ahead (prefix_len test xs) _ refl
 
@@ -47,7 +49,8 @@ no_place n i e = cc
 pub place_is : (names : List (List ℕ)) (n : List ℕ) (i : ℕ) → first_place_of names n ≡ Some i → IsAt names i n × (i < length names)
 place_is [] n i e = absurd (no_place n i e)
 place_is (x ∷ xs) n i e = by (bytes_eq x n) (bytes_eq-Decides x n).0 (first_place_of xs n) (place_is xs n) (sym (place_cons x xs n) ∙ e) where
-  by : (b : Bool) → (b ≡ true → x ≡ n) → (o : Option ℕ) → ((j : ℕ) → o ≡ Some j → IsAt xs j n × (j < length xs)) → (if b then Some 0 else option_map suc o) ≡ Some i → IsAt (x ∷ xs) i n × (i < suc (length xs))
+  by : (b : Bool) → (b ≡ true → x ≡ n) → (o : Option ℕ) → ((j : ℕ) → o ≡ Some j → IsAt xs j n × (j < length xs))
+      → (if b then Some 0 else option_map suc o) ≡ Some i → IsAt (x ∷ xs) i n × (i < suc (length xs))
   by true same o later e = let z : i ≡ 0 = cc in rw z (ap Some (same refl), omega arith)
   by false same None later e = absurd cc
   by false same (Some j) later e = let z : i ≡ suc j = cc in let h = later j refl in rw z (h.0, omega (arith, h.1))

@@ -59,7 +59,9 @@ module _ (names : List (List ℕ)) (n : List ℕ) (old : BTreeMap (Bor (List ℕ
           subst (λ (x : List ℕ). IsAt (names ++ n ∷ []) f.0 x) k.1 (at_more names (n ∷ []) f.0 n f.3),
         )
 
-  module _ (new : BTreeMap (Bor (List ℕ)) ℕ) (number : ℕ) (is : number ≡ length names) (updates : UpdatesBy (λ x y. slice_cmp nat_cmp x.now y.now) (λ k. slice_cmp nat_cmp n k.now) old new (Some number)) (fresh : is_among n names ≡ false) where
+  module _ (new : BTreeMap (Bor (List ℕ)) ℕ) (number : ℕ) (is : number ≡ length names)
+      (updates : UpdatesBy (λ x y. slice_cmp nat_cmp x.now y.now) (λ k. slice_cmp nat_cmp n k.now) old new (Some number))
+      (fresh : is_among n names ≡ false) where
     -- the index knows a new name, and the others as before
     pub still_found : FindsEachName names new
     still_found i m h =

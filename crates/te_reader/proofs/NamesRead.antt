@@ -8,14 +8,18 @@ use Rattle.te_terms.specs.Expressions.{Variable, register, name, known, Primitiv
 use Rattle.te_terms.specs.Terms.{Term, always, never, fresh, throw, send, recv, and_then, choose, catch, when}
 use Rattle.te_script.specs.Names.{IsName}
 use Rattle.te_script.specs.Scripts.{Statement, sync, emit, repeat, Thread, Program, with_register, AreStatements, IsThread, IsProgram, HasNames, IsScript}
-use Rattle.te_terms.proofs.Lists.{AllByRecursion-append}
+use Rattle.te_terms.proofs.Lists.{AllByRecursion-append, whole_taken}
 use Rattle.te_reader.specs.declared.token.Word.TheVariants as words
 use Rattle.te_reader.specs.declared.token.Sign.TheVariants as signs
 use Rattle.te_reader.specs.Tokens as tokens
 use Rattle.te_reader.specs.Tokens.{Token, word, sign, AreTokens}
-use Rattle.te_reader.specs.Grammar.{Span, is, ◌⨟◌, either, some_name, span_under, Names, IsAt, IsFreeName, with_inner, bound_name, binds, spells_variable, spells_integer, spells_primitive, spells_calculation, spells_further, spells_inside, spells_expression, EventPlace, alone, in_do, in_choose, closed_span, closed_do, closed_choose, in_braces, do_parts, test_sign, arith_sign, spells_event, written_names, spells_sync, spells_statements, spells_thread, spells_threads, spells_names, spells_channels, spells_program}
+use Rattle.te_reader.specs.Grammar.{Span, is, ◌⨟◌, either, some_name, span_under, Names, IsAt, IsFreeName, with_inner}
+use Rattle.te_reader.specs.Grammar.{bound_name, binds, spells_variable, spells_integer, spells_primitive}
+use Rattle.te_reader.specs.Grammar.{spells_calculation, spells_further, spells_inside, spells_expression, EventPlace}
+use Rattle.te_reader.specs.Grammar.{alone, in_do, in_choose, closed_span, closed_do, closed_choose, in_braces, do_parts}
+use Rattle.te_reader.specs.Grammar.{test_sign, arith_sign, spells_event, written_names, spells_sync, spells_statements}
+use Rattle.te_reader.specs.Grammar.{spells_thread, spells_threads, spells_names, spells_channels, spells_program}
 use Rattle.te_reader.proofs.KeptIsRead.{next_taken}
-use Rattle.te_terms.proofs.Lists.{whole_taken}
 
 -- ---- behind a span tokens are left
 
@@ -60,7 +64,9 @@ module _ (rules : Bool) (s : Names) where
   leaves_primitive (chan c) = leaves_named _ (λ n. leaves_under rules (IsAt s.channels c n) (is (tokens.name n)) (leaves_is (tokens.name n)))
   leaves_primitive (part x d) =
       leaves_under true (d ≤ 3) (spells_variable rules s x ⨟ is (sign signs.Dot) ⨟ spells_integer (pos d))
-      (leaves_both (spells_variable rules s x) (is (sign signs.Dot) ⨟ spells_integer (pos d)) (leaves_variable x) (leaves_both (is (sign signs.Dot)) (spells_integer (pos d)) (leaves_is (sign signs.Dot)) (leaves_integer (pos d))))
+      (leaves_both (spells_variable rules s x) (is (sign signs.Dot) ⨟ spells_integer (pos d)) (leaves_variable x)
+      (leaves_both (is (sign signs.Dot)) (spells_integer (pos d)) (leaves_is (sign signs.Dot))
+      (leaves_integer (pos d))))
 
   leaves_calculation : (c : Calculation) → Leaves (spells_calculation rules s c)
   leaves_calculation (one p) = leaves_primitive p
@@ -111,7 +117,10 @@ leaves_event rules at s (send p e) =
 leaves_event rules at s (recv p) = leaves_closed at _ (leaves_both (is (word words.Recv)) _ (leaves_is (word words.Recv)) (leaves_primitive rules s p))
 leaves_event rules at s (and_then e n f) =
     let parts : Leaves (binds rules s (λ x. do_parts (spells_event rules alone s e) (spells_event rules in_do (with_inner s x) f))) =
-    leaves_binds rules s _ (λ x. leaves_both (is (sign signs.Arrow)) _ (leaves_is (sign signs.Arrow)) (leaves_both (spells_event rules alone s e) _ (leaves_event rules alone s e) (leaves_both (is (sign signs.Semicolon)) _ (leaves_is (sign signs.Semicolon)) (leaves_event rules in_do (with_inner s x) f)))) in
+    leaves_binds rules s _ (λ x. leaves_both (is (sign signs.Arrow)) _ (leaves_is (sign signs.Arrow))
+    (leaves_both (spells_event rules alone s e) _ (leaves_event rules alone s e)
+    (leaves_both (is (sign signs.Semicolon)) _ (leaves_is (sign signs.Semicolon))
+    (leaves_event rules in_do (with_inner s x) f)))) in
     leaves_closed_do at _ _ (leaves_both (is (word words.Do)) _ (leaves_is (word words.Do)) (leaves_both (is (sign signs.OpenBrace)) _ (leaves_is (sign signs.OpenBrace)) parts)) parts
 leaves_event rules at s (choose e f) =
     let events : Leaves (spells_event rules alone s e ⨟ is (sign signs.Bar) ⨟ spells_event rules in_choose s f) =
@@ -123,21 +132,26 @@ leaves_event rules at s (catch e n h) =
     (leaves_both (is (word words.Catch)) _ (leaves_is (word words.Catch)) (leaves_binds rules s _ (λ x. leaves_braces _ (leaves_event rules alone (with_inner s x) h))))))
 leaves_event rules at s (when test p q e f) =
     leaves_closed at _
-    (leaves_both (is (word words.If)) _ (leaves_is (word words.If)) (leaves_both (spells_primitive rules s p) _ (leaves_primitive rules s p) (leaves_both (is (sign (test_sign test))) _ (leaves_is (sign (test_sign test)))
+    (leaves_both (is (word words.If)) _ (leaves_is (word words.If))
+    (leaves_both (spells_primitive rules s p) _ (leaves_primitive rules s p)
+    (leaves_both (is (sign (test_sign test))) _ (leaves_is (sign (test_sign test)))
     (leaves_both (spells_primitive rules s q) _ (leaves_primitive rules s q) (leaves_both (in_braces (spells_event rules alone s e)) _ (leaves_braces _ (leaves_event rules alone s e))
     (leaves_both (is (word words.Else)) _ (leaves_is (word words.Else)) (leaves_braces _ (leaves_event rules alone s f))))))))
 
 -- ---- registers
 
 -- the first registers are names, and so is the one that is written then
-with_one : (registers : List (List ℕ)) (w r : ℕ) (n : List ℕ) → AllByRecursion IsName (take w registers) → r ≤ w → IsAt registers r n → IsName n → AllByRecursion IsName (take (with_register w r) registers)
+with_one : (registers : List (List ℕ)) (w r : ℕ) (n : List ℕ) → AllByRecursion IsName (take w registers) → r ≤ w
+    → IsAt registers r n → IsName n → AllByRecursion IsName (take (with_register w r) registers)
 with_one registers w r n all most at h = by (nat_lt r w) refl where
   by : (b : Bool) → nat_lt r w ≡ b → AllByRecursion IsName (take (if b then w else suc r) registers)
   by true e = all
   by false e =
       let same : r ≡ w = grind (arith, nat_tests, most, e) in
       let at_w : IsAt registers w n = subst (λ (x : ℕ). IsAt registers x n) same at in
-      subst (λ (x : ℕ). AllByRecursion IsName (take (suc x) registers)) (sym same) (subst (λ xs. AllByRecursion IsName xs) (next_taken registers w n at_w) (AllByRecursion-append IsName (take w registers) n all h))
+      subst (λ (x : ℕ). AllByRecursion IsName (take (suc x) registers)) (sym same)
+      (subst (λ xs. AllByRecursion IsName xs) (next_taken registers w n at_w)
+      (AllByRecursion-append IsName (take w registers) n all h))
 
 -- a NAME at the front, which is short
 first_name : (n : List ℕ) (ts rest : List Token) → length n ≤ 32 → ts ≡ tokens.name n ∷ rest → AreTokens ts → IsName n × AreTokens rest
@@ -155,9 +169,14 @@ sync_named channels registers w r t more ts rest h k =
     let e = leaves_is (sign signs.Semicolon) _ _ a.2.2.2.1 d in
     (h.0, h.1.0.0, first.0, a.2.2.2.0, a.2.2.2.2, e)
 
-registers_named : (m : ℕ) (channels registers : List (List ℕ)) (w left : ℕ) (ss : List Statement) (ts rest : List Token) → AreStatements m (length registers) w ss → AllByRecursion IsName (take w registers)
+registers_named : (m : ℕ) (channels registers : List (List ℕ)) (w left : ℕ) (ss : List Statement) (ts rest : List Token)
+    → AreStatements m (length registers) w ss → AllByRecursion IsName (take w registers)
     → spells_statements true channels registers w left ss ts rest → AreTokens ts → AllByRecursion IsName registers × AreTokens rest
-registers_named m channels registers w zero [] ts rest order all h k = (subst (λ xs. AllByRecursion IsName xs) (whole_taken registers) (subst (λ (x : ℕ). AllByRecursion IsName (take x registers)) order all), subst AreTokens h k)
+registers_named m channels registers w zero [] ts rest order all h k = (
+  subst (λ xs. AllByRecursion IsName xs) (whole_taken registers)
+      (subst (λ (x : ℕ). AllByRecursion IsName (take x registers)) order all),
+  subst AreTokens h k,
+)
 registers_named m channels registers w (suc left) [] ts rest order all h k = absurd h
 registers_named m channels registers w zero (sync r t ∷ ss) ts rest order all h k =
     let s = sync_named channels registers w r t (spells_statements true channels registers (with_register w r) zero ss) ts rest h k in
@@ -202,7 +221,9 @@ thread_named m channels t ts rest kept h k =
     let body = body_named m channels t.registers t.statements _ rest kept.in_order h.1.2.2.2 c in
     (record { name = b.0; registers = body.0 }, body.1)
 
-threads_named : (m : ℕ) (channels : List (List ℕ)) (threads : List Thread) (ts rest : List Token) → AllByRecursion (IsThread m) threads → spells_threads true channels threads ts rest → AreTokens ts → AllByRecursion HasNames threads
+threads_named : (m : ℕ) (channels : List (List ℕ)) (threads : List Thread) (ts rest : List Token)
+    → AllByRecursion (IsThread m) threads → spells_threads true channels threads ts rest → AreTokens ts
+    → AllByRecursion HasNames threads
 threads_named m channels [] ts rest kept h k = tt
 threads_named m channels (t ∷ threads) ts rest kept h k =
     let first = thread_named m channels t ts h.0 kept.0 h.1 k in

@@ -14,8 +14,7 @@ use Rattle.te_reader.specs.Rules.{Context, rules, first_broken, context_after}
 use Rattle.te_reader.specs.Faults.{misfit}
 use Rattle.te_reader.specs.Runs.{found, pick, pick_plain, event_form, parts_form, part_form, is_bound, run}
 use Rattle.te_reader.specs.Finding.{form_seen, is_last, is_end, IsPickedAs, LooksAt, EndsSpots, GoesBehind, first_head}
-use Rattle.te_terms.proofs.Lists.{not_true}
-use Rattle.te_terms.proofs.Lists.{not_false}
+use Rattle.te_terms.proofs.Lists.{not_true, not_false}
 
 bound_parts : (h : Head) → is_bound h ≡ true → parts_form h ≡ part_form h
 bound_parts (token (tokens.name n)) e = refl
@@ -76,7 +75,9 @@ plain_picked parts.Operand h d e = refl
 plain_picked parts.Test h d e = refl
 plain_picked (parts.Only r) h d e = refl
 
-pub last_form : (p : Part) (h : Head) (d : Bool) (o : Option declared.Form) (old new : List Part) → is_last p h ≡ true → option_map form_seen o ≡ pick_plain parts.Event h d → new ≡ parts.Only roles.Close ∷ old → IsPickedAs o old new (pick p h d)
+pub last_form : (p : Part) (h : Head) (d : Bool) (o : Option declared.Form) (old new : List Part) → is_last p h ≡ true
+    → option_map form_seen o ≡ pick_plain parts.Event h d → new ≡ parts.Only roles.Close ∷ old
+    → IsPickedAs o old new (pick p h d)
 last_form p h d o old new e picked more = rw (last_picked p h d e, ← picked) (by o) where
   by : (o : Option declared.Form) → IsPickedAs o old new (option_map (then_also (parts.Only roles.Close)) (option_map form_seen o))
   by None = refl
@@ -95,11 +96,15 @@ pub nothing_wanted : (c : Context) (h : Head) (d : Bool) (left : ℕ) (wanted : 
 unfolding run
 nothing_wanted c h d left wanted ss e look = rw (e, look.1) refl
 
-pub no_form : (c : Context) (h : Head) (d : Bool) (left : ℕ) (p : Part) (old more wanted : List Part) (ss : List Spot) → wanted ≡ p ∷ old → LooksAt h d left ss → IsPickedAs None old more (pick p h d) → run wanted c ss ≡ Some (found (misfit h) left)
+pub no_form : (c : Context) (h : Head) (d : Bool) (left : ℕ) (p : Part) (old more wanted : List Part) (ss : List Spot)
+    → wanted ≡ p ∷ old → LooksAt h d left ss → IsPickedAs None old more (pick p h d)
+    → run wanted c ss ≡ Some (found (misfit h) left)
 unfolding run
 no_form c h d left p old more wanted ss e look picked = rw (e, look.1, picked) refl
 
-pub broken_rule : (c : Context) (h : Head) (d : Bool) (left : ℕ) (p : Part) (f : declared.Form) (old more wanted : List Part) (ss : List Spot) (k : Cause) → wanted ≡ p ∷ old → LooksAt h d left ss → IsPickedAs (Some f) old more (pick p h d)
+pub broken_rule : (c : Context) (h : Head) (d : Bool) (left : ℕ) (p : Part) (f : declared.Form)
+    (old more wanted : List Part) (ss : List Spot) (k : Cause) → wanted ≡ p ∷ old → LooksAt h d left ss
+    → IsPickedAs (Some f) old more (pick p h d)
     → first_broken (rules f.role c h) ≡ Some k → run wanted c ss ≡ Some (found k left)
 unfolding run
 broken_rule c h d left p f old more wanted ss k e look picked broken = rw (e, look.1, picked.1, broken) refl
@@ -110,23 +115,31 @@ no_more [] x = refl
 no_more (q ∷ qs) x = refl
 
 -- one token on
-goes_to : (c : Context) (h : Head) (d : Bool) (left : ℕ) (p : Part) (f : declared.Form) (old more wanted : List Part) (ss : List Spot) → wanted ≡ p ∷ old → (look : LooksAt h d left ss) → IsPickedAs (Some f) old more (pick p h d)
+goes_to : (c : Context) (h : Head) (d : Bool) (left : ℕ) (p : Part) (f : declared.Form) (old more wanted : List Part)
+    (ss : List Spot) → wanted ≡ p ∷ old → (look : LooksAt h d left ss) → IsPickedAs (Some f) old more (pick p h d)
     → first_broken (rules f.role c h) ≡ None → run wanted c ss ≡ run (f.wanted.now ++ more) (context_after f.role c h) look.0
 unfolding run
 goes_to c h d left p f old more wanted ss e look picked kept = rw (e, look.1, picked.1, kept, picked.2) refl
 
-pub ended_there : (c : Context) (h : Head) (d : Bool) (left : ℕ) (p : Part) (f : declared.Form) (old more wanted : List Part) (ss : List Spot) → wanted ≡ p ∷ old → LooksAt h d left ss → IsPickedAs (Some f) old more (pick p h d)
+pub ended_there : (c : Context) (h : Head) (d : Bool) (left : ℕ) (p : Part) (f : declared.Form)
+    (old more wanted : List Part) (ss : List Spot) → wanted ≡ p ∷ old → LooksAt h d left ss
+    → IsPickedAs (Some f) old more (pick p h d)
     → first_broken (rules f.role c h) ≡ None → is_end h ≡ true → run wanted c ss ≡ None
 ended_there c h d left p f old more wanted ss e look picked kept last =
-    goes_to c h d left p f old more wanted ss e look picked kept ∙ ap (run (f.wanted.now ++ more) (context_after f.role c h)) (none h last look.2) ∙ no_more (f.wanted.now ++ more) (context_after f.role c h) where
+    goes_to c h d left p f old more wanted ss e look picked kept
+    ∙ ap (run (f.wanted.now ++ more) (context_after f.role c h)) (none h last look.2) ∙ no_more (f.wanted.now ++ more)
+    (context_after f.role c h) where
       none : (h : Head) → is_end h ≡ true → EndsSpots h look.0 → look.0 ≡ []
       none (token t) e k = absurd cc
       none over e k = k
       none (strange b) e k = k
 
 -- what is wanted, what stands before, and what stands behind are those of the step
-pub went_on : (c : Context) (h : Head) (d : Bool) (left : ℕ) (p : Part) (f : declared.Form) (old more wanted new : List Part) (ss next : List Spot) (next_c : Context) → wanted ≡ p ∷ old → LooksAt h d left ss → IsPickedAs (Some f) old more (pick p h d)
-    → first_broken (rules f.role c h) ≡ None → is_end h ≡ false → next_c ≡ context_after f.role c h → new ≡ f.wanted.now ++ more → GoesBehind (first_head ss) ss next → run wanted c ss ≡ run new next_c next
+pub went_on : (c : Context) (h : Head) (d : Bool) (left : ℕ) (p : Part) (f : declared.Form)
+    (old more wanted new : List Part) (ss next : List Spot) (next_c : Context) → wanted ≡ p ∷ old → LooksAt h d left ss
+    → IsPickedAs (Some f) old more (pick p h d)
+    → first_broken (rules f.role c h) ≡ None → is_end h ≡ false → next_c ≡ context_after f.role c h
+    → new ≡ f.wanted.now ++ more → GoesBehind (first_head ss) ss next → run wanted c ss ≡ run new next_c next
 went_on c h d left p f old more wanted new ss next next_c e look picked kept open_yet is_c is_w behind =
     goes_to c h d left p f old more wanted ss e look picked kept
     ∙ ap (λ x. run x (context_after f.role c h) look.0) (sym is_w) ∙ ap (λ x. run new x look.0) (sym is_c)

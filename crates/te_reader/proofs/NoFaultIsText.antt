@@ -50,11 +50,15 @@ alike_passes [] (t ∷ ts) wanted c a h = absurd a
 alike_passes (s ∷ ss) [] wanted c a h = absurd a
 alike_passes (s ∷ ss) (t ∷ ts) [] c a h = absurd cc
 alike_passes (s ∷ ss) (t ∷ ts) (p ∷ more) c a h = rw (← a.0, ← a.1) (by (λ w d k. alike_passes ss ts w d a.2 k) (pick p s.head s.dotted) h) where
-  broken : ((w : List Part) (d : Context) → run w d ss ≡ None → run w d ts ≡ None) → (f : Form) (o : Option Cause) → broken_or (run (f.wanted ++ more) (context_after f.role c s.head) ss) s.left o ≡ None → broken_or (run (f.wanted ++ more) (context_after f.role c s.head) ts) t.left o ≡ None
+  broken : ((w : List Part) (d : Context) → run w d ss ≡ None → run w d ts ≡ None) → (f : Form) (o : Option Cause)
+      → broken_or (run (f.wanted ++ more) (context_after f.role c s.head) ss) s.left o ≡ None
+      → broken_or (run (f.wanted ++ more) (context_after f.role c s.head) ts) t.left o ≡ None
   broken later f None e = later (f.wanted ++ more) (context_after f.role c s.head) e
   broken later f (Some k) e = absurd cc
 
-  by : ((w : List Part) (d : Context) → run w d ss ≡ None → run w d ts ≡ None) → (o : Option Form) → next_found (λ w d. run w d ss) more c s o ≡ None → next_found (λ w d. run w d ts) more c (record t { head = s.head; dotted = s.dotted }) o ≡ None
+  by : ((w : List Part) (d : Context) → run w d ss ≡ None → run w d ts ≡ None) → (o : Option Form)
+      → next_found (λ w d. run w d ss) more c s o ≡ None → next_found (λ w d. run w d ts) more c
+      (record t { head = s.head; dotted = s.dotted }) o ≡ None
   by later None e = absurd cc
   by later (Some f) e = broken later f (first_broken (rules f.role c s.head)) e
 
@@ -65,7 +69,9 @@ spots_alike place zero [] e = (refl, refl, tt)
 spots_alike place (suc k) [] e = (refl, refl, tt)
 spots_alike place (suc k) (b ∷ bs) e = spots_alike place k bs e
 spots_alike place zero (b ∷ bs) e = by (piece_at place b bs) (spots_alike (place_after (piece_at place b bs)) (bytes_after (piece_at place b bs)) bs) e where
-  by : (p : Piece) → ((lexed_behind (place_after p) (bytes_after p) bs).whole ≡ true → Alike (spots_behind (place_after p) (bytes_after p) bs) (spots_of (lexed_behind (place_after p) (bytes_after p) bs).tokens))
+  by : (p : Piece) → ((lexed_behind (place_after p) (bytes_after p) bs).whole ≡ true
+      → Alike (spots_behind (place_after p) (bytes_after p) bs)
+      (spots_of (lexed_behind (place_after p) (bytes_after p) bs).tokens))
       → (before p (lexed_behind (place_after p) (bytes_after p) bs)).whole ≡ true
       → Alike (spot_before p b (suc (length bs)) (spots_behind (place_after p) (bytes_after p) bs)) (spots_of (before p (lexed_behind (place_after p) (bytes_after p) bs)).tokens)
   by (gap next) later e = later e
@@ -174,7 +180,17 @@ no_fault_is_text bytes e =
       by small h false w = absurd (never_passed in_blanks 0 bytes (parts.Script ∷ []) nothing_before w h)
       by small h true w =
           let g = program_passed (lexed bytes).tokens (alike_passes (spots bytes) (spots_of (lexed bytes).tokens) (parts.Script ∷ []) nothing_before (spots_alike in_blanks 0 bytes w) h) in
-          record { program = g.program; text = record { size = grind (arith, nat_tests, small); tokens = (lexed bytes).tokens; spelled = lexed_is_spelled bytes w; grammar = g.spelled; kept = g.kept } }
+          record {
+            program = g.program;
+            text = record {
+              size = grind (arith, nat_tests, small);
+              tokens =
+                  (lexed bytes).tokens;
+              spelled = lexed_is_spelled bytes w;
+              grammar = g.spelled;
+              kept = g.kept;
+            };
+          }
 
 pub text_has_no_fault : (bytes : List ℕ) (p : Program) → Text bytes p → fault_of bytes ≡ None
 unfolding fault_of
@@ -183,6 +199,9 @@ text_has_no_fault bytes p text =
     let whole : (lexed bytes).whole ≡ true = ap (λ s. s.whole) lexed_as in
     let same : (lexed bytes).tokens ≡ text.tokens = ap (λ s. s.tokens) lexed_as in
     let small : nat_le (length bytes) 1048576 ≡ true = grind (arith, nat_tests, text.size) in
-    let goes : run (parts.Script ∷ []) nothing_before (spots_of (lexed bytes).tokens) ≡ None = ap (λ ts. run (parts.Script ∷ []) nothing_before (spots_of ts)) same ∙ program_goes p text.kept text.tokens text.grammar in
-    let passes = alike_passes (spots_of (lexed bytes).tokens) (spots bytes) (parts.Script ∷ []) nothing_before (alike_back (spots bytes) (spots_of (lexed bytes).tokens) (spots_alike in_blanks 0 bytes whole)) goes in
+    let goes : run (parts.Script ∷ []) nothing_before (spots_of (lexed bytes).tokens) ≡ None =
+    ap (λ ts. run (parts.Script ∷ []) nothing_before (spots_of ts)) same
+    ∙ program_goes p text.kept text.tokens text.grammar in
+    let passes = alike_passes (spots_of (lexed bytes).tokens) (spots bytes) (parts.Script ∷ []) nothing_before
+    (alike_back (spots bytes) (spots_of (lexed bytes).tokens) (spots_alike in_blanks 0 bytes whole)) goes in
     rw (small, passes) refl

@@ -27,8 +27,7 @@ use Rattle.te_reader.specs.Tallies.{Tally, one_node, one_channel, tally_with_eve
 use Rattle.te_reader.proofs.TallyLemmas.{tally_same}
 use Rattle.te_reader.proofs.Passing.{spots_of, dotted, names_in, at, at_same, reaching_same}
 use Rattle.te_reader.proofs.EventPasses.{reached, cut, settled_deeper, fresh_bar, opened_at, with_inners, take_front, PartAndMore, EventAndMore, ClosedEvent, parts_as_event}
-use Rattle.te_terms.proofs.Lists.{whole_taken}
-use Rattle.te_terms.proofs.Lists.{deeper}
+use Rattle.te_terms.proofs.Lists.{whole_taken, deeper}
 use Rattle.te_reader.proofs.EventIsRead.{some_height}
 use Rattle.te_reader.proofs.PassedExpressions.{Passed, went, kept_first, took_sign, took_word, scope_in, operand_passed, expression_passed}
 
@@ -77,7 +76,8 @@ AloneWithin k =
 
 abbrev InDoWithin : ℕ → Type 0
 InDoWithin k =
-    (c : Context) (b b0 : Brace) (bs : List Brace) (n : Tally) (more : List Part) (ts : List Token) → length ts ≤ k → c.calculations ≡ 0 → b.outer ≤ length c.inners → Passed (parts.Parts ∷ more) (at c b (b0 ∷ bs) n) ts
+    (c : Context) (b b0 : Brace) (bs : List Brace) (n : Tally) (more : List Part) (ts : List Token) → length ts ≤ k
+    → c.calculations ≡ 0 → b.outer ≤ length c.inners → Passed (parts.Parts ∷ more) (at c b (b0 ∷ bs) n) ts
     → EventPassed in_do more n (behind_closed c b b0 bs n) c ts
 
 abbrev InChooseWithin : ℕ → Type 0
@@ -165,8 +165,12 @@ record PartPassed (more : List Part) (c : Context) (b b0 : Brace) (bs : List Bra
   later : Passed more (behind_closed c b b0 bs n (and_then first (length c.inners) second)) rest
   shorter : length rest < length ts
 
-part_passed : (k : ℕ) → Within k → (x : List ℕ) (c : Context) (b b0 : Brace) (bs : List Brace) (n : Tally) (more : List Part) (ts m : List Token) → length m ≤ k → length m < length ts → c.calculations ≡ 0 → b.outer ≤ length c.inners → bound_name x ts m
-    → first_broken (check (may_not_be_bound c x) causes.Shadow ∷ too_long x ∷ []) ≡ None → Passed (bound_event (parts.Parts ∷ more)) (at (record c { bound = x ∷ c.bound }) (behind_name b) (b0 ∷ bs) (one_node n)) m → PartPassed more c b b0 bs n ts
+part_passed : (k : ℕ) → Within k → (x : List ℕ) (c : Context) (b b0 : Brace) (bs : List Brace) (n : Tally)
+    (more : List Part) (ts m : List Token) → length m ≤ k → length m < length ts → c.calculations ≡ 0
+    → b.outer ≤ length c.inners → bound_name x ts m
+    → first_broken (check (may_not_be_bound c x) causes.Shadow ∷ too_long x ∷ []) ≡ None
+    → Passed (bound_event (parts.Parts ∷ more)) (at (record c { bound = x ∷ c.bound }) (behind_name b) (b0 ∷ bs)
+    (one_node n)) m → PartPassed more c b b0 bs n ts
 part_passed k w x c b b0 bs n more ts m short less none room named kept h =
     let inside = record c { bound = x ∷ c.bound } in
     let outside = with_inners c (c.inners ++ x ∷ []) in
@@ -175,7 +179,9 @@ part_passed k w x c b b0 bs n more ts m short less none room named kept h =
     let e = w.by_itself inside b1 (b0 ∷ bs) (one_node n) (parts.Only roles.PartEnd ∷ parts.Parts ∷ more) arrow.rest (omega (arith, short, ap length arrow.is)) none arrow.later in
     let b2 = reached b1 e.value in
     let last = took_sign signs.Semicolon roles.PartEnd (parts.Parts ∷ more) (at inside b2 (b0 ∷ bs) (tally_with_event (one_node n) e.value)) e.rest (λ h d. refl) e.later in
-    let f = w.after_part outside b2 b0 bs (tally_with_event (one_node n) e.value) more last.rest (omega (arith, short, ap length arrow.is, e.shorter, ap length last.is)) none (omega (arith, room, length-append c.inners (x ∷ []))) last.later in
+    let f = w.after_part outside b2 b0 bs (tally_with_event (one_node n) e.value) more last.rest
+    (omega (arith, short, ap length arrow.is, e.shorter, ap length last.is)) none
+    (omega (arith, room, length-append c.inners (x ∷ []))) last.later in
     record {
       first = e.value;
       second = f.value;
@@ -184,9 +190,13 @@ part_passed k w x c b b0 bs n more ts m short less none room named kept h =
       spelled = (x, (free_name c x kept, (m, named, (arrow.rest, arrow.is, (e.rest, e.spelled, (last.rest, last.is, f.spelled))))));
       scoped_first = e.scoped;
       scoped_second = scope_more c x f.value f.scoped;
-      later = sym (ap (λ y. run more (at (with_inners c y) (reaching (depth_within (reached b2 f.value)) b0) bs (tally_with_event (tally_with_event (one_node n) e.value) f.value)) (spots_of f.rest)) (take_front b.outer c.inners (x ∷ []) room)
+      later = sym (ap (λ y. run more (at (with_inners c y) (reaching (depth_within (reached b2 f.value)) b0) bs
+          (tally_with_event (tally_with_event (one_node n) e.value) f.value)) (spots_of f.rest))
+          (take_front b.outer c.inners (x ∷ []) room)
           ∙ ap (λ y. run more y (spots_of f.rest))
-          (at_same (cut b c) _ _ bs _ _ (reaching_same b0 _ _ (ap (λ k. max b0.deepest (max b.settled k)) (deeper b.deepest b.level (height e.value) (height f.value) (some_height e.value) (some_height f.value)))) (tally_same _ _ (omega arith) (omega arith)))) ∙ f.later;
+          (at_same (cut b c) _ _ bs _ _ (reaching_same b0 _ _
+          (ap (λ k. max b0.deepest (max b.settled k)) (deeper b.deepest b.level (height e.value) (height f.value)
+          (some_height e.value) (some_height f.value)))) (tally_same _ _ (omega arith) (omega arith)))) ∙ f.later;
       shorter = omega (arith, less, ap length arrow.is, e.shorter, ap length last.is, f.shorter);
     }
 
@@ -216,7 +226,8 @@ record ChoicePassed (more : List Part) (c : Context) (b b0 : Brace) (bs : List B
   later : Passed more (behind_closed c (fresh_bar b) b0 bs n (choose first second)) rest
   shorter : length rest < length ts
 
-choice_passed : (k : ℕ) → Within k → (c : Context) (b b0 : Brace) (bs : List Brace) (n : Tally) (more tail : List Part) (ts m : List Token) → length m ≤ k → c.calculations ≡ 0 → b.outer ≤ length c.inners
+choice_passed : (k : ℕ) → Within k → (c : Context) (b b0 : Brace) (bs : List Brace) (n : Tally) (more tail : List Part)
+    (ts m : List Token) → length m ≤ k → c.calculations ≡ 0 → b.outer ≤ length c.inners
     → (e : EventPassed alone tail n (behind_alone c (fresh_bar b) (b0 ∷ bs) n) c ts) → e.rest ≡ sign signs.Bar ∷ m
     → Passed (parts.Event ∷ parts.Bars ∷ more) (at c (behind_bar (reached (fresh_bar b) e.value)) (b0 ∷ bs) (one_node (tally_with_event n e.value))) m → ChoicePassed more c b b0 bs n ts
 choice_passed k w c b b0 bs n more tail ts m short none room e is h =
@@ -231,7 +242,9 @@ choice_passed k w c b b0 bs n more tail ts m short none room e is h =
       scoped_first = e.scoped;
       scoped_second = f.scoped;
       later = sym (ap (λ y. run more y (spots_of f.rest))
-          (at_same (cut b c) _ _ bs _ _ (reaching_same b0 _ _ (ap (λ x. max b0.deepest x) (settled_deeper b.settled b.level (height e.value) (height f.value) (some_height e.value) (some_height f.value)))) (tally_same _ _ (omega arith) (omega arith)))) ∙ f.later;
+          (at_same (cut b c) _ _ bs _ _ (reaching_same b0 _ _
+          (ap (λ x. max b0.deepest x) (settled_deeper b.settled b.level (height e.value) (height f.value)
+          (some_height e.value) (some_height f.value)))) (tally_same _ _ (omega arith) (omega arith)))) ∙ f.later;
       shorter = omega (arith, e.shorter, ap length is, f.shorter);
     }
 
@@ -248,8 +261,11 @@ record CatchPassed (more : List Part) (c : Context) (b : Brace) (bs : List Brace
   later : Passed more (at c (reaching (suc b.level + height value - 1) b) bs (tally_with_event n value)) rest
   shorter : length rest < length ts
 
-caught : (k : ℕ) → AloneWithin k → (x : List ℕ) (c : Context) (b : Brace) (bs : List Brace) (n : Tally) (more : List Part) (ts m : List Token) → length m ≤ k → length m < length ts → c.calculations ≡ 0 → bound_name x ts m → IsFreeName (names_in c) x
-    → Passed (parts.Only (roles.Sign signs.OpenBrace) ∷ parts.Event ∷ parts.Only roles.Close ∷ more) (at (with_inners c (c.inners ++ x ∷ [])) (opened_at (suc b.level) c) (b ∷ bs) n) m → CatchPassed more c b bs n ts
+caught : (k : ℕ) → AloneWithin k → (x : List ℕ) (c : Context) (b : Brace) (bs : List Brace) (n : Tally)
+    (more : List Part) (ts m : List Token) → length m ≤ k → length m < length ts → c.calculations ≡ 0
+    → bound_name x ts m → IsFreeName (names_in c) x
+    → Passed (parts.Only (roles.Sign signs.OpenBrace) ∷ parts.Event ∷ parts.Only roles.Close ∷ more)
+    (at (with_inners c (c.inners ++ x ∷ [])) (opened_at (suc b.level) c) (b ∷ bs) n) m → CatchPassed more c b bs n ts
 caught k a x c b bs n more ts m short less none named free h =
     let i = opened_at (suc b.level) c in
     let inside = with_inners c (c.inners ++ x ∷ []) in
@@ -264,7 +280,9 @@ caught k a x c b bs n more ts m short less none named free h =
       free = free;
       spelled = (m, named, (first.rest, first.is, (e.rest, e.spelled, last.is)));
       scoped = scope_more c x e.value e.scoped;
-      later = sym (ap (λ y. run more (at (with_inners c y) (reaching (depth_within (reached i e.value)) b) bs (tally_with_event n e.value)) (spots_of last.rest)) (take_front (length c.inners) c.inners (x ∷ []) (omega arith) ∙ whole_taken c.inners)
+      later = sym (ap (λ y. run more (at (with_inners c y) (reaching (depth_within (reached i e.value)) b) bs
+          (tally_with_event n e.value)) (spots_of last.rest)) (take_front (length c.inners) c.inners (x ∷ [])
+          (omega arith) ∙ whole_taken c.inners)
           ∙ ap (λ y. run more y (spots_of last.rest)) (at_same c _ _ bs _ _ (reaching_same b _ _ (omega arith)) refl)) ∙ last.later;
       shorter = omega (arith, less, ap length first.is, e.shorter, ap length last.is);
     }
@@ -292,7 +310,9 @@ test_passed more c (t ∷ ts) h = absurd cc
 
 -- ---- an event by itself
 
-leaf_later : (c : Context) (b : Brace) (bs : List Brace) (n after : Tally) (h k m : ℕ) (more : List Part) (rest : List Token) → h ≡ 1 → after.nodes ≡ n.nodes + k → after.fresh ≡ n.fresh + m → Passed more (at c (reaching b.level b) bs after) rest
+leaf_later : (c : Context) (b : Brace) (bs : List Brace) (n after : Tally) (h k m : ℕ) (more : List Part)
+    (rest : List Token) → h ≡ 1 → after.nodes ≡ n.nodes + k → after.fresh ≡ n.fresh + m
+    → Passed more (at c (reaching b.level b) bs after) rest
     → Passed more (at c (reaching (b.level + h - 1) b) bs (record { nodes = n.nodes + k; fresh = n.fresh + m })) rest
 leaf_later c b bs n after h k m more rest e f g p = sym (ap (λ x. run more x (spots_of rest)) (at_same c _ _ bs _ _ (ap (λ d. reaching d b) (omega (arith, e))) (tally_same _ _ f g))) ∙ p
 
@@ -303,21 +323,57 @@ alone_step k w c b bs n more (word words.Always ∷ ts) short none h =
     let d = at c (reaching b.level b) bs (one_node n) in
     let u = went (roles.Leaf words.Always) (parts.Expression ∷ []) more (at c b bs n) (word words.Always) ts (dotted ts) h in
     let e = expression_passed more d ts none u.1 in
-    record { value = always e.value; few = λ h. omega (arith, h); rest = e.rest; spelled = (ts, refl, e.spelled); scoped = e.scoped; later = leaf_later c b bs n (one_node n) 1 1 0 more e.rest refl (omega arith) (omega arith) e.later; shorter = omega (arith, e.shorter) }
+    record {
+      value = always e.value;
+      few = λ h. omega (arith, h);
+      rest = e.rest;
+      spelled = (ts, refl, e.spelled);
+      scoped = e.scoped;
+      later = leaf_later c b bs n (one_node n) 1 1 0 more e.rest refl (omega arith)
+          (omega arith) e.later;
+      shorter = omega (arith, e.shorter);
+    }
 alone_step k w c b bs n more (word words.Never ∷ ts) short none h =
     let u = went (roles.Leaf words.Never) [] more (at c b bs n) (word words.Never) ts (dotted ts) h in
-    record { value = never; few = λ h. omega (arith, h); rest = ts; spelled = refl; scoped = tt; later = leaf_later c b bs n (one_node n) 1 1 0 more ts refl (omega arith) (omega arith) u.1; shorter = omega arith }
+    record {
+      value = never;
+      few = λ h. omega (arith, h);
+      rest = ts;
+      spelled = refl;
+      scoped = tt;
+      later =
+          leaf_later c b bs n (one_node n) 1 1 0 more ts refl (omega arith) (omega arith) u.1;
+      shorter = omega arith;
+    }
 alone_step k w c b bs n more (word words.Fresh ∷ ts) short none h =
     let u = went roles.Fresh [] more (at c b bs n) (word words.Fresh) ts (dotted ts) h in
     let a = kept_first (nat_lt 32 (length (b ∷ bs))) (causes.Limit limits.Depth) (check (nat_le 16 n.fresh) (causes.Limit limits.Fresh) ∷ []) u.0 in
     let d = kept_first (nat_le 16 n.fresh) (causes.Limit limits.Fresh) [] a.1 in
     let room : n.fresh < 16 = grind (arith, nat_tests, d.0) in
-    record { value = fresh; few = λ h. omega (arith, room); rest = ts; spelled = refl; scoped = tt; later = leaf_later c b bs n (one_channel n) 1 1 1 more ts refl (omega arith) (omega arith) u.1; shorter = omega arith }
+    record {
+      value = fresh;
+      few = λ h. omega (arith, room);
+      rest = ts;
+      spelled = refl;
+      scoped = tt;
+      later =
+          leaf_later c b bs n (one_channel n) 1 1 1 more ts refl (omega arith) (omega arith) u.1;
+      shorter = omega arith;
+    }
 alone_step k w c b bs n more (word words.Throw ∷ ts) short none h =
     let d = at c (reaching b.level b) bs (one_node n) in
     let u = went (roles.Leaf words.Throw) (parts.Expression ∷ []) more (at c b bs n) (word words.Throw) ts (dotted ts) h in
     let e = expression_passed more d ts none u.1 in
-    record { value = throw e.value; few = λ h. omega (arith, h); rest = e.rest; spelled = (ts, refl, e.spelled); scoped = e.scoped; later = leaf_later c b bs n (one_node n) 1 1 0 more e.rest refl (omega arith) (omega arith) e.later; shorter = omega (arith, e.shorter) }
+    record {
+      value = throw e.value;
+      few = λ h. omega (arith, h);
+      rest = e.rest;
+      spelled = (ts, refl, e.spelled);
+      scoped = e.scoped;
+      later = leaf_later c b bs n (one_node n) 1 1 0 more e.rest refl (omega arith)
+          (omega arith) e.later;
+      shorter = omega (arith, e.shorter);
+    }
 alone_step k w c b bs n more (word words.Send ∷ ts) short none h =
     let d = at c (reaching b.level b) bs (one_node n) in
     let u = went (roles.Leaf words.Send) (parts.Operand ∷ parts.Expression ∷ []) more (at c b bs n) (word words.Send) ts (dotted ts) h in
@@ -336,7 +392,16 @@ alone_step k w c b bs n more (word words.Recv ∷ ts) short none h =
     let d = at c (reaching b.level b) bs (one_node n) in
     let u = went (roles.Leaf words.Recv) (parts.Operand ∷ []) more (at c b bs n) (word words.Recv) ts (dotted ts) h in
     let p = operand_passed more d ts u.1 in
-    record { value = recv p.value; few = λ h. omega (arith, h); rest = p.rest; spelled = (ts, refl, p.spelled); scoped = p.scoped; later = leaf_later c b bs n (one_node n) 1 1 0 more p.rest refl (omega arith) (omega arith) p.later; shorter = omega (arith, p.shorter) }
+    record {
+      value = recv p.value;
+      few = λ h. omega (arith, h);
+      rest = p.rest;
+      spelled = (ts, refl, p.spelled);
+      scoped =
+          p.scoped;
+      later = leaf_later c b bs n (one_node n) 1 1 0 more p.rest refl (omega arith) (omega arith) p.later;
+      shorter = omega (arith, p.shorter);
+    }
 alone_step k w c b bs n more (word words.Do ∷ ts) short none h =
     let i = opened_at b.level c in
     let u = went (roles.Chain words.Do) (parts.Only roles.OpenChain ∷ parts.Only roles.PartName ∷ bound_event (parts.Parts ∷ [])) more (at c b bs n) (word words.Do) ts (dotted ts) h in
@@ -359,7 +424,9 @@ alone_step k w c b bs n more (word words.Choose ∷ ts) short none h =
     let first = took_sign signs.OpenBrace roles.OpenChain (parts.Event ∷ parts.Only roles.Bar ∷ parts.Event ∷ parts.Bars ∷ more) (at c b bs n) ts (λ h d. refl) u.1 in
     let e = w.by_itself c i (b ∷ bs) n (parts.Only roles.Bar ∷ parts.Event ∷ parts.Bars ∷ more) first.rest (omega (arith, short, ap length first.is)) none first.later in
     let bar = took_sign signs.Bar roles.Bar (parts.Event ∷ parts.Bars ∷ more) (at c (reached i e.value) (b ∷ bs) (tally_with_event n e.value)) e.rest (λ h d. refl) e.later in
-    let p = choice_passed k w c i b bs n more (parts.Only roles.Bar ∷ parts.Event ∷ parts.Bars ∷ more) first.rest bar.rest (omega (arith, short, ap length first.is, e.shorter, ap length bar.is)) none (omega arith) e bar.is bar.later in
+    let p = choice_passed k w c i b bs n more (parts.Only roles.Bar ∷ parts.Event ∷ parts.Bars ∷ more) first.rest
+    bar.rest (omega (arith, short, ap length first.is, e.shorter, ap length bar.is)) none
+    (omega arith) e bar.is bar.later in
     let t = choose p.first p.second in
     record {
       value = t;
@@ -387,7 +454,9 @@ alone_step k w c b bs n more (word words.Try ∷ ts) short none h =
       spelled = (ts, refl, (e.rest, e.spelled, (m.rest, m.is, (f.name, (f.free, f.spelled)))));
       scoped = (refl, e.scoped, f.scoped);
       later = sym (ap (λ y. run more y (spots_of f.rest))
-          (at_same c _ _ bs _ _ (ap (λ x. record b { deepest = x }) (deeper b.deepest b.level (height e.value) (height f.value) (some_height e.value) (some_height f.value))) (tally_same _ _ (omega arith) (omega arith)))) ∙ f.later;
+          (at_same c _ _ bs _ _ (ap (λ x. record b { deepest = x })
+          (deeper b.deepest b.level (height e.value) (height f.value) (some_height e.value) (some_height f.value)))
+          (tally_same _ _ (omega arith) (omega arith)))) ∙ f.later;
       shorter = omega (arith, e.shorter, ap length m.is, f.shorter);
     }
 alone_step k w c b bs n more (word words.If ∷ ts) short none h =
@@ -412,7 +481,9 @@ alone_step k w c b bs n more (word words.If ∷ ts) short none h =
       spelled = (ts, refl, (p.rest, p.spelled, (o.1, o.2, (q.rest, q.spelled, (e.rest, e.spelled, (m.rest, m.is, f.spelled))))));
       scoped = (p.scoped, q.scoped, e.scoped, f.scoped);
       later = sym (ap (λ y. run more y (spots_of f.rest))
-          (at_same c _ _ bs _ _ (ap (λ x. record b { deepest = x }) (deeper b.deepest b.level (height e.value) (height f.value) (some_height e.value) (some_height f.value))) (tally_same _ _ (omega arith) (omega arith)))) ∙ f.later;
+          (at_same c _ _ bs _ _ (ap (λ x. record b { deepest = x })
+          (deeper b.deepest b.level (height e.value) (height f.value) (some_height e.value) (some_height f.value)))
+          (tally_same _ _ (omega arith) (omega arith)))) ∙ f.later;
       shorter = omega (arith, p.shorter, long, q.shorter, e.shorter, ap length m.is, f.shorter);
     }
 alone_step k w c b bs n more (t ∷ ts) short none h = absurd cc
@@ -425,11 +496,27 @@ in_do_step k w a c b b0 bs n more [] short none room h = absurd cc
 in_do_step k w a c b b0 bs n more (tokens.name x ∷ ts) short none room h =
     let u = went roles.PartName (bound_event (parts.Parts ∷ [])) more (at c b (b0 ∷ bs) n) (tokens.name x) ts (dotted ts) h in
     let p = part_passed k w x c b b0 bs n more (tokens.name x ∷ ts) ts (omega (arith, short)) (omega arith) none room (inl refl) u.0 u.1 in
-    record { value = and_then p.first (length c.inners) p.second; few = λ h. omega (arith, p.few h); rest = p.rest; spelled = inr p.spelled; scoped = (refl, p.scoped_first, p.scoped_second); later = p.later; shorter = p.shorter }
+    record {
+      value = and_then p.first (length c.inners) p.second;
+      few = λ h. omega (arith, p.few h);
+      rest = p.rest;
+      spelled = inr p.spelled;
+      scoped = (refl, p.scoped_first, p.scoped_second);
+      later = p.later;
+      shorter = p.shorter;
+    }
 in_do_step k w a c b b0 bs n more (tokens.inner x ∷ ts) short none room h =
     let u = went roles.PartName (bound_event (parts.Parts ∷ [])) more (at c b (b0 ∷ bs) n) (tokens.inner x) ts (dotted ts) h in
     let p = part_passed k w x c b b0 bs n more (tokens.inner x ∷ ts) ts (omega (arith, short)) (omega arith) none room (inr refl) u.0 u.1 in
-    record { value = and_then p.first (length c.inners) p.second; few = λ h. omega (arith, p.few h); rest = p.rest; spelled = inr p.spelled; scoped = (refl, p.scoped_first, p.scoped_second); later = p.later; shorter = p.shorter }
+    record {
+      value = and_then p.first (length c.inners) p.second;
+      few = λ h. omega (arith, p.few h);
+      rest = p.rest;
+      spelled = inr p.spelled;
+      scoped = (refl, p.scoped_first, p.scoped_second);
+      later = p.later;
+      shorter = p.shorter;
+    }
 in_do_step k w a c b b0 bs n more (word v ∷ ts) short none room h =
     let e = a c b (b0 ∷ bs) n (parts.Only roles.Close ∷ more) (word v ∷ ts) short none (sym (parts_as_event (at c b (b0 ∷ bs) n) more v (word v ∷ ts) ts refl) ∙ h) in
     let last = took_sign signs.CloseBrace roles.Close more (at c (reached b e.value) (b0 ∷ bs) (tally_with_event n e.value)) e.rest (λ h d. refl) e.later in
@@ -447,7 +534,8 @@ in_do_step k w a c b b0 bs n more (sign g ∷ ts) short none room h = absurd cc
 
 -- behind the event of a `choose`
 after_it : (k : ℕ) → Within k → (c : Context) (b b0 : Brace) (bs : List Brace) (n : Tally) (more : List Part) (ts : List Token) → length ts ≤ suc k → c.calculations ≡ 0 → b.outer ≤ length c.inners
-    → (e : EventPassed alone (parts.Bars ∷ more) n (behind_alone c (fresh_bar b) (b0 ∷ bs) n) c ts) (m : List Token) → e.rest ≡ m → Passed (parts.Bars ∷ more) (behind_alone c (fresh_bar b) (b0 ∷ bs) n e.value) m
+    → (e : EventPassed alone (parts.Bars ∷ more) n (behind_alone c (fresh_bar b) (b0 ∷ bs) n) c ts) (m : List Token)
+    → e.rest ≡ m → Passed (parts.Bars ∷ more) (behind_alone c (fresh_bar b) (b0 ∷ bs) n e.value) m
     → EventPassed in_choose more n (behind_closed c (fresh_bar b) b0 bs n) c ts
 unfolding run pick pick_plain
 after_it k w c b b0 bs n more ts short none room e [] is h = absurd cc
@@ -455,7 +543,15 @@ after_it k w c b b0 bs n more ts short none room e (sign signs.Bar ∷ m) is h =
     let d = behind_alone c (fresh_bar b) (b0 ∷ bs) n e.value in
     let u = went roles.Bar (parts.Event ∷ parts.Bars ∷ []) more d (sign signs.Bar) m (dotted m) h in
     let p = choice_passed k w c b b0 bs n more (parts.Bars ∷ more) ts m (omega (arith, short, e.shorter, ap length is)) none room e is u.1 in
-    record { value = choose p.first p.second; few = λ h. omega (arith, p.few h); rest = p.rest; spelled = inr p.spelled; scoped = (p.scoped_first, p.scoped_second); later = p.later; shorter = p.shorter }
+    record {
+      value = choose p.first p.second;
+      few = λ h. omega (arith, p.few h);
+      rest = p.rest;
+      spelled = inr p.spelled;
+      scoped = (p.scoped_first, p.scoped_second);
+      later = p.later;
+      shorter = p.shorter;
+    }
 after_it k w c b b0 bs n more ts short none room e (sign signs.CloseBrace ∷ m) is h =
     let d = behind_alone c (fresh_bar b) (b0 ∷ bs) n e.value in
     let u = went roles.Close [] more d (sign signs.CloseBrace) m (dotted m) h in
@@ -498,5 +594,7 @@ events (suc k) =
     let a = alone_step k w in
     record { by_itself = a; after_part = in_do_step k w a; after_bar = in_choose_step k w a }
 
-pub event_passed : (c : Context) (b : Brace) (bs : List Brace) (n : Tally) (more : List Part) (ts : List Token) → c.calculations ≡ 0 → Passed (parts.Event ∷ more) (at c b bs n) ts → EventPassed alone more n (behind_alone c b bs n) c ts
+pub event_passed : (c : Context) (b : Brace) (bs : List Brace) (n : Tally) (more : List Part) (ts : List Token)
+    → c.calculations ≡ 0 → Passed (parts.Event ∷ more) (at c b bs n) ts
+    → EventPassed alone more n (behind_alone c b bs n) c ts
 event_passed c b bs n more ts none h = (events (length ts)).by_itself c b bs n more ts (omega arith) none h

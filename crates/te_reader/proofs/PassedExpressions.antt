@@ -47,7 +47,9 @@ kept_first true k ks e = absurd cc
 kept_first false k ks e = (refl, e)
 
 -- a token that has a form, and breaks no rule
-pub went : (r : Role) (wanted more : List Part) (c : Context) (t : Token) (ts : List Token) (d : Bool) → next_found (λ w x. run w x (spots_of ts)) more c (record { head = token t; dotted = d; left = 0 }) (Some (form r wanted)) ≡ None
+pub went : (r : Role) (wanted more : List Part) (c : Context) (t : Token) (ts : List Token) (d : Bool)
+    → next_found (λ w x. run w x (spots_of ts)) more c (record { head = token t; dotted = d; left = 0 })
+    (Some (form r wanted)) ≡ None
     → (first_broken (rules r c (token t)) ≡ None) × Passed (wanted ++ more) (context_after r c (token t)) ts
 went r wanted more c t ts d h = unbroken (run (wanted ++ more) (context_after r c (token t)) (spots_of ts)) 0 (first_broken (rules r c (token t))) h
 
@@ -74,7 +76,8 @@ took_alone r more c [] none h = by (fits r over false) none h where
   by true e h = absurd cc
   by false e h = absurd cc
 took_alone r more c (t ∷ ts) none h = by (fits r (token t) (dotted ts)) refl h where
-  by : (b : Bool) → fits r (token t) (dotted ts) ≡ b → next_found (λ w d. run w d (spots_of ts)) more c (record { head = token t; dotted = dotted ts; left = 0 }) (alone_form r b) ≡ None → TookAlone r more c (t ∷ ts)
+  by : (b : Bool) → fits r (token t) (dotted ts) ≡ b → next_found (λ w d. run w d (spots_of ts)) more c
+      (record { head = token t; dotted = dotted ts; left = 0 }) (alone_form r b) ≡ None → TookAlone r more c (t ∷ ts)
   by true e h = let u = unbroken _ _ _ h in record { first = t; rest = ts; is = refl; fit = e; kept = u.0; later = u.1 }
   by false e h = absurd cc
 
@@ -88,7 +91,8 @@ pub record TookSign (g : Sign) (r : Role) (more : List Part) (c : Context) (ts :
 pub one_token : (t u : Token) → token t ≡ token u → t ≡ u
 one_token t u e = cc
 
-pub took_sign : (g : Sign) (r : Role) (more : List Part) (c : Context) (ts : List Token) → ((h : Head) (d : Bool) → fits r h d ≡ is_sign g h) → Passed (parts.Only r ∷ more) c ts → TookSign g r more c ts
+pub took_sign : (g : Sign) (r : Role) (more : List Part) (c : Context) (ts : List Token)
+    → ((h : Head) (d : Bool) → fits r h d ≡ is_sign g h) → Passed (parts.Only r ∷ more) c ts → TookSign g r more c ts
 took_sign g r more c ts wants h =
     let t = took_alone r more c ts (wants over false) h in
     let same : t.first ≡ sign g = one_token t.first (sign g) (sign_fits g (token t.first) (sym (wants (token t.first) (dotted t.rest)) ∙ t.fit)) in
@@ -106,7 +110,8 @@ pub record TookWord (w : Word) (r : Role) (more : List Part) (c : Context) (ts :
   pub kept : first_broken (rules r c (token (word w))) ≡ None
   pub later : Passed more (context_after r c (token (word w))) rest
 
-pub took_word : (w : Word) (r : Role) (more : List Part) (c : Context) (ts : List Token) → ((h : Head) (d : Bool) → fits r h d ≡ is_word w h) → Passed (parts.Only r ∷ more) c ts → TookWord w r more c ts
+pub took_word : (w : Word) (r : Role) (more : List Part) (c : Context) (ts : List Token)
+    → ((h : Head) (d : Bool) → fits r h d ≡ is_word w h) → Passed (parts.Only r ∷ more) c ts → TookWord w r more c ts
 took_word w r more c ts wants h =
     let t = took_alone r more c ts (wants over false) h in
     let same : t.first ≡ word w = one_token t.first (word w) (word_fits w (token t.first) (sym (wants (token t.first) (dotted t.rest)) ∙ t.fit)) in
@@ -153,7 +158,9 @@ pub record OperandPassed (first : Bool) (more : List Part) (c : Context) (ts : L
   pub shorter : length rest < length ts
 
 -- the place behind a variable
-place_passed : (first : Bool) (more : List Part) (c : Context) (ts rest : List Token) (x : Variable) → spells_variable true (names_in c) x ts rest → IsVariable (scope_in c) x → length rest < length ts → (first && nat_le 4 c.calculations) ≡ false
+place_passed : (first : Bool) (more : List Part) (c : Context) (ts rest : List Token) (x : Variable)
+    → spells_variable true (names_in c) x ts rest → IsVariable (scope_in c) x → length rest < length ts
+    → (first && nat_le 4 c.calculations) ≡ false
     → Passed (parts.Only (roles.Sign signs.Dot) ∷ parts.Only roles.Place ∷ more) (begun first c) rest → OperandPassed first more c ts
 place_passed first more c ts rest x spelled scoped less few h =
     let dot = took_sign signs.Dot (roles.Sign signs.Dot) (parts.Only roles.Place ∷ more) (begun first c) rest (λ h d. refl) h in
@@ -175,7 +182,8 @@ place_passed first more c ts rest x spelled scoped less few h =
 
 -- the operand that some token begins, whose form is the one of an operand
 operand_at : (first : Bool) (wanted more : List Part) (c : Context) (t : Token) (ts : List Token) (d : Bool) → dotted ts ≡ d
-    → next_found (λ w x. run w x (spots_of ts)) more c (record { head = token t; dotted = d; left = 0 }) (operand_form first wanted (token t) d) ≡ None → OperandPassed first (wanted ++ more) c (t ∷ ts)
+    → next_found (λ w x. run w x (spots_of ts)) more c (record { head = token t; dotted = d; left = 0 })
+    (operand_form first wanted (token t) d) ≡ None → OperandPassed first (wanted ++ more) c (t ∷ ts)
 operand_at first wanted more c (tokens.integer n) ts d e h =
     let u = went (roles.Integer first) wanted more c (tokens.integer n) ts d h in
     let k = operand_kept (not (fits_i64 (integer_value n))) causes.Integer first c u.0 in
@@ -269,8 +277,10 @@ one_passed k f more c ts x after_it short low spelled scoped less h =
     }
 
 -- a calculation of two operands
-both_passed : (k : ℕ) → FurtherWithin k → (more : List Part) (c : Context) (ts : List Token) (x : Primitive) (o : Arith) (after_it rest : List Token) → after_it ≡ sign (arith_sign o) ∷ rest → length after_it ≤ k → c.calculations < 4
-    → spells_primitive true (names_in c) x ts after_it → IsPrimitive (scope_in c) x → length after_it < length ts → Passed (parts.Operand ∷ parts.Further ∷ more) (begun true c) rest → CalculationsPassed more c ts
+both_passed : (k : ℕ) → FurtherWithin k → (more : List Part) (c : Context) (ts : List Token) (x : Primitive) (o : Arith)
+    (after_it rest : List Token) → after_it ≡ sign (arith_sign o) ∷ rest → length after_it ≤ k → c.calculations < 4
+    → spells_primitive true (names_in c) x ts after_it → IsPrimitive (scope_in c) x → length after_it < length ts
+    → Passed (parts.Operand ∷ parts.Further ∷ more) (begun true c) rest → CalculationsPassed more c ts
 both_passed k f more c ts x o after_it rest is short low spelled scoped less h =
     let y = operand_passed (parts.Further ∷ more) (begun true c) rest h in
     let long = ap length is in
@@ -373,11 +383,17 @@ inside_passed more c (sign signs.Close ∷ rest) h =
     let u = went roles.TupleEnd [] more c (sign signs.Close) rest (dotted rest) h in
     record { values = []; rest = rest; spelled = refl; scoped = tt; few = omega arith; later = u.1; shorter = omega arith }
 inside_passed more c (tokens.integer n ∷ ts) h =
-    inside_from more c (tokens.integer n ∷ ts) (calculations_from (length ts) (further_within (length ts)) more c (tokens.integer n ∷ ts) (omega arith) (operand_at true (parts.Behind ∷ []) more c (tokens.integer n) ts (dotted ts) refl h))
+    inside_from more c (tokens.integer n ∷ ts) (calculations_from (length ts) (further_within (length ts)) more c
+    (tokens.integer n ∷ ts) (omega arith) (operand_at true (parts.Behind ∷ []) more c (tokens.integer n) ts
+    (dotted ts) refl h))
 inside_passed more c (tokens.name n ∷ ts) h =
-    inside_from more c (tokens.name n ∷ ts) (calculations_from (length ts) (further_within (length ts)) more c (tokens.name n ∷ ts) (omega arith) (operand_at true (parts.Behind ∷ []) more c (tokens.name n) ts (dotted ts) refl h))
+    inside_from more c (tokens.name n ∷ ts) (calculations_from (length ts) (further_within (length ts)) more c
+    (tokens.name n ∷ ts) (omega arith) (operand_at true (parts.Behind ∷ []) more c (tokens.name n) ts
+    (dotted ts) refl h))
 inside_passed more c (tokens.inner n ∷ ts) h =
-    inside_from more c (tokens.inner n ∷ ts) (calculations_from (length ts) (further_within (length ts)) more c (tokens.inner n ∷ ts) (omega arith) (operand_at true (parts.Behind ∷ []) more c (tokens.inner n) ts (dotted ts) refl h))
+    inside_from more c (tokens.inner n ∷ ts) (calculations_from (length ts) (further_within (length ts)) more c
+    (tokens.inner n ∷ ts) (omega arith) (operand_at true (parts.Behind ∷ []) more c (tokens.inner n) ts
+    (dotted ts) refl h))
 inside_passed more c (t ∷ ts) h = absurd cc
 
 -- an expression, and what follows it

@@ -1,5 +1,7 @@
 -- What is gone through without a fault is spelled, and keeps the limits and the rules on names: statements, threads and scripts.
-use Rattle.std.proofs.Common.{◌≡◌, ℕ, zero, suc, ◌+◌, ◌-◌, ◌<◌, ◌≤◌, Bool, true, false, not, nat_lt, nat_le, max, List, [], ◌∷◌, ◌++◌, length, take, refl, sym, ◌∙◌, ap, subst, arith, append_assoc, length-append}
+use Rattle.std.proofs.Common.{◌≡◌, ℕ, zero, suc, ◌+◌, ◌-◌, ◌<◌, ◌≤◌, Bool, true, false, not, nat_lt, nat_le, max, List}
+use Rattle.std.proofs.Common.{[], ◌∷◌, ◌++◌, length, take, refl, sym, ◌∙◌, ap, subst, arith, append_assoc}
+use Rattle.std.proofs.Common.{length-append}
 use Rattle.std.specs.Prelude.{None, ◌&&◌, ℤ, pos, negsuc}
 use Rattle.std.specs.List.{AllByRecursion}
 use Rattle.std.proofs.lemmas.List.{append-nil}
@@ -17,7 +19,9 @@ use Rattle.te_reader.specs.declared.part.Part.{Part}
 use Rattle.te_reader.specs.declared.part.Part.TheVariants as parts
 use Rattle.te_reader.specs.Tokens as tokens
 use Rattle.te_reader.specs.Tokens.{Token, word, sign}
-use Rattle.te_reader.specs.Grammar.{Span, is, ◌⨟◌, IsAt, IsNew, IsShortName, alone, spells_expression, spells_event, spells_sync, behind_sync, spells_statements, spells_threads, spells_names, spells_channels, spells_program}
+use Rattle.te_reader.specs.Grammar.{Span, is, ◌⨟◌, IsAt, IsNew, IsShortName, alone, spells_expression, spells_event}
+use Rattle.te_reader.specs.Grammar.{spells_sync, behind_sync, spells_statements, spells_threads, spells_names}
+use Rattle.te_reader.specs.Grammar.{spells_channels, spells_program}
 use Rattle.te_reader.specs.Integers.{integer_value}
 use Rattle.te_terms.specs.Values.{fits_i64}
 use Rattle.te_reader.specs.Forms.{sync_behind}
@@ -35,8 +39,7 @@ use Rattle.te_reader.proofs.EventPasses.{reached}
 use Rattle.te_reader.proofs.ScriptPasses.{Rest, stand}
 use Rattle.te_reader.proofs.PassedExpressions.{Passed, unbroken, went, kept_first, took_alone, took_sign, took_word, one_token, expression_passed}
 use Rattle.te_reader.proofs.PassedEvents.{new_name, event_passed}
-use Rattle.te_terms.proofs.Lists.{both_true}
-use Rattle.te_terms.proofs.Lists.{not_false}
+use Rattle.te_terms.proofs.Lists.{both_true, not_false}
 
 -- ---- statements
 
@@ -71,7 +74,9 @@ record RegisterKept (channels registers : List (List ℕ)) (st : ℕ) (n : List 
   room : st < 1024
   few : (not (is_among n registers) && nat_le 8 (length registers)) ≡ false
 
-register_kept : (channels threads registers : List (List ℕ)) (st : ℕ) (j : Rest) (n : List ℕ) → first_broken (rules.rules roles.Register (stand channels threads registers st j) (token (tokens.name n))) ≡ None → RegisterKept channels registers st n
+register_kept : (channels threads registers : List (List ℕ)) (st : ℕ) (j : Rest) (n : List ℕ)
+    → first_broken (rules.rules roles.Register (stand channels threads registers st j) (token (tokens.name n))) ≡ None
+    → RegisterKept channels registers st n
 register_kept channels threads registers st j n e =
     let last = check (not (is_among n registers) && nat_le 8 (length registers)) (causes.Limit limits.Registers) ∷ [] in
     let c = stand channels threads registers st j in
@@ -119,11 +124,15 @@ wanted_in false more = parts.Statements ∷ more
 
 abbrev StatementsWithin : ℕ → Type 0
 StatementsWithin k =
-    (inside : Bool) (channels threads registers : List (List ℕ)) (st : ℕ) (j : Rest) (more : List Part) (ts : List Token) → length ts ≤ k → st ≤ 1024 → Passed (wanted_in inside more) (stand channels threads registers st j) ts
+    (inside : Bool) (channels threads registers : List (List ℕ)) (st : ℕ) (j : Rest) (more : List Part)
+    (ts : List Token) → length ts ≤ k → st ≤ 1024 → Passed (wanted_in inside more)
+    (stand channels threads registers st j) ts
     → StatementsPassed inside channels threads registers st more ts
 
 emit_step : (k : ℕ) → StatementsWithin k → (channels threads registers : List (List ℕ)) (st : ℕ) (j : Rest) (more : List Part) (ts : List Token) → length ts ≤ k → st < 1024
-    → Passed (parts.Expression ∷ parts.Only (roles.Sign signs.Semicolon) ∷ parts.Statements ∷ more) (stand channels threads registers (suc st) j) ts → StatementsPassed false channels threads registers st more (word words.Emit ∷ ts)
+    → Passed (parts.Expression ∷ parts.Only (roles.Sign signs.Semicolon) ∷ parts.Statements ∷ more)
+    (stand channels threads registers (suc st) j) ts → StatementsPassed false channels threads registers st more
+    (word words.Emit ∷ ts)
 emit_step k f channels threads registers st j more ts short room h =
     let c = stand channels threads registers (suc st) j in
     let e = expression_passed (parts.Only (roles.Sign signs.Semicolon) ∷ parts.Statements ∷ more) c ts refl h in
@@ -143,7 +152,16 @@ emit_step k f channels threads registers st j more ts short room h =
       in_order = (e.scoped, g.in_order);
       spelled = (
         g.spelled.0,
-        (ts, refl, (e.rest, subst (λ (rs : List (List ℕ)). spells_expression true (record { channels = channels; registers = rs; inners = [] }) e.value ts e.rest) (sym names) e.spelled, (last.rest, last.is, g.spelled.1))),
+        (
+          ts,
+          refl,
+          (
+            e.rest,
+            subst (λ (rs : List (List ℕ)). spells_expression true
+                (record { channels = channels; registers = rs; inners = [] }) e.value ts e.rest) (sym names) e.spelled,
+            (last.rest, last.is, g.spelled.1),
+          ),
+        ),
         g.spelled.2,
       );
       later = g.later;
@@ -163,10 +181,13 @@ record SyncPassed (channels threads registers : List (List ℕ)) (st : ℕ) (n :
   scoped : IsEvent (record { written = length registers; level = 0; channels = length channels }) event
   within : IsWithinLimits event
   later : Passed tail (stand channels threads more (suc st) j_then) rest
-  spelled : (all : List (List ℕ)) → Grows channels more all → (span : Span) (last : List Token) → span rest last → spells_sync true channels all (length registers) number event span (tokens.name n ∷ ts) last
+  spelled : (all : List (List ℕ)) → Grows channels more all → (span : Span) (last : List Token) → span rest last
+      → spells_sync true channels all (length registers) number event span (tokens.name n ∷ ts) last
   shorter : length rest < length ts
 
-sync_passed : (channels threads registers : List (List ℕ)) (st : ℕ) (j : Rest) (n : List ℕ) (tail : List Part) (ts : List Token) → RegisterKept channels registers st n → Passed (sync_behind tail) (record (stand channels threads registers (suc st) j) { written = n }) ts
+sync_passed : (channels threads registers : List (List ℕ)) (st : ℕ) (j : Rest) (n : List ℕ) (tail : List Part)
+    (ts : List Token) → RegisterKept channels registers st n
+    → Passed (sync_behind tail) (record (stand channels threads registers (suc st) j) { written = n }) ts
     → SyncPassed channels threads registers st n tail ts
 sync_passed channels threads registers st j n tail ts kept h =
     let d = record (stand channels threads registers (suc st) j) { written = n } in
@@ -218,8 +239,11 @@ sync_passed channels threads registers st j n tail ts kept h =
       shorter = omega (arith, ap length arrow.is, ap length the_sync.is, e.shorter, ap length last.is);
     }
 
-sync_step : (k : ℕ) → StatementsWithin k → (channels threads registers : List (List ℕ)) (st : ℕ) (j : Rest) (more : List Part) (n : List ℕ) (ts : List Token) → length ts ≤ k → RegisterKept channels registers st n
-    → Passed (sync_behind (parts.Statements ∷ more)) (record (stand channels threads registers (suc st) j) { written = n }) ts → StatementsPassed false channels threads registers st more (tokens.name n ∷ ts)
+sync_step : (k : ℕ) → StatementsWithin k → (channels threads registers : List (List ℕ)) (st : ℕ) (j : Rest)
+    (more : List Part) (n : List ℕ) (ts : List Token) → length ts ≤ k → RegisterKept channels registers st n
+    → Passed (sync_behind (parts.Statements ∷ more)) (record
+    (stand channels threads registers (suc st) j) { written = n }) ts
+    → StatementsPassed false channels threads registers st more (tokens.name n ∷ ts)
 sync_step k f channels threads registers st j more n ts short kept h =
     let s = sync_passed channels threads registers st j n (parts.Statements ∷ more) ts kept h in
     let g = f false channels threads s.more (suc st) s.j_then more s.rest (omega (arith, short, s.shorter)) (omega (arith, kept.room)) s.later in
@@ -256,8 +280,11 @@ record InsidePassed (channels threads registers : List (List ℕ)) (st : ℕ) (m
   later : Passed more (stand channels threads all st_then j_then) rest
   shorter : length rest < length ts
 
-inside_step : (k : ℕ) → StatementsWithin k → (channels threads registers : List (List ℕ)) (st : ℕ) (j : Rest) (more : List Part) (n : List ℕ) (ts : List Token) → length ts ≤ k → RegisterKept channels registers st n
-    → Passed (sync_behind (parts.Syncs ∷ parts.Statements ∷ more)) (record (stand channels threads registers (suc st) j) { written = n }) ts → InsidePassed channels threads registers st more (tokens.name n ∷ ts)
+inside_step : (k : ℕ) → StatementsWithin k → (channels threads registers : List (List ℕ)) (st : ℕ) (j : Rest)
+    (more : List Part) (n : List ℕ) (ts : List Token) → length ts ≤ k → RegisterKept channels registers st n
+    → Passed (sync_behind (parts.Syncs ∷ parts.Statements ∷ more))
+    (record (stand channels threads registers (suc st) j) { written = n }) ts
+    → InsidePassed channels threads registers st more (tokens.name n ∷ ts)
 inside_step k f channels threads registers st j more n ts short kept h =
     let s = sync_passed channels threads registers st j n (parts.Syncs ∷ parts.Statements ∷ more) ts kept h in
     let g = f true channels threads s.more (suc st) s.j_then more s.rest (omega (arith, short, s.shorter)) (omega (arith, kept.room)) s.later in
@@ -305,7 +332,9 @@ times_kept digits e = by (integer_value digits) refl e where
       record { times = n; value = is; some = grind (arith, nat_tests, both.0); most = grind (arith, nat_tests, both.1) }
 
 repeat_step : (k : ℕ) → StatementsWithin k → (channels threads registers : List (List ℕ)) (st : ℕ) (j : Rest) (more : List Part) (ts : List Token) → length ts ≤ suc k → st < 1024
-    → Passed (parts.Only roles.Times ∷ parts.Only (roles.Sign signs.OpenBrace) ∷ parts.Sync ∷ parts.Syncs ∷ parts.Statements ∷ more) (stand channels threads registers (suc st) j) ts → StatementsPassed false channels threads registers st more (word words.Repeat ∷ ts)
+    → Passed (parts.Only roles.Times ∷ parts.Only (roles.Sign signs.OpenBrace) ∷ parts.Sync ∷ parts.Syncs
+    ∷ parts.Statements ∷ more) (stand channels threads registers (suc st) j) ts
+    → StatementsPassed false channels threads registers st more (word words.Repeat ∷ ts)
 repeat_step k f channels threads registers st j more ts short room h =
     let d = stand channels threads registers (suc st) j in
     let inside = parts.Sync ∷ parts.Syncs ∷ parts.Statements ∷ more in
@@ -314,11 +343,15 @@ repeat_step k f channels threads registers st j more ts short room h =
     let digits = number.0 in
     let same : t.first ≡ tokens.integer digits = one_token t.first (tokens.integer digits) number.1 in
     let is : ts ≡ tokens.integer digits ∷ t.rest = t.is ∙ ap (λ x. x ∷ t.rest) same in
-    let kept : first_broken (check (not (fits_i64 (integer_value digits))) causes.Integer ∷ check (not (is_count (integer_value digits))) (causes.Limit limits.Repeat) ∷ []) ≡ None = subst (λ (x : Token). first_broken (rules.rules roles.Times d (token x)) ≡ None) same t.kept in
+    let kept : first_broken (check (not (fits_i64 (integer_value digits))) causes.Integer ∷ check
+    (not (is_count (integer_value digits))) (causes.Limit limits.Repeat) ∷ []) ≡ None =
+    subst (λ (x : Token). first_broken (rules.rules roles.Times d (token x)) ≡ None) same t.kept in
     let a = kept_first (not (fits_i64 (integer_value digits))) causes.Integer (check (not (is_count (integer_value digits))) (causes.Limit limits.Repeat) ∷ []) kept in
     let b = kept_first (not (is_count (integer_value digits))) (causes.Limit limits.Repeat) [] a.1 in
     let times = times_kept digits (not_false (is_count (integer_value digits)) b.0) in
-    let later : Passed (parts.Only (roles.Sign signs.OpenBrace) ∷ inside) d t.rest = subst (λ (x : Token). Passed (parts.Only (roles.Sign signs.OpenBrace) ∷ inside) (rules.context_after roles.Times d (token x)) t.rest) same t.later in
+    let later : Passed (parts.Only (roles.Sign signs.OpenBrace) ∷ inside) d t.rest =
+    subst (λ (x : Token). Passed (parts.Only (roles.Sign signs.OpenBrace) ∷ inside)
+    (rules.context_after roles.Times d (token x)) t.rest) same t.later in
     let brace = took_sign signs.OpenBrace (roles.Sign signs.OpenBrace) inside d t.rest (λ h d. refl) later in
     let g = first_inside k f channels threads registers (suc st) j more brace.rest (omega (arith, short, ap length is, ap length brace.is)) (omega (arith, room)) brace.later in
     record {
@@ -426,10 +459,13 @@ record ThreadsPassed (channels threads : List (List ℕ)) (ts : List Token) : Ty
 
 abbrev ThreadsWithin : ℕ → Type 0
 ThreadsWithin k =
-    (channels threads registers : List (List ℕ)) (st : ℕ) (j : Rest) (ts : List Token) → length ts ≤ k → length threads ≤ 64 → AreDistinct channels → Passed (parts.Threads ∷ []) (stand channels threads registers st j) ts → ThreadsPassed channels threads ts
+    (channels threads registers : List (List ℕ)) (st : ℕ) (j : Rest) (ts : List Token) → length ts ≤ k
+    → length threads ≤ 64 → AreDistinct channels → Passed (parts.Threads ∷ [])
+    (stand channels threads registers st j) ts → ThreadsPassed channels threads ts
 
 thread_step : (k : ℕ) → ThreadsWithin k → (channels threads : List (List ℕ)) (j : Rest) (ts : List Token) → length ts ≤ k → length threads < 64 → AreDistinct channels
-    → Passed (parts.Only roles.ThreadName ∷ parts.Only (roles.Sign signs.OpenBrace) ∷ parts.Statements ∷ parts.Threads ∷ []) (stand channels threads [] 0 j) ts → ThreadsPassed channels threads (word words.Thread ∷ ts)
+    → Passed (parts.Only roles.ThreadName ∷ parts.Only (roles.Sign signs.OpenBrace) ∷ parts.Statements ∷ parts.Threads
+    ∷ []) (stand channels threads [] 0 j) ts → ThreadsPassed channels threads (word words.Thread ∷ ts)
 thread_step k f channels threads j ts short room distinct h =
     let c = stand channels threads [] 0 j in
     let tail = parts.Statements ∷ parts.Threads ∷ [] in
@@ -446,7 +482,9 @@ thread_step k f channels threads j ts short room distinct h =
     let b = kept_first (nat_lt 32 (length n)) (causes.Limit limits.Name) [] a.1 in
     let brace = took_sign signs.OpenBrace (roles.Sign signs.OpenBrace) tail (stand channels more [] 0 j) t.rest (λ h d. refl) later in
     let s = statements_within k false channels more [] 0 j (parts.Threads ∷ []) brace.rest (omega (arith, short, ap length is, ap length brace.is)) (omega arith) brace.later in
-    let g = f channels more s.all s.st_then s.j_then s.rest (omega (arith, short, ap length is, ap length brace.is, s.shorter)) (omega (arith, room, length-append threads (n ∷ []))) distinct s.later in
+    let g = f channels more s.all s.st_then s.j_then s.rest (omega
+    (arith, short, ap length is, ap length brace.is, s.shorter))
+    (omega (arith, room, length-append threads (n ∷ []))) distinct s.later in
     let thread : Thread = record { name = n; registers = s.all; statements = s.statements } in
     record {
       all = thread ∷ g.all;
@@ -497,7 +535,8 @@ channel_kept channels j n e =
     record { new = new_name channels n a.0; short = grind (arith, nat_tests, b.0); room = grind (arith, nat_tests, d.0) }
 
 -- one name before more
-name_before : (before : List (List ℕ)) (j : Rest) (more : List Part) (n : List ℕ) (ts : List Token) → ChannelKept before n → NamesPassed (before ++ n ∷ []) j more ts → NamesPassed before j more (tokens.name n ∷ ts)
+name_before : (before : List (List ℕ)) (j : Rest) (more : List Part) (n : List ℕ) (ts : List Token)
+    → ChannelKept before n → NamesPassed (before ++ n ∷ []) j more ts → NamesPassed before j more (tokens.name n ∷ ts)
 name_before before j more n ts k g = record {
   all = n ∷ g.all;
   rest = g.rest;
@@ -507,7 +546,8 @@ name_before before j more n ts k g = record {
   later = sym (ap (λ x. run more (stand x [] [] 0 j) (spots_of g.rest)) (append_assoc before (n ∷ []) g.all)) ∙ g.later;
 }
 
-names_passed : (ts : List Token) (before : List (List ℕ)) (j : Rest) (more : List Part) → length before ≤ 256 → Passed (parts.Channels ∷ more) (stand before [] [] 0 j) ts → NamesPassed before j more ts
+names_passed : (ts : List Token) (before : List (List ℕ)) (j : Rest) (more : List Part) → length before ≤ 256
+    → Passed (parts.Channels ∷ more) (stand before [] [] 0 j) ts → NamesPassed before j more ts
 unfolding run pick pick_plain
 names_passed [] before j more few h = absurd cc
 names_passed (sign signs.Semicolon ∷ ts) before j more few h =
@@ -558,7 +598,9 @@ channels_step j ts h =
     let same : t.first ≡ tokens.name n = one_token t.first (tokens.name n) name.1 in
     let is : ts ≡ tokens.name n ∷ t.rest = t.is ∙ ap (λ x. x ∷ t.rest) same in
     let k = channel_kept [] j n (subst (λ (x : Token). first_broken (rules.rules roles.ChannelName c (token x)) ≡ None) same t.kept) in
-    let later : Passed (parts.Channels ∷ parts.Threads ∷ []) (stand (n ∷ []) [] [] 0 j) t.rest = subst (λ (x : Token). Passed (parts.Channels ∷ parts.Threads ∷ []) (rules.context_after roles.ChannelName c (token x)) t.rest) same t.later in
+    let later : Passed (parts.Channels ∷ parts.Threads ∷ []) (stand (n ∷ []) [] [] 0 j) t.rest =
+    subst (λ (x : Token). Passed (parts.Channels ∷ parts.Threads ∷ [])
+    (rules.context_after roles.ChannelName c (token x)) t.rest) same t.later in
     let g = names_passed t.rest (n ∷ []) j (parts.Threads ∷ []) (omega arith) later in
     let distinct : AreDistinct (n ∷ g.all) = g.names (tt, tt) in
     let threads = threads_within (length g.rest) (n ∷ g.all) [] [] 0 j g.rest (omega arith) (omega arith) distinct g.later in

@@ -30,7 +30,8 @@ abbrev pub Goes : List Part → Context → List Token → List Part → Context
 Goes wanted c ts wanted_then d rest = run wanted c (spots_of ts) ≡ run wanted_then d (spots_of rest)
 
 -- one token
-pub goes : (p : Part) (f : Form) (more : List Part) (c : Context) (t : Token) (ts rest : List Token) → ts ≡ t ∷ rest → pick p (token t) (dotted rest) ≡ Some f → first_broken (rules f.role c (token t)) ≡ None
+pub goes : (p : Part) (f : Form) (more : List Part) (c : Context) (t : Token) (ts rest : List Token) → ts ≡ t ∷ rest
+    → pick p (token t) (dotted rest) ≡ Some f → first_broken (rules f.role c (token t)) ≡ None
     → Goes (p ∷ more) c ts (f.wanted ++ more) (context_after f.role c (token t)) rest
 goes p f more c t ts rest e picked kept = ap (λ x. run (p ∷ more) c (spots_of x)) e ∙ step p more c (record { head = token t; dotted = dotted rest; left = 0 }) (spots_of rest) f picked kept
 

@@ -17,7 +17,11 @@ use Rattle.te_reader.specs.Tokens.{Token, word, name, inner, integer, sign}
 use Rattle.te_reader.specs.Integers.{integer_value}
 use Rattle.te_reader.specs.Spots.{Spot, Head, token, over, strange}
 use Rattle.te_reader.specs.Forms.{Form, form, then_also, forms, forms_of_events, IsAmong, FitsRole, bound_event, place_of_it}
-use Rattle.te_reader.specs.Runs.{script_form, threads_form, channels_form, statements_form, sync_form, syncs_form, event_form, parts_form, bars_form, expression_form, operand_form, further_form, behind_form, inside_form, test_form, alone_form, fits, is_word, is_sign, is_name, is_bound, is_integer, is_small, is_place, is_variable_first, is_channel_first, is_over, pick_plain, pick}
+use Rattle.te_reader.specs.Runs.{script_form, threads_form, channels_form, statements_form, sync_form, syncs_form}
+use Rattle.te_reader.specs.Runs.{event_form, parts_form, bars_form, expression_form, operand_form, further_form}
+use Rattle.te_reader.specs.Runs.{behind_form, inside_form, test_form, alone_form, fits, is_word, is_sign, is_name}
+use Rattle.te_reader.specs.Runs.{is_bound, is_integer, is_small, is_place, is_variable_first, is_channel_first, is_over}
+use Rattle.te_reader.specs.Runs.{pick_plain, pick}
 
 -- ---- tokens that stand alone
 
@@ -408,7 +412,28 @@ module _ (s : Spot) where
 
   parts_picked : AllPicked parts.Parts s (forms parts.Parts)
   unfolding pick pick_plain
-  parts_picked = (part_named, (λ h. rw h refl, (λ h. rw h refl, (λ h. rw h refl, (λ h. rw h refl, (λ h. rw h refl, (λ h. rw h refl, (λ h. rw h refl, (λ h. rw h refl, (λ h. rw h refl, (λ h. rw h refl, tt)))))))))))
+  parts_picked = (
+    part_named,
+    (
+      λ h. rw h refl,
+      (
+        λ h. rw h refl,
+        (
+          λ h. rw h refl,
+          (
+            λ h. rw h refl,
+            (
+              λ h. rw h refl,
+              (
+                λ h. rw h refl,
+                (λ h. rw h refl, (λ h. rw h refl, (λ h. rw h refl, (λ h. rw h refl, tt)))),
+              ),
+            ),
+          ),
+        ),
+      ),
+    ),
+  )
 
   bars_picked : AllPicked parts.Bars s (forms parts.Bars)
   unfolding pick pick_plain

@@ -14,12 +14,19 @@ use Rattle.te_reader.specs.Tokens.{Token, word, sign}
 use Rattle.te_reader.specs.Heads.{word_first, sign_first, name_first, integer_first}
 use Rattle.te_reader.specs.Integers.{integer_value}
 use Rattle.te_terms.specs.Limits.{IsWithinLimits}
-use Rattle.te_reader.specs.Grammar.{Span, is, ◌⨟◌, IsAt, IsNew, IsShortName, alone, spells_expression, spells_event, spells_integer, spells_sync, behind_sync, spells_statements, spells_thread, spells_threads, spells_names, spells_channels, spells_program}
+use Rattle.te_reader.specs.Grammar.{Span, is, ◌⨟◌, IsAt, IsNew, IsShortName, alone, spells_expression, spells_event}
+use Rattle.te_reader.specs.Grammar.{spells_integer, spells_sync, behind_sync, spells_statements, spells_thread}
+use Rattle.te_reader.specs.Grammar.{spells_threads, spells_names, spells_channels, spells_program}
 use Rattle.te_reader.specs.NameReads.{Read, ◌>>=◌, checked, if_absent, first_place_of, names_of, declared_in}
 use Rattle.te_reader.specs.ExpressionReads.{read_expression}
 use Rattle.te_reader.specs.Tallies.{no_node}
 use Rattle.te_reader.specs.EventReads.{read_event}
-use Rattle.te_reader.specs.Reads.{old_or_new, register_of, read_sync, read_written, read_emit, emit_or_sync, read_statement, repeats_in, read_times, Body, read_changed, before_body, before_repeat, before_inside, before_brace, repeat_or_statement, more_body, brace_or_sync, inside_body, brace_or_more, read_body, named_body, read_thread, read_new_thread, end_or_thread, read_threads, semicolon_or_name, read_names, if_some, none_or_channels, read_channels, read_program}
+use Rattle.te_reader.specs.Reads.{old_or_new, register_of, read_sync, read_written, read_emit, emit_or_sync}
+use Rattle.te_reader.specs.Reads.{read_statement, repeats_in, read_times, Body, read_changed, before_body}
+use Rattle.te_reader.specs.Reads.{before_repeat, before_inside, before_brace, repeat_or_statement, more_body}
+use Rattle.te_reader.specs.Reads.{brace_or_sync, inside_body, brace_or_more, read_body, named_body, read_thread}
+use Rattle.te_reader.specs.Reads.{read_new_thread, end_or_thread, read_threads, semicolon_or_name, read_names, if_some}
+use Rattle.te_reader.specs.Reads.{none_or_channels, read_channels, read_program}
 use Rattle.te_reader.proofs.NameLemmas.{bind_some, checked_some, absent_some, place_is, place_none, declared}
 use Rattle.te_reader.proofs.HeadLemmas.{both_same, name_is, word_is, sign_is, integer_is}
 use Rattle.te_reader.proofs.ListsKept.{distinct_push, at_more, at_last, short_at, taken, Grows, stays, goes_on, grows_one}
@@ -89,14 +96,18 @@ module _ (m : ℕ) (channels : List (List ℕ)) (many : length channels ≤ m) w
   in_scope registers all g = rw g.appended (taken registers g.added)
 
   -- an `emit` before a body
-  emit_before : (left : ℕ) (registers : List (List ℕ)) (x : Expression) (body : Body) (ts inside after rest : List Token) → ts ≡ word words.Emit ∷ inside → read_emit channels registers inside ≡ Some (x, after)
+  emit_before : (left : ℕ) (registers : List (List ℕ)) (x : Expression) (body : Body)
+      (ts inside after rest : List Token) → ts ≡ word words.Emit ∷ inside
+      → read_emit channels registers inside ≡ Some (x, after)
       → ReadBody left false registers body after rest → ReadBody (suc left) false registers (before_body (emit x) body) ts rest
   unfolding read_emit
   emit_before left registers x body ts inside after rest begins e later =
       let a = bind_some (read_expression (names_of channels registers) inside) _ _ e in
       let b = bind_some (sign_first signs.Semicolon a.0.1) _ _ a.2 in
       let same = both_same _ _ b.2 in
-      let value : ReadExpression m (names_of channels registers) many x inside a.0.1 = subst (λ (y : Expression). ReadExpression m (names_of channels registers) many y inside a.0.1) same.0 (expression_read m (names_of channels registers) many a.0.0 inside a.0.1 a.1) in
+      let value : ReadExpression m (names_of channels registers) many x inside a.0.1 =
+      subst (λ (y : Expression). ReadExpression m (names_of channels registers) many y inside a.0.1) same.0
+      (expression_read m (names_of channels registers) many a.0.0 inside a.0.1 a.1) in
       let names = in_scope registers body.registers later.grows in
       record {
         grows = later.grows;
@@ -106,7 +117,16 @@ module _ (m : ℕ) (channels : List (List ℕ)) (many : length channels ≤ m) w
         in_order = (value.scoped, later.in_order);
         spelled = λ short. let l = spelled_outside left registers body after rest later short in (
           l.0,
-          (inside, begins, (a.0.1, subst (λ (rs : List (List ℕ)). spells_expression true (names_of channels rs) x inside a.0.1) (sym names) value.spelled, (after, sign_is signs.Semicolon a.0.1 after (b.1 ∙ ap Some same.1), l.1))),
+          (
+            inside,
+            begins,
+            (
+              a.0.1,
+              subst (λ (rs : List (List ℕ)).
+                  spells_expression true (names_of channels rs) x inside a.0.1) (sym names) value.spelled,
+              (after, sign_is signs.Semicolon a.0.1 after (b.1 ∙ ap Some same.1), l.1),
+            ),
+          ),
           l.2,
         );
       }
@@ -130,7 +150,9 @@ module _ (m : ℕ) (channels : List (List ℕ)) (many : length channels ≤ m) w
       let c = bind_some (read_event 32 alone (names_of channels registers) no_node b.0) _ _ b.2 in
       let d = bind_some (sign_first signs.Semicolon c.0.1) _ _ c.2 in
       let same = both_same _ _ d.2 in
-      let event : ReadEvent m alone (names_of channels registers) no_node t b.0 c.0.1 = subst (λ (u : Term). ReadEvent m alone (names_of channels registers) no_node u b.0 c.0.1) same.0 (event_read m 32 alone (names_of channels registers) no_node c.0.0 b.0 c.0.1 many c.1) in
+      let event : ReadEvent m alone (names_of channels registers) no_node t b.0 c.0.1 =
+      subst (λ (u : Term). ReadEvent m alone (names_of channels registers) no_node u b.0 c.0.1) same.0
+      (event_read m 32 alone (names_of channels registers) no_node c.0.0 b.0 c.0.1 many c.1) in
       let reg = register_read channels registers n r more of in
       let whole = goes_on channels registers more all reg.grows grown in
       let names = in_scope registers all whole in
@@ -197,7 +219,9 @@ module _ (m : ℕ) (channels : List (List ℕ)) (many : length channels ≤ m) w
       }
 
   -- a sync before a body, before the brace of a repeat, and before more of its syncs
-  sync_before : (left : ℕ) (registers more : List (List ℕ)) (r : ℕ) (t : Term) (body : Body) (ts after rest : List Token) → ReadSync registers more body.registers r t ts after → ReadBody left false more body after rest
+  sync_before : (left : ℕ) (registers more : List (List ℕ)) (r : ℕ) (t : Term) (body : Body)
+      (ts after rest : List Token) → ReadSync registers more body.registers r t ts after
+      → ReadBody left false more body after rest
       → ReadBody (suc left) false registers (before_body (sync r t) body) ts rest
   sync_before left registers more r t body ts after rest s later = record {
     grows = s.grows;
@@ -211,7 +235,9 @@ module _ (m : ℕ) (channels : List (List ℕ)) (many : length channels ≤ m) w
         (l.0, s.spelled short (spells_statements true channels body.registers (with_register (length registers) r) 0 body.statements) l.0 tail, l.2);
   }
 
-  sync_before_brace : (left : ℕ) (registers more : List (List ℕ)) (r : ℕ) (t : Term) (body : Body) (ts after last rest : List Token) → ReadSync registers more body.registers r t ts after → after ≡ sign signs.CloseBrace ∷ last → ReadBody left false more body last rest
+  sync_before_brace : (left : ℕ) (registers more : List (List ℕ)) (r : ℕ) (t : Term) (body : Body)
+      (ts after last rest : List Token) → ReadSync registers more body.registers r t ts after
+      → after ≡ sign signs.CloseBrace ∷ last → ReadBody left false more body last rest
       → ReadBody (suc left) true registers (before_brace (sync r t) body) ts rest
   sync_before_brace left registers more r t body ts after last rest s close later = record {
     grows = s.grows;
@@ -229,7 +255,9 @@ module _ (m : ℕ) (channels : List (List ℕ)) (many : length channels ≤ m) w
   behind_some zero tail ts rest some h = absurd (omega (arith, some))
   behind_some (suc k) tail ts rest some h = h
 
-  sync_before_more : (left : ℕ) (registers more : List (List ℕ)) (r : ℕ) (t : Term) (body : Body) (ts after rest : List Token) → ReadSync registers more body.registers r t ts after → ReadBody left true more body after rest
+  sync_before_more : (left : ℕ) (registers more : List (List ℕ)) (r : ℕ) (t : Term) (body : Body)
+      (ts after rest : List Token) → ReadSync registers more body.registers r t ts after
+      → ReadBody left true more body after rest
       → ReadBody (suc left) true registers (before_inside (sync r t) body) ts rest
   sync_before_more left registers more r t body ts after rest s later = record {
     grows = s.grows;
@@ -284,7 +312,8 @@ module _ (m : ℕ) (channels : List (List ℕ)) (many : length channels ≤ m) w
         opened = sign_is signs.OpenBrace a.0.1 rest (c.1 ∙ ap Some same.1);
       }
 
-  repeat_before : (left : ℕ) (registers : List (List ℕ)) (times : ℕ) (body : Body) (ts behind inside rest : List Token) → ts ≡ word words.Repeat ∷ behind → ReadTimes times behind inside → ReadBody left true registers body inside rest
+  repeat_before : (left : ℕ) (registers : List (List ℕ)) (times : ℕ) (body : Body) (ts behind inside rest : List Token)
+      → ts ≡ word words.Repeat ∷ behind → ReadTimes times behind inside → ReadBody left true registers body inside rest
       → ReadBody (suc left) false registers (before_repeat times body) ts rest
   repeat_before left registers times body ts behind inside rest begins h later = record {
     grows = later.grows;
@@ -296,7 +325,9 @@ module _ (m : ℕ) (channels : List (List ℕ)) (many : length channels ≤ m) w
   }
 
   -- no statement before the closing brace
-  ended : (left : ℕ) (registers : List (List ℕ)) (body : Body) (ts rest last : List Token) → sign_first signs.CloseBrace ts ≡ Some last → brace_or_more registers None (Some last) ≡ Some (body, rest) → ReadBody left false registers body ts rest
+  ended : (left : ℕ) (registers : List (List ℕ)) (body : Body) (ts rest last : List Token)
+      → sign_first signs.CloseBrace ts ≡ Some last → brace_or_more registers None (Some last) ≡ Some (body, rest)
+      → ReadBody left false registers body ts rest
   ended left registers body ts rest last f e =
       let same = both_same _ _ e in
       let none : ReadBody left false registers (record { statements = []; leading = 0; registers = registers }) ts rest = record {
@@ -310,7 +341,9 @@ module _ (m : ℕ) (channels : List (List ℕ)) (many : length channels ≤ m) w
       subst (λ (b : Body). ReadBody left false registers b ts rest) same.0 none
 
   -- one statement before a body
-  statement_before : (left : ℕ) (registers more : List (List ℕ)) (s : Statement) (body : Body) (ts after rest : List Token) → read_statement channels registers ts ≡ Some ((s, more), after) → ReadBody left false more body after rest
+  statement_before : (left : ℕ) (registers more : List (List ℕ)) (s : Statement) (body : Body)
+      (ts after rest : List Token) → read_statement channels registers ts ≡ Some ((s, more), after)
+      → ReadBody left false more body after rest
       → ReadBody (suc left) false registers (before_body s body) ts rest
   unfolding read_statement
   statement_before left registers more s body ts after rest e later = by (word_first words.Emit ts) refl e where
@@ -323,10 +356,14 @@ module _ (m : ℕ) (channels : List (List ℕ)) (many : length channels ≤ m) w
         let same = both_same _ _ a.2 in
         let regs : registers ≡ more = ap (λ p. p.1) same.0 in
         let read : read_emit channels registers inside ≡ Some (a.0.0, after) = a.1 ∙ ap (λ t. Some (a.0.0, t)) same.1 in
-        put (emit a.0.0) (ap (λ p. p.0) same.0) (emit_before left registers a.0.0 body ts inside after rest (word_is words.Emit ts inside f) read (subst (λ (rs : List (List ℕ)). ReadBody left false rs body after rest) (sym regs) later))
+        put (emit a.0.0) (ap (λ p. p.0) same.0) (emit_before left registers a.0.0 body ts inside after rest
+        (word_is words.Emit ts inside f) read (subst (λ (rs : List (List ℕ)). ReadBody left false rs body after rest)
+        (sym regs) later))
     by None f e =
         let w = was_written registers more s ts after e in
-        put (sync w.number w.event) w.is_sync (sync_before left registers more w.number w.event body ts after rest (sync_read registers more body.registers w.name w.number w.event ts w.inside after w.begins w.read w.of later.grows) later)
+        put (sync w.number w.event) w.is_sync (sync_before left registers more w.number w.event body ts after rest
+        (sync_read registers more body.registers w.name w.number w.event ts w.inside after w.begins w.read w.of
+        later.grows) later)
 
   changed_some : (f : Body → Body) (o : Read Body) (b : Body) (rest : List Token) → read_changed f o ≡ Some (b, rest) → (c : Body) × (o ≡ Some (c, rest)) × (f c ≡ b)
   changed_some f None b rest e = absurd cc
@@ -334,7 +371,8 @@ module _ (m : ℕ) (channels : List (List ℕ)) (many : length channels ≤ m) w
       let same = both_same _ _ e in
       (x.0, ap (λ l. Some (x.0, l)) same.1, same.0)
 
-  pub body_read : (left : ℕ) (inside : Bool) (registers : List (List ℕ)) (body : Body) (ts rest : List Token) → read_body left channels inside registers ts ≡ Some (body, rest) → ReadBody left inside registers body ts rest
+  pub body_read : (left : ℕ) (inside : Bool) (registers : List (List ℕ)) (body : Body) (ts rest : List Token)
+      → read_body left channels inside registers ts ≡ Some (body, rest) → ReadBody left inside registers body ts rest
   unfolding read_body more_body inside_body
   body_read zero true registers body ts rest e = absurd cc
   body_read zero false registers body ts rest e = by (sign_first signs.CloseBrace ts) refl e where
@@ -345,7 +383,9 @@ module _ (m : ℕ) (channels : List (List ℕ)) (many : length channels ≤ m) w
     Later : Type 0
     Later = (inside : Bool) (more : List (List ℕ)) (b : Body) (us last : List Token) → read_body left channels inside more us ≡ Some (b, last) → ReadBody left inside more b us last
 
-    more : Later → (o : Option (List Token)) → word_first words.Repeat ts ≡ o → repeat_or_statement (read_body left channels) channels registers ts o ≡ Some (body, rest) → ReadBody (suc left) false registers body ts rest
+    more : Later → (o : Option (List Token)) → word_first words.Repeat ts ≡ o
+        → repeat_or_statement (read_body left channels) channels registers ts o ≡ Some (body, rest)
+        → ReadBody (suc left) false registers body ts rest
     more later (Some behind) f e =
         let a = bind_some (read_times behind) _ _ e in
         let c = changed_some (before_repeat a.0.0) (read_body left channels true registers a.0.1) body rest a.2 in
@@ -357,28 +397,37 @@ module _ (m : ℕ) (channels : List (List ℕ)) (many : length channels ≤ m) w
         let whole = statement_before left registers a.0.0.1 a.0.0.0 c.0 ts a.0.1 rest a.1 (later false a.0.0.1 c.0 a.0.1 rest c.1) in
         subst (λ (b : Body). ReadBody (suc left) false registers b ts rest) c.2 whole
 
-    by : Later → (o : Option (List Token)) → sign_first signs.CloseBrace ts ≡ o → brace_or_more registers (Some (repeat_or_statement (read_body left channels) channels registers ts (word_first words.Repeat ts))) o ≡ Some (body, rest) → ReadBody (suc left) false registers body ts rest
+    by : Later → (o : Option (List Token)) → sign_first signs.CloseBrace ts ≡ o
+        → brace_or_more registers (Some (repeat_or_statement (read_body left channels) channels registers ts
+        (word_first words.Repeat ts))) o ≡ Some (body, rest) → ReadBody (suc left) false registers body ts rest
     by later (Some last) f e = ended (suc left) registers body ts rest last f e
     by later None f e = more later (word_first words.Repeat ts) refl e
   body_read (suc left) true registers body ts rest e =
       let a = bind_some (read_written channels registers ts) _ _ e in
       by (body_read left) a.0.0.0 a.0.0.1 a.0.1 (was_written registers a.0.0.1 a.0.0.0 ts a.0.1 a.1) (sign_first signs.CloseBrace a.0.1) refl a.2 where
         by : ((inside : Bool) (more : List (List ℕ)) (b : Body) (us last : List Token) → read_body left channels inside more us ≡ Some (b, last) → ReadBody left inside more b us last)
-            → (s : Statement) (more : List (List ℕ)) (after : List Token) → WasWritten registers more s ts after → (o : Option (List Token)) → sign_first signs.CloseBrace after ≡ o → brace_or_sync (read_body left channels) s more after o ≡ Some (body, rest)
+            → (s : Statement) (more : List (List ℕ)) (after : List Token) → WasWritten registers more s ts after
+            → (o : Option (List Token)) → sign_first signs.CloseBrace after ≡ o
+            → brace_or_sync (read_body left channels) s more after o ≡ Some (body, rest)
             → ReadBody (suc left) true registers body ts rest
         by later s more after w (Some last) f e =
             let c = changed_some (before_brace s) (read_body left channels false more last) body rest e in
             let l = later false more c.0 last rest c.1 in
-            let whole = sync_before_brace left registers more w.number w.event c.0 ts after last rest (sync_read registers more c.0.registers w.name w.number w.event ts w.inside after w.begins w.read w.of l.grows) (sign_is signs.CloseBrace after last f) l in
+            let whole = sync_before_brace left registers more w.number w.event c.0 ts after last rest
+            (sync_read registers more c.0.registers w.name w.number w.event ts w.inside after w.begins w.read w.of
+            l.grows) (sign_is signs.CloseBrace after last f) l in
             subst (λ (b : Body). ReadBody (suc left) true registers b ts rest) (ap (λ x. before_brace x c.0) w.is_sync ∙ c.2) whole
         by later s more after w None f e =
             let c = changed_some (before_inside s) (read_body left channels true more after) body rest e in
             let l = later true more c.0 after rest c.1 in
-            let whole = sync_before_more left registers more w.number w.event c.0 ts after rest (sync_read registers more c.0.registers w.name w.number w.event ts w.inside after w.begins w.read w.of l.grows) l in
+            let whole = sync_before_more left registers more w.number w.event c.0 ts after rest
+            (sync_read registers more c.0.registers w.name w.number w.event ts w.inside after w.begins w.read w.of
+            l.grows) l in
             subst (λ (b : Body). ReadBody (suc left) true registers b ts rest) (ap (λ x. before_inside x c.0) w.is_sync ∙ c.2) whole
 
   -- what such a body keeps, as a list of statements and one of registers
-  pub kept_lists : (body : Body) (statements : List Statement) (registers : List (List ℕ)) (ts rest : List Token) → body.statements ≡ statements → body.registers ≡ registers → ReadBody 1024 false [] body ts rest
+  pub kept_lists : (body : Body) (statements : List Statement) (registers : List (List ℕ)) (ts rest : List Token)
+      → body.statements ≡ statements → body.registers ≡ registers → ReadBody 1024 false [] body ts rest
       → AreDistinct registers × (length statements ≤ 1024) × AreStatements m (length registers) 0 statements
   kept_lists body statements registers ts rest e f b = (
     subst (λ (x : List (List ℕ)). AreDistinct x) f (b.grows.distinct tt),
@@ -394,7 +443,8 @@ module _ (m : ℕ) (channels : List (List ℕ)) (many : length channels ≤ m) w
     pub apart : AreApart t.registers channels
     pub spelled : (all : List Token) → all ≡ word words.Thread ∷ ts → spells_thread true channels t all rest
 
-  pub thread_of_body : (n : List ℕ) (body : Body) (ts inside within rest : List Token) → IsShortName n → ts ≡ tokens.name n ∷ inside → inside ≡ sign signs.OpenBrace ∷ within → ReadBody 1024 false [] body within rest
+  pub thread_of_body : (n : List ℕ) (body : Body) (ts inside within rest : List Token) → IsShortName n
+      → ts ≡ tokens.name n ∷ inside → inside ≡ sign signs.OpenBrace ∷ within → ReadBody 1024 false [] body within rest
       → ReadThread (record { name = n; registers = body.registers; statements = body.statements }) ts rest
   thread_of_body n body ts inside within rest short named opened b = record {
     kept = record { registers = b.grows.few (omega arith); distinct = b.grows.distinct tt; statements = b.most; in_order = b.in_order };
@@ -410,7 +460,9 @@ module _ (m : ℕ) (channels : List (List ℕ)) (many : length channels ≤ m) w
       let c = bind_some (sign_first signs.OpenBrace a.0.1) _ _ b.2 in
       let fits = checked_some _ _ b.1 in
       by a.0.0 (grind (arith, nat_tests, fits)) a.0.1 (name_is ts a.0.0 a.0.1 a.1) c.0 (sign_is signs.OpenBrace a.0.1 c.0 c.1) (read_body 1024 channels false [] c.0) refl c.2 where
-        by : (n : List ℕ) → IsShortName n → (inside : List Token) → ts ≡ tokens.name n ∷ inside → (within : List Token) → inside ≡ sign signs.OpenBrace ∷ within → (o : Read Body) → read_body 1024 channels false [] within ≡ o → named_body n o ≡ Some (t, rest) → ReadThread t ts rest
+        by : (n : List ℕ) → IsShortName n → (inside : List Token) → ts ≡ tokens.name n ∷ inside → (within : List Token)
+            → inside ≡ sign signs.OpenBrace ∷ within → (o : Read Body) → read_body 1024 channels false [] within ≡ o
+            → named_body n o ≡ Some (t, rest) → ReadThread t ts rest
         by n short inside named within opened None f e = absurd cc
         by n short inside named within opened (Some b) f e =
             let same = both_same _ _ e in
@@ -432,7 +484,9 @@ module _ (m : ℕ) (channels : List (List ℕ)) (many : length channels ≤ m) w
       let none : ReadThreads left names [] ts ts = record { most = omega arith; distinct = λ d. rw (append-nil names) d; kept = tt; apart = tt; spelled = refl } in
       subst (λ (last : List Token). ReadThreads left names threads ts last) same.1 (subst (λ (x : List Thread). ReadThreads left names x ts ts) same.0 none)
 
-  thread_before : (left : ℕ) (names more : List (List ℕ)) (t : Thread) (threads : List Thread) (ts behind after rest : List Token) → ts ≡ word words.Thread ∷ behind → read_new_thread channels names behind ≡ Some ((t, more), after)
+  thread_before : (left : ℕ) (names more : List (List ℕ)) (t : Thread) (threads : List Thread)
+      (ts behind after rest : List Token) → ts ≡ word words.Thread ∷ behind
+      → read_new_thread channels names behind ≡ Some ((t, more), after)
       → ReadThreads left more threads after rest → ReadThreads (suc left) names (t ∷ threads) ts rest
   unfolding read_new_thread
   thread_before left names more t threads ts behind after rest begins e later =
@@ -440,26 +494,34 @@ module _ (m : ℕ) (channels : List (List ℕ)) (many : length channels ≤ m) w
       let b = bind_some (if_absent (first_place_of names a.0.0.name)) _ _ a.2 in
       let same = both_same _ _ b.2 in
       let t_is : a.0.0 ≡ t = ap (λ p. p.0) same.0 in
-      let read : ReadThread t behind after = subst (λ (last : List Token). ReadThread t behind last) same.1 (subst (λ (x : Thread). ReadThread x behind a.0.1) t_is (thread_read a.0.0 behind a.0.1 a.1)) in
+      let read : ReadThread t behind after = subst (λ (last : List Token). ReadThread t behind last) same.1
+      (subst (λ (x : Thread). ReadThread x behind a.0.1) t_is (thread_read a.0.0 behind a.0.1 a.1)) in
       let more_is : more ≡ names ++ t.name ∷ [] = sym (ap (λ p. p.1) same.0) ∙ ap (λ x. names ++ x.name ∷ []) t_is in
       let new : IsNew t.name names = subst (λ (x : Thread). IsNew x.name names) t_is (place_none names a.0.0.name (absent_some _ _ b.1)) in
       record {
         most = omega (arith, later.most);
-        distinct = λ d. subst (λ (xs : List (List ℕ)). AreDistinct xs) (ap (λ x. x ++ thread_names threads) more_is ∙ append_assoc names (t.name ∷ []) (thread_names threads)) (later.distinct (rw more_is (distinct_push names t.name d new)));
+        distinct = λ d. subst (λ (xs : List (List ℕ)). AreDistinct xs)
+            (ap (λ x. x ++ thread_names threads) more_is ∙ append_assoc names (t.name ∷ []) (thread_names threads))
+            (later.distinct (rw more_is (distinct_push names t.name d new)));
         kept = (read.kept, later.kept);
         apart = (read.apart, later.apart);
         spelled = (after, read.spelled ts begins, later.spelled);
       }
 
-  pub threads_read : (left : ℕ) (names : List (List ℕ)) (threads : List Thread) (ts rest : List Token) → read_threads left channels names ts ≡ Some (threads, rest) → ReadThreads left names threads ts rest
+  pub threads_read : (left : ℕ) (names : List (List ℕ)) (threads : List Thread) (ts rest : List Token)
+      → read_threads left channels names ts ≡ Some (threads, rest) → ReadThreads left names threads ts rest
   unfolding read_threads
   threads_read zero names threads ts rest e = by (word_first words.Thread ts) e where
     by : (o : Option (List Token)) → end_or_thread ts (λ _. None) o ≡ Some (threads, rest) → ReadThreads zero names threads ts rest
     by None e = no_threads zero names threads ts rest e
     by (Some behind) e = absurd cc
   threads_read (suc left) names threads ts rest e = by (threads_read left) (word_first words.Thread ts) refl e where
-    by : ((more : List (List ℕ)) (us : List Thread) (vs last : List Token) → read_threads left channels more vs ≡ Some (us, last) → ReadThreads left more us vs last) → (o : Option (List Token)) → word_first words.Thread ts ≡ o
-        → end_or_thread ts (λ behind. read_new_thread channels names behind >>= λ t. read_threads left channels t.0.1 t.1 >>= λ more. Some (t.0.0 ∷ more.0, more.1)) o ≡ Some (threads, rest) → ReadThreads (suc left) names threads ts rest
+    by : ((more : List (List ℕ)) (us : List Thread) (vs last : List Token)
+        → read_threads left channels more vs ≡ Some (us, last) → ReadThreads left more us vs last)
+        → (o : Option (List Token)) → word_first words.Thread ts ≡ o
+        → end_or_thread ts (λ behind. read_new_thread channels names behind >>= λ t.
+        read_threads left channels t.0.1 t.1 >>= λ more. Some (t.0.0 ∷ more.0, more.1)) o ≡ Some (threads, rest)
+        → ReadThreads (suc left) names threads ts rest
     by later None f e = no_threads (suc left) names threads ts rest e
     by later (Some behind) f e =
         let a = bind_some (read_new_thread channels names behind) _ _ e in
@@ -482,10 +544,17 @@ names_end : (names all : List (List ℕ)) (ts rest : List Token) → semicolon_o
 names_end names all ts rest e =
     let a = bind_some (sign_first signs.Semicolon ts) _ _ e in
     let same = both_same _ _ a.2 in
-    let none : ReadNames names names ts rest = record { added = []; appended = sym (append-nil names); few = λ h. h; distinct = λ d. d; spelled = (ts, refl, sign_is signs.Semicolon ts rest (a.1 ∙ ap Some same.1)) } in
+    let none : ReadNames names names ts rest = record {
+      added = [];
+      appended = sym (append-nil names);
+      few = λ h. h;
+      distinct = λ d. d;
+      spelled = (ts, refl, sign_is signs.Semicolon ts rest (a.1 ∙ ap Some same.1));
+    } in
     subst (λ (x : List (List ℕ)). ReadNames names x ts rest) same.0 none
 
-name_before : (names more all : List (List ℕ)) (n : List ℕ) (ts behind rest : List Token) → ts ≡ tokens.name n ∷ behind → declared_in 256 names n ≡ Some more → ReadNames more all behind rest → ReadNames names all ts rest
+name_before : (names more all : List (List ℕ)) (n : List ℕ) (ts behind rest : List Token) → ts ≡ tokens.name n ∷ behind
+    → declared_in 256 names n ≡ Some more → ReadNames more all behind rest → ReadNames names all ts rest
 name_before names more all n ts behind rest begins e later =
     let d = declared 256 names n more e in
     record {
@@ -516,7 +585,9 @@ pub record ReadChannels (channels : List (List ℕ)) (ts rest : List Token) : Ty
   pub distinct : AreDistinct channels
   pub spelled : spells_channels true channels ts rest
 
-channels_begin : (names : List (List ℕ)) (u : Unit {0}) (ts behind rest : List Token) → if_some names ≡ Some u → ts ≡ word words.Channels ∷ behind → (spells_names true names ⨟ is (sign signs.Semicolon)) behind rest → spells_channels true names ts rest
+channels_begin : (names : List (List ℕ)) (u : Unit {0}) (ts behind rest : List Token) → if_some names ≡ Some u
+    → ts ≡ word words.Channels ∷ behind → (spells_names true names ⨟ is (sign signs.Semicolon)) behind rest
+    → spells_channels true names ts rest
 channels_begin [] u ts behind rest some begins h = absurd cc
 channels_begin (n ∷ ns) u ts behind rest some begins h = (behind, begins, h)
 
@@ -547,7 +618,9 @@ pub record ReadProgram (p : Program) (ts rest : List Token) : Type 0 where
   pub kept : IsProgram p
   pub spelled : spells_program true p ts rest
 
-pub program_of : (channels : List (List ℕ)) (threads : List Thread) (ts middle rest : List Token) → ReadChannels channels ts middle → 0 < length threads → read_threads 64 channels [] middle ≡ Some (threads, rest) → ReadProgram (record { channels = channels; threads = threads }) ts rest
+pub program_of : (channels : List (List ℕ)) (threads : List Thread) (ts middle rest : List Token)
+    → ReadChannels channels ts middle → 0 < length threads → read_threads 64 channels [] middle ≡ Some (threads, rest)
+    → ReadProgram (record { channels = channels; threads = threads }) ts rest
 program_of channels threads ts middle rest c some e =
     let t = threads_read (length channels) channels (omega arith) 64 [] threads middle rest e in
     record {

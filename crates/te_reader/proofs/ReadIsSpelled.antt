@@ -15,7 +15,11 @@ use Rattle.te_reader.specs.Heads.{sign_first, name_first, inner_first, integer_f
 use Rattle.te_reader.specs.Integers.{integer_value}
 use Rattle.te_reader.specs.Grammar.{Names, spells_variable, spells_integer, arith_sign, spells_primitive, spells_calculation, spells_inside, spells_further, spells_expression}
 use Rattle.te_reader.specs.NameReads.{Read, first_place_of, fitting, integer_read, or_inner, variable_named}
-use Rattle.te_reader.specs.ExpressionReads.{place_read, read_place, read_inner_part, part_or_channel, read_named, named_or_inner, integer_or_name, read_primitive, or_star, or_minus, or_plus, arith_first, one_or_both, read_calculation, end_or_more, read_calculations, empty_or_calculations, read_tuple, inner_or_tuple, variable_or_tuple, read_expression}
+use Rattle.te_reader.specs.ExpressionReads.{place_read, read_place, read_inner_part, part_or_channel, read_named}
+use Rattle.te_reader.specs.ExpressionReads.{named_or_inner, integer_or_name, read_primitive, or_star, or_minus, or_plus}
+use Rattle.te_reader.specs.ExpressionReads.{arith_first, one_or_both, read_calculation, end_or_more, read_calculations}
+use Rattle.te_reader.specs.ExpressionReads.{empty_or_calculations, read_tuple, inner_or_tuple, variable_or_tuple}
+use Rattle.te_reader.specs.ExpressionReads.{read_expression}
 use Rattle.te_reader.proofs.NameLemmas.{bind_some, place_is}
 use Rattle.te_reader.proofs.HeadLemmas.{carried, name_is, inner_is, integer_is, sign_is}
 
@@ -86,7 +90,9 @@ module _ (m : ℕ) (s : Names) (many : length s.channels ≤ m) where
     pub scoped : IsPrimitive (scope_of m s) p
 
   -- a place of a variable
-  part_is : (x : Variable) (d : ℕ) (ts middle behind rest : List Token) → spells_variable true s x ts middle → IsVariable (scope_of m s) x → sign_first signs.Dot middle ≡ Some behind → read_place behind ≡ Some (d, rest) → ReadPrimitive (part x d) ts rest
+  part_is : (x : Variable) (d : ℕ) (ts middle behind rest : List Token) → spells_variable true s x ts middle
+      → IsVariable (scope_of m s) x → sign_first signs.Dot middle ≡ Some behind → read_place behind ≡ Some (d, rest)
+      → ReadPrimitive (part x d) ts rest
   part_is x d ts middle behind rest h scoped dot e =
       let place = place_read d behind rest e in
       record { spelled = (place.1, (middle, h, (behind, sign_is signs.Dot middle behind dot, place.0))); scoped = (scoped, omega (arith, place.1)) }
@@ -165,8 +171,12 @@ module _ (m : ℕ) (s : Names) (many : length s.channels ≤ m) where
   calculations_read (suc left) cs ts rest e =
       let a = bind_some (read_calculation s ts) _ _ e in
       by a.0.0 a.0.1 (calculation_read a.0.0 ts a.0.1 a.1) (calculations_read left) (sign_first signs.Close a.0.1) refl a.2 where
-        by : (c : Calculation) (after : List Token) → ReadCalculation c ts after → ((ds : List Calculation) (us last : List Token) → read_calculations left s us ≡ Some (ds, last) → ReadCalculations left ds us last × (0 < length ds))
-            → (o : Option (List Token)) → sign_first signs.Close after ≡ o → end_or_more c after (read_calculations left s) o ≡ Some (cs, rest) → ReadCalculations (suc left) cs ts rest × (0 < length cs)
+        by : (c : Calculation) (after : List Token) → ReadCalculation c ts after
+            → ((ds : List Calculation) (us last : List Token) → read_calculations left s us ≡ Some (ds, last)
+            → ReadCalculations left ds us last × (0 < length ds))
+            → (o : Option (List Token)) → sign_first signs.Close after ≡ o
+            → end_or_more c after (read_calculations left s) o ≡ Some (cs, rest)
+            → ReadCalculations (suc left) cs ts rest × (0 < length cs)
         by c after good later (Some last) f e =
             carried (λ xs end. ReadCalculations (suc left) xs ts end × (0 < length xs)) (c ∷ []) cs last rest e
             (record { inside = (after, good.spelled, sign_is signs.Close after last f); scoped = (good.scoped, tt); most = omega arith }, omega arith)

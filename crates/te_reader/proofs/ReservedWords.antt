@@ -44,7 +44,49 @@ reserved_back words.Repeat = refl
 -- ---- the words of the language are its reserved words
 
 pub differs_from_reserved : (n : List ℕ) → ((w : Word) → word_spelling w ≢ n) → AllByRecursion (λ x. x ≢ n) reserved_words
-differs_from_reserved n h = (h words.Channels, (h words.Thread, (h words.Sync, (h words.Emit, (h words.Always, (h words.Never, (h words.Throw, (h words.Send, (h words.Recv, (h words.Do, (h words.Choose, (h words.Try, (h words.Catch, (h words.If, (h words.Else, (h words.Fresh, (h words.Repeat, tt)))))))))))))))))
+differs_from_reserved n h = (
+  h words.Channels,
+  (
+    h words.Thread,
+    (
+      h words.Sync,
+      (
+        h words.Emit,
+        (
+          h words.Always,
+          (
+            h words.Never,
+            (
+              h words.Throw,
+              (
+                h words.Send,
+                (
+                  h words.Recv,
+                  (
+                    h words.Do,
+                    (
+                      h words.Choose,
+                      (
+                        h words.Try,
+                        (
+                          h words.Catch,
+                          (
+                            h words.If,
+                            (h words.Else, (h words.Fresh, (h words.Repeat, tt))),
+                          ),
+                        ),
+                      ),
+                    ),
+                  ),
+                ),
+              ),
+            ),
+          ),
+        ),
+      ),
+    ),
+  ),
+)
 
 pub differs_from_words : (n : List ℕ) → AllByRecursion (λ x. x ≢ n) reserved_words → (w : Word) → word_spelling w ≢ n
 differs_from_words n h words.Channels = h.0

@@ -8,7 +8,9 @@ use Rattle.te_reader.specs.declared.token.Word.TheVariants as words
 use Rattle.te_reader.specs.declared.token.Sign.{Sign}
 use Rattle.te_reader.specs.declared.token.Sign.TheVariants as signs
 use Rattle.te_script.specs.Names.{is_word_byte}
-use Rattle.te_reader.specs.Tokens.{Token, word, name, inner, integer, sign, word_spelling, sign_spelling, spelling, IsDigits, IsToken, Between, in_blanks, in_comment, is_blank, IsGap, IsLongest, Spells}
+use Rattle.te_reader.specs.Tokens.{Token, word, name, inner, integer, sign, word_spelling, sign_spelling, spelling}
+use Rattle.te_reader.specs.Tokens.{IsDigits, IsToken, Between, in_blanks, in_comment, is_blank, IsGap, IsLongest}
+use Rattle.te_reader.specs.Tokens.{Spells}
 use Rattle.te_reader.specs.Lexed.{gap, found, reserved_as, word_or_name, token_at, piece_at, before, byte_run, lexed_behind, lexed}
 use Rattle.te_reader.proofs.ByteKinds.{letter_is_no_gap, digit_is_no_gap, digit_is_no_letter}
 use Rattle.te_reader.proofs.ReservedWords.{reserved_spells, reserved_back, differs_from_words}
@@ -40,12 +42,16 @@ gap_passed : (place : Between) (g xs : List ℕ) → IsGap place g → lexed_beh
 gap_passed in_blanks [] xs h = refl
 gap_passed in_comment [] xs h = absurd h
 gap_passed in_blanks (b ∷ bs) xs h = by h (gap_passed in_blanks bs xs) (gap_passed in_comment bs xs) where
-  by : ((is_blank b ≡ true) × IsGap in_blanks bs) ⊎ ((b ≡ 35) × IsGap in_comment bs) → (IsGap in_blanks bs → lexed_behind in_blanks 0 (bs ++ xs) ≡ lexed xs) → (IsGap in_comment bs → lexed_behind in_comment 0 (bs ++ xs) ≡ lexed xs)
+  by : ((is_blank b ≡ true) × IsGap in_blanks bs) ⊎ ((b ≡ 35) × IsGap in_comment bs)
+      → (IsGap in_blanks bs → lexed_behind in_blanks 0 (bs ++ xs) ≡ lexed xs)
+      → (IsGap in_comment bs → lexed_behind in_comment 0 (bs ++ xs) ≡ lexed xs)
       → lexed_behind in_blanks 0 (b ∷ (bs ++ xs)) ≡ lexed xs
   by (inl k) blanks comment = stepped in_blanks in_blanks b (bs ++ xs) (blank_piece b (bs ++ xs) k.0) ∙ blanks k.1
   by (inr k) blanks comment = stepped in_blanks in_comment b (bs ++ xs) (hash_piece b (bs ++ xs) k.0) ∙ comment k.1
 gap_passed in_comment (b ∷ bs) xs h = by h (gap_passed in_blanks bs xs) (gap_passed in_comment bs xs) where
-  by : ((b ≡ 10) × IsGap in_blanks bs) ⊎ ((b ≢ 10) × IsGap in_comment bs) → (IsGap in_blanks bs → lexed_behind in_blanks 0 (bs ++ xs) ≡ lexed xs) → (IsGap in_comment bs → lexed_behind in_comment 0 (bs ++ xs) ≡ lexed xs)
+  by : ((b ≡ 10) × IsGap in_blanks bs) ⊎ ((b ≢ 10) × IsGap in_comment bs)
+      → (IsGap in_blanks bs → lexed_behind in_blanks 0 (bs ++ xs) ≡ lexed xs)
+      → (IsGap in_comment bs → lexed_behind in_comment 0 (bs ++ xs) ≡ lexed xs)
       → lexed_behind in_comment 0 (b ∷ (bs ++ xs)) ≡ lexed xs
   by (inl k) blanks comment = stepped in_comment in_blanks b (bs ++ xs) (line_piece b (bs ++ xs) k.0) ∙ blanks k.1
   by (inr k) blanks comment = stepped in_comment in_comment b (bs ++ xs) (inside_piece b (bs ++ xs) k.0) ∙ comment k.1
@@ -55,12 +61,14 @@ last_gap : (place : Between) (text : List ℕ) → IsGap place (text ++ 10 ∷ [
 unfolding lexed_behind
 last_gap place [] h = refl
 last_gap in_blanks (b ∷ bs) h = by h (last_gap in_blanks bs) (last_gap in_comment bs) where
-  by : ((is_blank b ≡ true) × IsGap in_blanks (bs ++ 10 ∷ [])) ⊎ ((b ≡ 35) × IsGap in_comment (bs ++ 10 ∷ [])) → (IsGap in_blanks (bs ++ 10 ∷ []) → lexed_behind in_blanks 0 bs ≡ record { tokens = []; whole = true })
+  by : ((is_blank b ≡ true) × IsGap in_blanks (bs ++ 10 ∷ [])) ⊎ ((b ≡ 35) × IsGap in_comment (bs ++ 10 ∷ []))
+      → (IsGap in_blanks (bs ++ 10 ∷ []) → lexed_behind in_blanks 0 bs ≡ record { tokens = []; whole = true })
       → (IsGap in_comment (bs ++ 10 ∷ []) → lexed_behind in_comment 0 bs ≡ record { tokens = []; whole = true }) → lexed_behind in_blanks 0 (b ∷ bs) ≡ record { tokens = []; whole = true }
   by (inl k) blanks comment = stepped in_blanks in_blanks b bs (blank_piece b bs k.0) ∙ blanks k.1
   by (inr k) blanks comment = stepped in_blanks in_comment b bs (hash_piece b bs k.0) ∙ comment k.1
 last_gap in_comment (b ∷ bs) h = by h (last_gap in_blanks bs) (last_gap in_comment bs) where
-  by : ((b ≡ 10) × IsGap in_blanks (bs ++ 10 ∷ [])) ⊎ ((b ≢ 10) × IsGap in_comment (bs ++ 10 ∷ [])) → (IsGap in_blanks (bs ++ 10 ∷ []) → lexed_behind in_blanks 0 bs ≡ record { tokens = []; whole = true })
+  by : ((b ≡ 10) × IsGap in_blanks (bs ++ 10 ∷ [])) ⊎ ((b ≢ 10) × IsGap in_comment (bs ++ 10 ∷ []))
+      → (IsGap in_blanks (bs ++ 10 ∷ []) → lexed_behind in_blanks 0 bs ≡ record { tokens = []; whole = true })
       → (IsGap in_comment (bs ++ 10 ∷ []) → lexed_behind in_comment 0 bs ≡ record { tokens = []; whole = true }) → lexed_behind in_comment 0 (b ∷ bs) ≡ record { tokens = []; whole = true }
   by (inl k) blanks comment = stepped in_comment in_blanks b bs (line_piece b bs k.0) ∙ blanks k.1
   by (inr k) blanks comment = stepped in_comment in_comment b bs (inside_piece b bs k.0) ∙ comment k.1

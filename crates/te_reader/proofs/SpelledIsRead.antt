@@ -17,7 +17,9 @@ use Rattle.te_reader.specs.declared.token.Sign.TheVariants as signs
 use Rattle.te_reader.specs.Tokens as tokens
 use Rattle.te_reader.specs.Tokens.{Token, word, sign}
 use Rattle.te_reader.specs.Heads.{word_number, sign_number, word_first, sign_first, name_first, inner_first, bound_first, integer_first}
-use Rattle.te_reader.specs.Grammar.{Names, IsAt, IsNew, IsShortName, IsFreeName, bound_name, with_inner, spells_variable, spells_integer, spells_primitive, arith_sign, spells_calculation, spells_further, spells_inside, spells_expression}
+use Rattle.te_reader.specs.Grammar.{Names, IsAt, IsNew, IsShortName, IsFreeName, bound_name, with_inner}
+use Rattle.te_reader.specs.Grammar.{spells_variable, spells_integer, spells_primitive, arith_sign, spells_calculation}
+use Rattle.te_reader.specs.Grammar.{spells_further, spells_inside, spells_expression}
 use Rattle.te_reader.specs.NameReads.{first_place_of, declared_in, bound_in, integer_read, variable_named}
 use Rattle.te_reader.specs.ExpressionReads.{read_place, read_inner_part, read_named, read_primitive, arith_first, read_calculation, read_calculations, read_tuple, read_expression}
 use Rattle.te_reader.proofs.NameLemmas.{place_cons}
@@ -200,15 +202,20 @@ module _ (s : Names) (keeps : InScope s) where
   unfolding read_named
   named_channel c n ts e f = rw (e, f) refl
 
-  named_part : (x : Variable) (d : ℕ) (n : List ℕ) (ts behind rest : List Token) → sign_first signs.Dot ts ≡ Some behind → variable_named s n ≡ Some x → read_place behind ≡ Some (d, rest) → read_named s n ts ≡ Some (part x d, rest)
+  named_part : (x : Variable) (d : ℕ) (n : List ℕ) (ts behind rest : List Token) → sign_first signs.Dot ts ≡ Some behind
+      → variable_named s n ≡ Some x → read_place behind ≡ Some (d, rest) → read_named s n ts ≡ Some (part x d, rest)
   unfolding read_named
   named_part x d n ts behind rest e f g = rw (e, f, g) refl
 
-  inner_part : (l d : ℕ) (n : List ℕ) (ts middle behind rest : List Token) → ts ≡ tokens.inner n ∷ middle → first_place_of s.inners n ≡ Some l → sign_first signs.Dot middle ≡ Some behind → read_place behind ≡ Some (d, rest) → read_inner_part s ts ≡ Some (part (name l) d, rest)
+  inner_part : (l d : ℕ) (n : List ℕ) (ts middle behind rest : List Token) → ts ≡ tokens.inner n ∷ middle
+      → first_place_of s.inners n ≡ Some l → sign_first signs.Dot middle ≡ Some behind
+      → read_place behind ≡ Some (d, rest) → read_inner_part s ts ≡ Some (part (name l) d, rest)
   unfolding read_inner_part inner_first
   inner_part l d n ts middle behind rest e f g h = rw (e, f, g, h) refl
 
-  part_is_read : (x : Variable) (d : ℕ) (ts middle behind rest : List Token) → spells_variable true s x ts middle → sign_first signs.Dot middle ≡ Some behind → read_place behind ≡ Some (d, rest) → read_primitive s ts ≡ Some (part x d, rest)
+  part_is_read : (x : Variable) (d : ℕ) (ts middle behind rest : List Token) → spells_variable true s x ts middle
+      → sign_first signs.Dot middle ≡ Some behind → read_place behind ≡ Some (d, rest)
+      → read_primitive s ts ≡ Some (part x d, rest)
   part_is_read (register r) d ts middle behind rest h dot place = at_name h.0 ts middle h.1.1 ∙ named_part (register r) d h.0 middle behind rest dot (register_named r h.0 h.1.0) place
   part_is_read (name l) d ts middle behind rest h dot place = by h.1.1 where
     by : bound_name h.0 ts middle → read_primitive s ts ≡ Some (part (name l) d, rest)
@@ -225,14 +232,16 @@ module _ (s : Names) (keeps : InScope s) where
       let b = a.2 in
       part_is_read x d ts a.0 b.0 rest a.1 (takes_sign signs.Dot a.0 b.0 b.1) (place_is_read d b.0 rest h.0 b.2)
 
-  pub calculation_is_read : (c : Calculation) (ts rest : List Token) → spells_calculation true s c ts rest → (sign_first signs.Dot rest ≡ None) × (arith_first rest ≡ None) → read_calculation s ts ≡ Some (c, rest)
+  pub calculation_is_read : (c : Calculation) (ts rest : List Token) → spells_calculation true s c ts rest
+      → (sign_first signs.Dot rest ≡ None) × (arith_first rest ≡ None) → read_calculation s ts ≡ Some (c, rest)
   unfolding read_calculation
   calculation_is_read (one p) ts rest h ends = rw (primitive_is_read p ts rest h ends.0, ends.1) refl
   calculation_is_read (both o p q) ts rest h ends =
       let a = h.2 in
       rw (primitive_is_read p ts h.0 h.1 (no_dot_at_arith o h.0 a.0 a.1), takes_arith o h.0 a.0 a.1, primitive_is_read q a.0 rest a.2 ends.0) refl
 
-  pub calculations_are_read : (left : ℕ) (c : Calculation) (cs : List Calculation) (ts rest : List Token) → length (c ∷ cs) ≤ left → spells_inside true s (c ∷ cs) ts rest → read_calculations left s ts ≡ Some (c ∷ cs, rest)
+  pub calculations_are_read : (left : ℕ) (c : Calculation) (cs : List Calculation) (ts rest : List Token)
+      → length (c ∷ cs) ≤ left → spells_inside true s (c ∷ cs) ts rest → read_calculations left s ts ≡ Some (c ∷ cs, rest)
   unfolding read_calculations
   calculations_are_read zero c cs ts rest most h = absurd (omega arith)
   calculations_are_read (suc left) c [] ts rest most h =
@@ -240,7 +249,13 @@ module _ (s : Names) (keeps : InScope s) where
   calculations_are_read (suc left) c (d ∷ ds) ts rest most h =
       let after = h.2 in
       let later = calculations_are_read left d ds after.0 rest (omega arith) after.2 in
-      rw (calculation_is_read c ts h.0 h.1 (behind_calculation s (d ∷ ds) h.0 rest h.2), other_sign signs.Close signs.Comma h.0 after.0 after.1 refl, takes_sign signs.Comma h.0 after.0 after.1, later) refl
+      rw (
+        calculation_is_read c ts h.0 h.1 (behind_calculation s (d ∷ ds) h.0 rest h.2),
+        other_sign signs.Close signs.Comma h.0 after.0 after.1 refl,
+        takes_sign signs.Comma h.0 after.0 after.1,
+        later,
+      )
+      refl
 
   pub tuple_is_read : (cs : List Calculation) (ts rest : List Token) → length cs ≤ 4 → spells_inside true s cs ts rest → read_tuple s ts ≡ Some (cs, rest)
   unfolding read_tuple

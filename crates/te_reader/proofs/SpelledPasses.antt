@@ -59,11 +59,15 @@ inside_is (tokens.integer n) d f e = e
 inside_is (tokens.sign g) d f e = absurd cc
 
 -- a variable before its place
-variable_first : (first : Bool) (more : List Part) (t : Token) (d : Bool) → d ≡ true → (((n : List ℕ) × (t ≡ tokens.name n)) ⊎ ((n : List ℕ) × (t ≡ tokens.inner n))) → operand_form first more (token t) d ≡ Some (form (roles.Variable first) (place_of_it more))
+variable_first : (first : Bool) (more : List Part) (t : Token) (d : Bool) → d ≡ true
+    → (((n : List ℕ) × (t ≡ tokens.name n)) ⊎ ((n : List ℕ) × (t ≡ tokens.inner n)))
+    → operand_form first more (token t) d ≡ Some (form (roles.Variable first) (place_of_it more))
 variable_first first more t d e (inl h) = rw (h.1, e) refl
 variable_first first more t d e (inr h) = rw h.1 refl
 
-pub primitive_goes : (p : Part) (first : Bool) (more : List Part) → IsOperand p first more → (q : Primitive) (wanted : List Part) (c : Context) (ts rest : List Token) → spells_primitive true (names_in c) q ts rest
+pub primitive_goes : (p : Part) (first : Bool) (more : List Part) → IsOperand p first more
+    → (q : Primitive) (wanted : List Part) (c : Context) (ts rest : List Token)
+    → spells_primitive true (names_in c) q ts rest
     → (first && nat_le 4 c.calculations) ≡ false → dotted rest ≡ false → Goes (p ∷ wanted) c ts (more ++ wanted) (begun first c) rest
 primitive_goes p first more is (int z) wanted c ts rest h few plain =
     goes p (form (roles.Integer first) more) wanted c (tokens.integer h.1.0) ts rest h.1.2 (is _ _ _ refl) (rw (h.1.1, h.0, few) refl)
@@ -85,7 +89,9 @@ further_plain : (c : Context) (cs : List Calculation) (ts rest : List Token) →
 further_plain c [] ts rest h = rw h refl
 further_plain c (q ∷ qs) ts rest h = rw h.1 refl
 
-further_behind : (c : Context) (cs : List Calculation) (wanted : List Part) (ts rest : List Token) → spells_further true (names_in c) cs ts rest → run (parts.Behind ∷ wanted) c (spots_of ts) ≡ run (parts.Further ∷ wanted) c (spots_of ts)
+further_behind : (c : Context) (cs : List Calculation) (wanted : List Part) (ts rest : List Token)
+    → spells_further true (names_in c) cs ts rest → run (parts.Behind ∷ wanted) c (spots_of ts) ≡ run
+    (parts.Further ∷ wanted) c (spots_of ts)
 unfolding run pick pick_plain
 further_behind c [] wanted ts rest h = rw h refl
 further_behind c (q ∷ qs) wanted ts rest h = rw h.1 refl
@@ -100,7 +106,9 @@ arith_goes ariths.Add wanted c ts rest e = goes parts.Behind (form (roles.Sign s
 arith_goes ariths.Sub wanted c ts rest e = goes parts.Behind (form (roles.Sign signs.Minus) (parts.Operand ∷ parts.Further ∷ [])) wanted c (sign signs.Minus) ts rest e refl refl
 arith_goes ariths.Mul wanted c ts rest e = goes parts.Behind (form (roles.Sign signs.Star) (parts.Operand ∷ parts.Further ∷ [])) wanted c (sign signs.Star) ts rest e refl refl
 
-calculation_goes : (p : Part) → IsOperand p true (parts.Behind ∷ []) → (q : Calculation) (qs : List Calculation) (wanted : List Part) (c : Context) (ts middle rest : List Token) → spells_calculation true (names_in c) q ts middle
+calculation_goes : (p : Part) → IsOperand p true (parts.Behind ∷ [])
+    → (q : Calculation) (qs : List Calculation) (wanted : List Part) (c : Context) (ts middle rest : List Token)
+    → spells_calculation true (names_in c) q ts middle
     → spells_further true (names_in c) qs middle rest → c.calculations + length (q ∷ qs) ≤ 4 → Ends (begun true c) qs wanted middle rest → Goes (p ∷ wanted) c ts wanted (calm c) rest
 calculation_goes p is (one x) qs wanted c ts middle rest h further few later =
     let under : (true && nat_le 4 c.calculations) ≡ false = grind (arith, nat_tests, few) in
@@ -126,7 +134,9 @@ further_goes (q ∷ qs) wanted c ts rest h few =
     goes parts.Further (form (roles.Sign signs.Comma) (parts.Calculation ∷ [])) wanted c (sign signs.Comma) ts h.0 h.1 refl refl
     ∙ calculation_goes parts.Calculation calculation_is q qs wanted c h.0 h.2.0 rest h.2.1 h.2.2 few (further_goes qs wanted (begun true c) h.2.0 rest)
 
-inside_goes : (cs : List Calculation) (wanted : List Part) (c : Context) (ts rest : List Token) → spells_inside true (names_in c) cs ts rest → c.calculations + length cs ≤ 4 → Goes (parts.Inside ∷ wanted) c ts wanted (calm c) rest
+inside_goes : (cs : List Calculation) (wanted : List Part) (c : Context) (ts rest : List Token)
+    → spells_inside true (names_in c) cs ts rest → c.calculations + length cs ≤ 4
+    → Goes (parts.Inside ∷ wanted) c ts wanted (calm c) rest
 unfolding pick pick_plain
 inside_goes [] wanted c ts rest h few = goes parts.Inside (form roles.TupleEnd []) wanted c (sign signs.Close) ts rest h refl refl
 inside_goes (q ∷ qs) wanted c ts rest h few = calculation_goes parts.Inside inside_is q qs wanted c ts h.0 rest h.1 h.2 few (further_goes qs wanted (begun true c) h.0 rest)
@@ -136,7 +146,9 @@ abbrev pub IsFew : Expression → Type 0
 IsFew (whole x) = Unit {0}
 IsFew (tuple cs) = length cs ≤ 4
 
-pub expression_goes : (e : Expression) (wanted : List Part) (c : Context) (ts rest : List Token) → spells_expression true (names_in c) e ts rest → IsFew e → c.calculations ≡ 0 → Goes (parts.Expression ∷ wanted) c ts wanted c rest
+pub expression_goes : (e : Expression) (wanted : List Part) (c : Context) (ts rest : List Token)
+    → spells_expression true (names_in c) e ts rest → IsFew e → c.calculations ≡ 0
+    → Goes (parts.Expression ∷ wanted) c ts wanted c rest
 unfolding pick pick_plain
 expression_goes (whole x) wanted c ts rest h few none =
     let v = variable_named c x ts rest h in

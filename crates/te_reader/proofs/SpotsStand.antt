@@ -65,7 +65,9 @@ gap_before place next b (s ∷ more) bs step h = (h.0, by s.head h.1) where
         },
       )
 
-token_before : (b : ℕ) (bs : List ℕ) (t : Token) (more : List Spot) → token_at b bs ≡ found t → AreSpots more (drop (pred (length (spelling t))) bs) → SpotsFrom in_blanks (spot (token t) (suc (length bs)) more) (b ∷ bs)
+token_before : (b : ℕ) (bs : List ℕ) (t : Token) (more : List Spot) → token_at b bs ≡ found t
+    → AreSpots more (drop (pred (length (spelling t))) bs) → SpotsFrom in_blanks (spot (token t) (suc (length bs)) more)
+    (b ∷ bs)
 token_before b bs t more e h =
     let f = token_found b bs t e in
     let rest_is : drop (limit b bs) bs ≡ drop (pred (length (spelling t))) bs = ap (λ n. drop (pred n) bs) (sym f.long) in
@@ -98,11 +100,14 @@ other_of in_comment b bs e = by (b == 10) e where
   by true e = absurd cc
   by false e = absurd cc
 other_of in_blanks b bs e = blank (is_blank b) refl e where
-  hash : is_blank b ≡ false → (v : Bool) → (v ≡ false → b ≢ 35) → (if v then gap in_comment else token_at b bs) ≡ other → (in_blanks ≡ in_blanks) × (is_blank b ≡ false) × (b ≢ 35) × (token_at b bs ≡ other)
+  hash : is_blank b ≡ false → (v : Bool) → (v ≡ false → b ≢ 35) → (if v then gap in_comment else token_at b bs) ≡ other
+      → (in_blanks ≡ in_blanks) × (is_blank b ≡ false) × (b ≢ 35) × (token_at b bs ≡ other)
   hash f true unlike e = absurd cc
   hash f false unlike e = (refl, f, unlike refl, e)
 
-  blank : (v : Bool) → is_blank b ≡ v → (if v then gap in_blanks else (if b == 35 then gap in_comment else token_at b bs)) ≡ other → (in_blanks ≡ in_blanks) × (is_blank b ≡ false) × (b ≢ 35) × (token_at b bs ≡ other)
+  blank : (v : Bool) → is_blank b ≡ v → (if v then gap in_blanks else
+      (if b == 35 then gap in_comment else token_at b bs)) ≡ other
+      → (in_blanks ≡ in_blanks) × (is_blank b ≡ false) × (b ≢ 35) × (token_at b bs ≡ other)
   blank true f e = absurd cc
   blank false f e = hash f (b == 35) (eqb-false b 35) e
 
@@ -135,12 +140,16 @@ gap_passed : (place : Between) (g xs : List ℕ) → IsGap place g → spots_beh
 gap_passed in_blanks [] xs h = refl
 gap_passed in_comment [] xs h = absurd h
 gap_passed in_blanks (b ∷ bs) xs h = by h (gap_passed in_blanks bs xs) (gap_passed in_comment bs xs) where
-  by : ((is_blank b ≡ true) × IsGap in_blanks bs) ⊎ ((b ≡ 35) × IsGap in_comment bs) → (IsGap in_blanks bs → spots_behind in_blanks 0 (bs ++ xs) ≡ spots xs) → (IsGap in_comment bs → spots_behind in_comment 0 (bs ++ xs) ≡ spots xs)
+  by : ((is_blank b ≡ true) × IsGap in_blanks bs) ⊎ ((b ≡ 35) × IsGap in_comment bs)
+      → (IsGap in_blanks bs → spots_behind in_blanks 0 (bs ++ xs) ≡ spots xs)
+      → (IsGap in_comment bs → spots_behind in_comment 0 (bs ++ xs) ≡ spots xs)
       → spots_behind in_blanks 0 (b ∷ (bs ++ xs)) ≡ spots xs
   by (inl k) blanks comment = stepped in_blanks in_blanks b (bs ++ xs) (blank_piece b (bs ++ xs) k.0) ∙ blanks k.1
   by (inr k) blanks comment = stepped in_blanks in_comment b (bs ++ xs) (hash_piece b (bs ++ xs) k.0) ∙ comment k.1
 gap_passed in_comment (b ∷ bs) xs h = by h (gap_passed in_blanks bs xs) (gap_passed in_comment bs xs) where
-  by : ((b ≡ 10) × IsGap in_blanks bs) ⊎ ((b ≢ 10) × IsGap in_comment bs) → (IsGap in_blanks bs → spots_behind in_blanks 0 (bs ++ xs) ≡ spots xs) → (IsGap in_comment bs → spots_behind in_comment 0 (bs ++ xs) ≡ spots xs)
+  by : ((b ≡ 10) × IsGap in_blanks bs) ⊎ ((b ≢ 10) × IsGap in_comment bs)
+      → (IsGap in_blanks bs → spots_behind in_blanks 0 (bs ++ xs) ≡ spots xs)
+      → (IsGap in_comment bs → spots_behind in_comment 0 (bs ++ xs) ≡ spots xs)
       → spots_behind in_comment 0 (b ∷ (bs ++ xs)) ≡ spots xs
   by (inl k) blanks comment = stepped in_comment in_blanks b (bs ++ xs) (line_piece b (bs ++ xs) k.0) ∙ blanks k.1
   by (inr k) blanks comment = stepped in_comment in_comment b (bs ++ xs) (inside_piece b (bs ++ xs) k.0) ∙ comment k.1
@@ -160,7 +169,9 @@ last_gap in_comment (b ∷ bs) h = by h (last_gap in_blanks bs) (last_gap in_com
   by (inr k) blanks comment = stepped in_comment in_comment b bs (inside_piece b bs k.0) ∙ comment k.1
 
 -- a byte that begins no token is found strange
-strange_first : (b : ℕ) (bs : List ℕ) → is_blank b ≡ false → b ≢ 35 → ((u : Token) (more : List ℕ) → IsToken u → b ∷ bs ≡ spelling u ++ more → ⊥) → spots (b ∷ bs) ≡ spot (strange b) (suc (length bs)) []
+strange_first : (b : ℕ) (bs : List ℕ) → is_blank b ≡ false → b ≢ 35
+    → ((u : Token) (more : List ℕ) → IsToken u → b ∷ bs ≡ spelling u ++ more → ⊥)
+    → spots (b ∷ bs) ≡ spot (strange b) (suc (length bs)) []
 unfolding spots_behind
 strange_first b bs no_blank no_comment no_token = rw (by (token_at b bs) refl) refl where
   by : (p : Piece) → token_at b bs ≡ p → piece_at in_blanks b bs ≡ other
@@ -178,7 +189,8 @@ only_spots (s ∷ more) text h = by s.head refl h.1 (only_spots more) where
   by (token t) e f later =
       let k = f.1 in
       let b = k.begins in
-      let same : s ≡ record { head = token t; dotted = begins_with_dot more; left = length (spelling t ++ f.0) } = equal_spots s (token t) (begins_with_dot more) (length (spelling t ++ f.0)) e h.0 k.place in
+      let same : s ≡ record { head = token t; dotted = begins_with_dot more; left = length (spelling t ++ f.0) } =
+      equal_spots s (token t) (begins_with_dot more) (length (spelling t ++ f.0)) e h.0 k.place in
       ap (λ x. x ∷ more) same
       ∙ ap (λ m. spot (token t) (length (spelling t ++ f.0)) m) (later f.0 f.2)
       ∙ sym (token_taken t f.0 b.is_token b.is_longest).1

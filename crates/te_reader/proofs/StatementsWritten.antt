@@ -19,7 +19,9 @@ use Rattle.te_reader.specs.Grammar.{Span, is, ◌⨟◌, IsAt, IsShortName, alon
 use Rattle.te_reader.specs.Canonical.{Spelling, name_at, expression_text, event_text, indent, closing, sync_text, emit_text, lines_text}
 use Rattle.te_reader.proofs.ListsKept.{all_at}
 use Rattle.te_reader.proofs.Regrouped.{four, five}
-use Rattle.te_reader.proofs.TokensWritten.{Writes, StandsApart, brace_opens, brace_closes, semicolon_is, then_writes, word_writes, name_writes, nothing_writes, sign_before, sign_and_blank, blank_writes, named_writes, under_writes}
+use Rattle.te_reader.proofs.TokensWritten.{Writes, StandsApart, brace_opens, brace_closes, semicolon_is, then_writes}
+use Rattle.te_reader.proofs.TokensWritten.{word_writes, name_writes, nothing_writes, sign_before, sign_and_blank}
+use Rattle.te_reader.proofs.TokensWritten.{blank_writes, named_writes, under_writes}
 use Rattle.te_reader.proofs.IntegersWritten.{decimal_writes}
 use Rattle.te_reader.proofs.ExpressionsWritten.{scope_at, at_each, expression_writes}
 use Rattle.te_reader.proofs.EventsWritten.{event_writes}
@@ -67,7 +69,9 @@ module _ (channels registers : List (List ℕ)) (named_channels : AllByRecursion
       let e : List ℕ = event_text spelling alone t in
       let at = at_each registers r inside in
       let is_name = all_at IsName registers r n named_registers at in
-      let event = subst (λ (xs : List ℕ). Writes xs (spells_event true alone (written_names channels registers w) t)) (append-nil e) (event_writes channels registers named_channels named_registers w written t alone 0 scoped (omega (arith, within.low))) in
+      let event = subst (λ (xs : List ℕ). Writes xs (spells_event true alone (written_names channels registers w) t))
+      (append-nil e) (event_writes channels registers named_channels named_registers w written t alone 0 scoped
+      (omega (arith, within.low))) in
       let ended : Writes (codes ";\n" ++ more) (is (sign signs.Semicolon) ⨟ rest) = sign_before signs.Semicolon 59 (10 ∷ more) rest semicolon_is (blank_writes 10 more rest refl f) in
       let behind_word = then_writes e (codes ";\n" ++ more) _ _ event ended (λ b a. refl) in
       let behind_arrow = then_writes (codes "sync") (32 ∷ (e ++ (codes ";\n" ++ more))) (is (word words.Sync)) _ (word_writes words.Sync) (blank_writes 32 _ _ refl behind_word) (λ b a. refl) in
@@ -78,7 +82,9 @@ module _ (channels registers : List (List ℕ)) (named_channels : AllByRecursion
       named_writes (sync_text spelling r t ++ more) n (λ m. IsAt registers r m × IsShortName m)
       (λ m. is (tokens.name m) ⨟ is (sign signs.Arrow) ⨟ is (word words.Sync) ⨟ spells_event true alone (written_names channels registers w) t ⨟ is (sign signs.Semicolon) ⨟ rest)
       (at, is_name.short)
-      (subst (λ (xs : List ℕ). Writes xs (is (tokens.name n) ⨟ is (sign signs.Arrow) ⨟ is (word words.Sync) ⨟ spells_event true alone (written_names channels registers w) t ⨟ is (sign signs.Semicolon) ⨟ rest)) text whole)
+      (subst (λ (xs : List ℕ). Writes xs (is (tokens.name n) ⨟ is (sign signs.Arrow) ⨟ is
+      (word words.Sync) ⨟ spells_event true alone (written_names channels registers w) t ⨟ is
+      (sign signs.Semicolon) ⨟ rest)) text whole)
 
   emit_writes : (w : ℕ) (x : Expression) (more : List ℕ) (rest : Span) → w ≤ length registers → IsExpression (scope_at channels w 0) x → Writes more rest
       → Writes (emit_text spelling x ++ more) (is (word words.Emit) ⨟ spells_expression true (written_names channels registers w) x ⨟ is (sign signs.Semicolon) ⨟ rest)
@@ -87,26 +93,39 @@ module _ (channels registers : List (List ℕ)) (named_channels : AllByRecursion
       let ended : Writes (codes ";\n" ++ more) (is (sign signs.Semicolon) ⨟ rest) = sign_before signs.Semicolon 59 (10 ∷ more) rest semicolon_is (blank_writes 10 more rest refl f) in
       let value = then_writes e (codes ";\n" ++ more) _ _ (expression_writes channels registers named_channels named_registers w 0 written (omega arith) x scoped) ended (λ b a. refl) in
       let whole = then_writes (codes "emit") (32 ∷ (e ++ (codes ";\n" ++ more))) (is (word words.Emit)) _ (word_writes words.Emit) (blank_writes 32 _ _ refl value) (λ b a. refl) in
-      subst (λ (xs : List ℕ). Writes xs (is (word words.Emit) ⨟ spells_expression true (written_names channels registers w) x ⨟ is (sign signs.Semicolon) ⨟ rest)) (ap (λ xs. codes "emit " ++ xs) (sym (append_assoc e (codes ";\n") more))) whole
+      subst (λ (xs : List ℕ). Writes xs (is (word words.Emit) ⨟ spells_expression true
+      (written_names channels registers w) x ⨟ is (sign signs.Semicolon) ⨟ rest))
+      (ap (λ xs. codes "emit " ++ xs) (sym (append_assoc e (codes ";\n") more))) whole
 
   repeat_writes : (times : ℕ) (more : List ℕ) (rest : Span) → times ≤ 10000 → Writes more rest
       → Writes ((codes "  repeat " ++ decimal times ++ codes " {\n") ++ more) (is (word words.Repeat) ⨟ spells_integer (pos times) ⨟ is (sign signs.OpenBrace) ⨟ rest)
   repeat_writes times more rest most f =
-      let opened : Writes (codes " {\n" ++ more) (is (sign signs.OpenBrace) ⨟ rest) = blank_writes 32 _ _ refl (sign_before signs.OpenBrace 123 (10 ∷ more) rest brace_opens (blank_writes 10 more rest refl f)) in
+      let opened : Writes (codes " {\n" ++ more) (is (sign signs.OpenBrace) ⨟ rest) =
+      blank_writes 32 _ _ refl (sign_before signs.OpenBrace 123 (10 ∷ more) rest brace_opens
+      (blank_writes 10 more rest refl f)) in
       let number = then_writes (decimal times) (codes " {\n" ++ more) _ _ (decimal_writes times (omega (arith, most))) opened (λ b a. refl) in
       let whole = then_writes (codes "repeat") (32 ∷ (decimal times ++ (codes " {\n" ++ more))) (is (word words.Repeat)) _ (word_writes words.Repeat) (blank_writes 32 _ _ refl number) (λ b a. refl) in
-      subst (λ (xs : List ℕ). Writes xs (is (word words.Repeat) ⨟ spells_integer (pos times) ⨟ is (sign signs.OpenBrace) ⨟ rest)) (ap (λ xs. codes "  repeat " ++ xs) (sym (append_assoc (decimal times) (codes " {\n") more))) (blank_writes 32 _ _ refl (blank_writes 32 _ _ refl whole))
+      subst (λ (xs : List ℕ). Writes xs (is (word words.Repeat) ⨟ spells_integer (pos times) ⨟ is
+      (sign signs.OpenBrace) ⨟ rest)) (ap (λ xs. codes "  repeat " ++ xs)
+      (sym (append_assoc (decimal times) (codes " {\n") more)))
+      (blank_writes 32 _ _ refl (blank_writes 32 _ _ refl whole))
 
   line_is : (left : ℕ) (text more : List ℕ) → ((indent left ++ text) ++ closing left) ++ more ≡ indent left ++ (text ++ (closing left ++ more))
   line_is left text more = four (indent left) text (closing left) more
 
   pub lines_apart : (left : ℕ) (ss : List Statement) → StandsApart (lines_text spelling left ss)
   lines_apart left [] = λ behind apart. apart
-  lines_apart left (sync r t ∷ ss) = let more = lines_text spelling (left - 1) ss in subst (λ (xs : List ℕ). StandsApart xs) (sym (line_is left (sync_text spelling r t) more)) (indent_apart left (sync_text spelling r t ++ (closing left ++ more)))
-  lines_apart left (emit e ∷ ss) = let more = lines_text spelling (left - 1) ss in subst (λ (xs : List ℕ). StandsApart xs) (sym (line_is left (emit_text spelling e) more)) (indent_apart left (emit_text spelling e ++ (closing left ++ more)))
+  lines_apart left (sync r t ∷ ss) = let more = lines_text spelling (left - 1) ss in
+      subst (λ (xs : List ℕ). StandsApart xs) (sym (line_is left (sync_text spelling r t) more))
+      (indent_apart left (sync_text spelling r t ++ (closing left ++ more)))
+  lines_apart left (emit e ∷ ss) = let more = lines_text spelling (left - 1) ss in
+      subst (λ (xs : List ℕ). StandsApart xs) (sym (line_is left (emit_text spelling e) more))
+      (indent_apart left (emit_text spelling e ++ (closing left ++ more)))
   lines_apart left (repeat times count ∷ ss) = λ behind apart. refl
 
-  pub lines_write : (m : ℕ) (w left : ℕ) (ss : List Statement) → m ≡ length channels → AreStatements m (length registers) w ss → AreSyncs left ss → Writes (lines_text spelling left ss) (spells_statements true channels registers w left ss)
+  pub lines_write : (m : ℕ) (w left : ℕ) (ss : List Statement) → m ≡ length channels
+      → AreStatements m (length registers) w ss → AreSyncs left ss
+      → Writes (lines_text spelling left ss) (spells_statements true channels registers w left ss)
   lines_write m w zero [] count order inside = nothing_writes
   lines_write m w (suc left) [] count order inside = absurd inside
   lines_write m w zero (sync r t ∷ ss) count order inside =
@@ -114,19 +133,26 @@ module _ (channels registers : List (List ℕ)) (named_channels : AllByRecursion
       let within = written_within m (length registers) (with_register w r) ss order.3 in
       let scoped = subst (λ (c : ℕ). IsEvent (record { written = w; level = 0; channels = c }) t) count order.1 in
       let line = sync_writes w r t (lines_text spelling zero ss) _ (written_within m (length registers) w (sync r t ∷ ss) order) (register_within (length registers) w r within) scoped order.2 later in
-      subst (λ (xs : List ℕ). Writes xs (spells_statements true channels registers w zero (sync r t ∷ ss))) (sym (line_is zero (sync_text spelling r t) (lines_text spelling zero ss))) (indent_writes zero _ _ line)
+      subst (λ (xs : List ℕ). Writes xs (spells_statements true channels registers w zero (sync r t ∷ ss)))
+      (sym (line_is zero (sync_text spelling r t) (lines_text spelling zero ss))) (indent_writes zero _ _ line)
   lines_write m w (suc left) (sync r t ∷ ss) count order inside =
       let later = lines_write m (with_register w r) left ss count order.3 inside in
       let within = written_within m (length registers) (with_register w r) ss order.3 in
       let scoped = subst (λ (c : ℕ). IsEvent (record { written = w; level = 0; channels = c }) t) count order.1 in
-      let line = sync_writes w r t (closing (suc left) ++ lines_text spelling left ss) _ (written_within m (length registers) w (sync r t ∷ ss) order) (register_within (length registers) w r within) scoped order.2 (closing_writes left _ _ later) in
+      let line = sync_writes w r t (closing (suc left) ++ lines_text spelling left ss) _
+      (written_within m (length registers) w (sync r t ∷ ss) order)
+      (register_within (length registers) w r within) scoped order.2 (closing_writes left _ _ later) in
       let less : suc left - 1 ≡ left = omega arith in
-      subst (λ (xs : List ℕ). Writes xs (spells_statements true channels registers w (suc left) (sync r t ∷ ss))) (sym (ap (λ (n : ℕ). ((indent (suc left) ++ sync_text spelling r t) ++ closing (suc left)) ++ lines_text spelling n ss) less ∙ line_is (suc left) (sync_text spelling r t) (lines_text spelling left ss))) (indent_writes (suc left) _ _ line)
+      subst (λ (xs : List ℕ). Writes xs (spells_statements true channels registers w (suc left) (sync r t ∷ ss)))
+      (sym (ap (λ (n : ℕ). ((indent (suc left) ++ sync_text spelling r t) ++ closing (suc left))
+      ++ lines_text spelling n ss) less ∙ line_is (suc left) (sync_text spelling r t) (lines_text spelling left ss)))
+      (indent_writes (suc left) _ _ line)
   lines_write m w zero (emit e ∷ ss) count order inside =
       let later = lines_write m w zero ss count order.1 tt in
       let scoped = subst (λ (c : ℕ). IsExpression (record { written = w; level = 0; channels = c }) e) count order.0 in
       let line = emit_writes w e (lines_text spelling zero ss) _ (written_within m (length registers) w (emit e ∷ ss) order) scoped later in
-      subst (λ (xs : List ℕ). Writes xs (spells_statements true channels registers w zero (emit e ∷ ss))) (sym (line_is zero (emit_text spelling e) (lines_text spelling zero ss))) (indent_writes zero _ _ line)
+      subst (λ (xs : List ℕ). Writes xs (spells_statements true channels registers w zero (emit e ∷ ss)))
+      (sym (line_is zero (emit_text spelling e) (lines_text spelling zero ss))) (indent_writes zero _ _ line)
   lines_write m w (suc left) (emit e ∷ ss) count order inside = absurd inside
   lines_write m w zero (repeat times more ∷ ss) count order inside =
       let later = lines_write m w more ss count order.1 order.0.body in

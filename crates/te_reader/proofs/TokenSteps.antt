@@ -139,7 +139,8 @@ pub record IsSignByte (b : ℕ) : Type 0 where
   pub minus : b ≡ 45 → ⊥
   pub inner : b ≡ 95 → ⊥
 
-pub sign_first : (text : List ℕ) (l : Lexeme) → 0 < length text → IsAtToken text → IsSignByte (get_or text 0 0) → IsOneSign l (get_or text 0 0) (one_sign (get_or text 0 0)) → IsHeaded l (drop 1 text) text
+pub sign_first : (text : List ℕ) (l : Lexeme) → 0 < length text → IsAtToken text → IsSignByte (get_or text 0 0)
+    → IsOneSign l (get_or text 0 0) (one_sign (get_or text 0 0)) → IsHeaded l (drop 1 text) text
 sign_first [] l some at kind h = absurd (omega arith)
 sign_first (b ∷ bs) l some at kind h = by l (at_token b bs at ∙ (rw (kind.letter, kind.digit, ne_eqb b 60 kind.less, ne_eqb b 45 kind.minus, ne_eqb b 95 kind.inner) refl)) h where
   by : (l : Lexeme) → piece_at in_blanks b bs ≡ one_sign b → IsOneSign l b (one_sign b) → IsHeaded l bs (b ∷ bs)

@@ -57,7 +57,9 @@ ends_found u b bs behind spelled e = record {
 run_is : (p : ℕ → Bool) (b : ℕ) (xs behind : List ℕ) → AllByRecursion (λ x. p x ≡ true) xs → StopsAt p behind → byte_run p b (xs ++ behind) ≡ b ∷ xs
 run_is p b xs behind all stop = ap (λ ys. b ∷ ys) (taken_run p xs behind all stop)
 
-letters_end : (u : Token) (b : ℕ) (bs behind : List ℕ) → spelling u ≡ b ∷ bs → is_ascii_alphabetic b ≡ true → AllByRecursion (λ x. is_word_byte x ≡ true) bs → word_or_name (reserved_as (b ∷ bs)) (b ∷ bs) ≡ u → IsApart behind → Ends u behind
+letters_end : (u : Token) (b : ℕ) (bs behind : List ℕ) → spelling u ≡ b ∷ bs → is_ascii_alphabetic b ≡ true
+    → AllByRecursion (λ x. is_word_byte x ≡ true) bs → word_or_name (reserved_as (b ∷ bs)) (b ∷ bs) ≡ u → IsApart behind
+    → Ends u behind
 letters_end u b bs behind spelled letter all same apart = ends_found u b bs behind spelled (rw (letter, run_is is_word_byte b bs behind all (words_stop behind apart)) (ap found same))
 
 pub name_ends : (n behind : List ℕ) → IsIdentifier n → IsApart behind → Ends (name n) behind
@@ -91,10 +93,13 @@ pub inner_ends : (bs behind : List ℕ) → AllByRecursion (λ x. is_word_byte x
 inner_ends bs behind all apart = ends_found (inner (95 ∷ bs)) 95 bs behind refl (ap (λ xs. found (inner xs)) (run_is is_word_byte 95 bs behind all (words_stop behind apart)))
 
 pub digits_end : (d : ℕ) (ds behind : List ℕ) → is_ascii_digit d ≡ true → AllByRecursion (λ x. is_ascii_digit x ≡ true) ds → IsApart behind → Ends (integer (d ∷ ds)) behind
-digits_end d ds behind first all apart = ends_found (integer (d ∷ ds)) d ds behind refl (rw (digit_is_no_letter d first, first) (ap (λ xs. found (integer xs)) (run_is is_ascii_digit d ds behind all (digits_stop behind apart))))
+digits_end d ds behind first all apart = ends_found (integer (d ∷ ds)) d ds behind refl
+    (rw (digit_is_no_letter d first, first) (ap (λ xs. found (integer xs))
+    (run_is is_ascii_digit d ds behind all (digits_stop behind apart))))
 
 pub negative_ends : (d : ℕ) (ds behind : List ℕ) → is_ascii_digit d ≡ true → AllByRecursion (λ x. is_ascii_digit x ≡ true) ds → IsApart behind → Ends (integer (45 ∷ d ∷ ds)) behind
-negative_ends d ds behind first all apart = ends_found (integer (45 ∷ d ∷ ds)) 45 (d ∷ ds) behind refl (rw first (ap (λ xs. found (integer (45 ∷ xs))) (run_is is_ascii_digit d ds behind all (digits_stop behind apart))))
+negative_ends d ds behind first all apart = ends_found (integer (45 ∷ d ∷ ds)) 45 (d ∷ ds) behind refl
+    (rw first (ap (λ xs. found (integer (45 ∷ xs))) (run_is is_ascii_digit d ds behind all (digits_stop behind apart))))
 
 -- a sign that ends wherever it stands
 abbrev pub IsOneByte : Sign → ℕ → Type 0

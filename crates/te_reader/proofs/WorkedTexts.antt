@@ -16,8 +16,12 @@ use Rattle.te_reader.specs.Grammar.{spells_statements, spells_threads, spells_ch
 use Rattle.te_reader.specs.Text.{Text}
 use Rattle.te_reader.specs.NameReads.{first_place_of, declared_in, integer_read, variable_named, bound_in}
 use Rattle.te_reader.specs.ExpressionReads.{read_place, read_inner_part, read_named, read_primitive, arith_first, read_calculation, read_calculations, read_tuple, read_expression}
-use Rattle.te_reader.specs.EventReads.{read_leaf, made, read_braced, read_part, read_do, read_second, read_choose, read_try, test_first, read_condition, read_if, read_one, read_alone, read_in_do, read_in_choose, read_event}
-use Rattle.te_reader.specs.Reads.{read_sync, register_of, read_emit, read_written, read_statement, more_body, read_body, read_thread, read_new_thread, read_threads, read_names, read_channels, read_program, read_text}
+use Rattle.te_reader.specs.EventReads.{read_leaf, made, read_braced, read_part, read_do, read_second, read_choose}
+use Rattle.te_reader.specs.EventReads.{read_try, test_first, read_condition, read_if, read_one, read_alone, read_in_do}
+use Rattle.te_reader.specs.EventReads.{read_in_choose, read_event}
+use Rattle.te_reader.specs.Reads.{read_sync, register_of, read_emit, read_written, read_statement, more_body, read_body}
+use Rattle.te_reader.specs.Reads.{read_thread, read_new_thread, read_threads, read_names, read_channels, read_program}
+use Rattle.te_reader.specs.Reads.{read_text}
 use Rattle.te_reader.proofs.SpelledIsLexed.{spelled_is_lexed}
 use Rattle.te_reader.proofs.TextIsRead.{text_is_read}
 
@@ -37,7 +41,12 @@ exchange = record {
 }
 
 exchange_is_read : read_text exchange_text ≡ Some exchange
-unfolding reserved_as lexed_behind word_first sign_first name_first inner_first bound_first integer_first first_place_of declared_in integer_read variable_named read_place read_inner_part read_named read_primitive arith_first read_calculation read_calculations read_tuple read_expression read_leaf made bound_in read_braced read_part read_do read_second read_choose read_try test_first read_condition read_if read_one read_alone read_in_do read_in_choose read_event read_sync register_of read_emit read_written read_statement more_body read_body read_thread read_new_thread read_threads read_names read_channels read_program read_text
+unfolding reserved_as lexed_behind word_first sign_first name_first inner_first bound_first integer_first first_place_of
+    declared_in integer_read variable_named read_place read_inner_part read_named read_primitive arith_first
+    read_calculation read_calculations read_tuple read_expression read_leaf made bound_in read_braced read_part read_do
+    read_second read_choose read_try test_first read_condition read_if read_one read_alone read_in_do read_in_choose
+    read_event read_sync register_of read_emit read_written read_statement more_body read_body read_thread
+    read_new_thread read_threads read_names read_channels read_program read_text
 exchange_is_read = refl
 
 pub exchange_has_its_text : Text exchange_text exchange
@@ -64,7 +73,12 @@ caught = record {
 }
 
 caught_is_read : read_text caught_text ≡ Some caught
-unfolding reserved_as lexed_behind word_first sign_first name_first inner_first bound_first integer_first first_place_of declared_in integer_read variable_named read_place read_inner_part read_named read_primitive arith_first read_calculation read_calculations read_tuple read_expression read_leaf made bound_in read_braced read_part read_do read_second read_choose read_try test_first read_condition read_if read_one read_alone read_in_do read_in_choose read_event read_sync register_of read_emit read_written read_statement more_body read_body read_thread read_new_thread read_threads read_names read_channels read_program read_text
+unfolding reserved_as lexed_behind word_first sign_first name_first inner_first bound_first integer_first first_place_of
+    declared_in integer_read variable_named read_place read_inner_part read_named read_primitive arith_first
+    read_calculation read_calculations read_tuple read_expression read_leaf made bound_in read_braced read_part read_do
+    read_second read_choose read_try test_first read_condition read_if read_one read_alone read_in_do read_in_choose
+    read_event read_sync register_of read_emit read_written read_statement more_body read_body read_thread
+    read_new_thread read_threads read_names read_channels read_program read_text
 caught_is_read = refl
 
 pub caught_has_its_text : Text caught_text caught
@@ -84,7 +98,9 @@ unfolding reserved_as lexed_behind
 unwritten_lexed = refl
 
 -- no statement emits a register that none wrote
-no_statement : (channels registers : List (List ℕ)) (stmts : List Statement) (rest middle after : List Token) → spells_statements true channels registers 0 0 stmts (word words.Emit ∷ tokens.name (codes "x") ∷ rest) middle → middle ≡ sign signs.CloseBrace ∷ after → ⊥
+no_statement : (channels registers : List (List ℕ)) (stmts : List Statement) (rest middle after : List Token)
+    → spells_statements true channels registers 0 0 stmts (word words.Emit ∷ tokens.name (codes "x") ∷ rest) middle
+    → middle ≡ sign signs.CloseBrace ∷ after → ⊥
 no_statement channels registers [] rest middle after h close = let same = h ∙ close in absurd cc
 no_statement channels registers (sync r t ∷ stmts) rest middle after h close = let begins = h.1.1.1 in absurd cc
 no_statement channels registers (repeat times count ∷ stmts) rest middle after h close = let begins = h.1.1 in absurd cc
@@ -104,7 +120,8 @@ no_threads channels (t ∷ threads) some h =
     let inside : c.0 ≡ word words.Emit ∷ tokens.name (codes "x") ∷ sign signs.Semicolon ∷ sign signs.CloseBrace ∷ [] = let one = a.1 in let two = b.1 in let three = c.1 in cc in
     no_statement channels t.registers t.statements _ d.0 h.0 (subst (λ (ts : List Token). spells_statements true channels t.registers 0 0 t.statements ts d.0) inside d.1) d.2
 
-no_channels : (channels : List (List ℕ)) (threads : List Thread) (middle : List Token) → 0 < length threads → spells_channels true channels unwritten_tokens middle → spells_threads true channels threads middle [] → ⊥
+no_channels : (channels : List (List ℕ)) (threads : List Thread) (middle : List Token) → 0 < length threads
+    → spells_channels true channels unwritten_tokens middle → spells_threads true channels threads middle [] → ⊥
 no_channels [] threads middle some h k = no_threads [] threads some (subst (λ (ts : List Token). spells_threads true [] threads ts []) (sym h) k)
 no_channels (n ∷ ns) threads middle some h k = let begins = h.1 in absurd cc
 
@@ -131,7 +148,9 @@ unfolding reserved_as lexed_behind
 twice_lexed = refl
 
 -- the names of the channels are both c, and no list of distinct names has it twice
-only_twice : (channels : List (List ℕ)) (threads : List Thread) (middle : List Token) → AreDistinct channels → 0 < length threads → spells_channels true channels twice_tokens middle → spells_threads true channels threads middle [] → ⊥
+only_twice : (channels : List (List ℕ)) (threads : List Thread) (middle : List Token) → AreDistinct channels
+    → 0 < length threads → spells_channels true channels twice_tokens middle
+    → spells_threads true channels threads middle [] → ⊥
 only_twice [] [] middle distinct some h k = omega arith
 only_twice [] (t ∷ threads) middle distinct some h k = let same = h in let begins = k.1.1.1 in absurd cc
 only_twice (n ∷ []) threads middle distinct some h k =

@@ -133,7 +133,9 @@ module _ (channels : List (List ℕ)) where
 
   pub emit_is_read : (before left : ℕ) (registers : List (List ℕ)) (ts behind rest : List Token) (e : Expression) → word_first words.Repeat ts ≡ None
       → word_first words.Emit ts ≡ Some behind
-      → read_emit channels registers behind ≡ Some (e, rest) → left ≡ 1024 - (before + 1) → more_behind before channels registers ts ≡ behind_body (emit e ∷ []) (read_body left channels false registers rest)
+      → read_emit channels registers behind ≡ Some (e, rest) → left ≡ 1024 - (before + 1)
+      → more_behind before channels registers ts ≡ behind_body (emit e ∷ [])
+      (read_body left channels false registers rest)
   emit_is_read before left registers ts behind rest e a f g size = statement_is_read channels registers registers before left (emit e) ts rest a (emit_read registers ts behind rest e f g) size
 
   pub no_emit_read : (before : ℕ) (registers : List (List ℕ)) (ts behind : List Token) → word_first words.Repeat ts ≡ None

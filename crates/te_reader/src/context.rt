@@ -2,7 +2,11 @@ ghost use Rattle.std.specs.Prelude.{◌≡◌, suc, [], ◌∷◌, ◌++◌, len
 ghost use Rattle.te_reader.specs.declared.cause.Which.TheVariants as limits;
 ghost use Rattle.te_reader.specs.declared.cause.Cause.TheVariants as causes;
 ghost use Rattle.te_reader.specs.declared.part.Role.TheVariants as roles;
-ghost use Rattle.te_reader.specs.Rules.{nothing_before, whole_event, is_variable, head_spelled, rules, first_broken, check, fifth, too_long, too_deep, is_count, context_after, innermost, depth_within, opened, closed_brace, in_innermost, reaching, behind_bar, behind_name, in_scope, this_level, with_node, with_channel, with_statement, with_named_register, begun};
+ghost use Rattle.te_reader.specs.Rules.{nothing_before, whole_event, is_variable, head_spelled, rules, first_broken};
+ghost use Rattle.te_reader.specs.Rules.{check, fifth, too_long, too_deep, is_count, context_after, innermost};
+ghost use Rattle.te_reader.specs.Rules.{depth_within, opened, closed_brace, in_innermost, reaching, behind_bar};
+ghost use Rattle.te_reader.specs.Rules.{behind_name, in_scope, this_level, with_node, with_channel, with_statement};
+ghost use Rattle.te_reader.specs.Rules.{with_named_register, begun};
 ghost use Rattle.te_terms.specs.Values.{fits_i64};
 ghost use Rattle.te_reader.specs.Integers.{integer_value};
 ghost use Rattle.te_reader.specs.Finding.{lexeme_head};
@@ -40,7 +44,19 @@ impl<'a> Model for Context<'a> {
 
     ghost Value = { Before };
 
-    ghost view = { λ c. record { channels = c.channels; threads = c.threads; registers = c.registers; statements = c.statements; written = c.written.now; inners = c.inners; bound = c.bound; braces = c.braces; nodes = c.nodes; fresh = c.fresh; calculations = c.calculations } };
+    ghost view = { λ c. record {
+      channels = c.channels;
+      threads = c.threads;
+      registers = c.registers;
+      statements = c.statements;
+      written = c.written.now;
+      inners = c.inners;
+      bound = c.bound;
+      braces = c.braces;
+      nodes = c.nodes;
+      fresh = c.fresh;
+      calculations = c.calculations;
+    } };
 }
 
 // The bytes of a name or an integer.
@@ -76,7 +92,9 @@ fn is_in_range(digits: &[u8]) -> bool
 
 // How often a repeat is done: from 1 to 10,000 times.
 fn times_fault(lexeme: Lexeme<'_>) -> Option<Cause>
-    ensures { result ≡ first_broken (check (not (fits_i64 (integer_value (head_spelled (lexeme_head lexeme.entry))))) causes.Integer ∷ check (not (is_count (integer_value (head_spelled (lexeme_head lexeme.entry))))) (causes.Limit limits.Repeat) ∷ []) }
+    ensures { result ≡ first_broken (check (not (fits_i64 (integer_value (head_spelled (lexeme_head lexeme.entry)))))
+        causes.Integer ∷ check (not (is_count (integer_value (head_spelled (lexeme_head lexeme.entry)))))
+        (causes.Limit limits.Repeat) ∷ []) }
 {
     if !is_in_range(spelling(lexeme)) {
         return Some(Cause::Integer);
@@ -186,7 +204,8 @@ impl<'a> Context<'a> {
     }
 
     fn end_fault(&self) -> Option<Cause>
-        ensures { result ≡ first_broken (check (nat_lt 32 (depth_within (innermost self.now.braces))) (causes.Limit limits.Depth) ∷ check (nat_lt 4096 self.now.nodes) (causes.Limit limits.Nodes) ∷ []) }
+        ensures { result ≡ first_broken (check (nat_lt 32 (depth_within (innermost self.now.braces)))
+            (causes.Limit limits.Depth) ∷ check (nat_lt 4096 self.now.nodes) (causes.Limit limits.Nodes) ∷ []) }
     {
         let brace = self.innermost();
         if brace.settled.max(brace.deepest) > 32 {

@@ -3,7 +3,10 @@ ghost use Rattle.std.specs.Option.{option_map};
 ghost use Rattle.te_reader.specs.declared.part.Part.TheVariants.{Behind};
 ghost use Rattle.te_reader.specs.Integers.{integer_value};
 ghost use Rattle.te_reader.specs.Heads.{word_number, sign_number};
-ghost use Rattle.te_reader.specs.Runs.{script_form, threads_form, channels_form, statements_form, sync_form, syncs_form, event_form, part_form, bars_form, expression_form, inside_form, operand_form, behind_form, further_form, test_form, is_word, is_sign, is_bound, is_small, is_place, fits, alone_form, pick_plain};
+ghost use Rattle.te_reader.specs.Runs.{script_form, threads_form, channels_form, statements_form, sync_form};
+ghost use Rattle.te_reader.specs.Runs.{syncs_form, event_form, part_form, bars_form, expression_form, inside_form};
+ghost use Rattle.te_reader.specs.Runs.{operand_form, behind_form, further_form, test_form, is_word, is_sign, is_bound};
+ghost use Rattle.te_reader.specs.Runs.{is_small, is_place, fits, alone_form, pick_plain};
 ghost use Rattle.te_reader.specs.Finding.{lexeme_head, form_seen};
 
 use crate::integer::integer;

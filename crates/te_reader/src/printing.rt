@@ -10,7 +10,11 @@ ghost use Rattle.te_script.specs.Texts.{statement_of, RootIsNode};
 ghost use Rattle.te_reader.specs.Grammar.{EventPlace as Place, alone};
 ghost use Rattle.te_reader.specs.Answering.{leaf};
 ghost use Rattle.te_reader.specs.Printed.{standing_of, spelling_of_names};
-ghost use Rattle.te_reader.specs.Canonical.{name_at, inner_text, variable_text, primitive_text, arith_text, calculation_text, further_text, inside_text, expression_text, test_text, do_open, do_close, choose_open, choose_close, event_text, indent, closing, line_text, left_behind, lines_text, thread_text, spaced, channels_text, canonical_text};
+ghost use Rattle.te_reader.specs.Canonical.{name_at, inner_text, variable_text, primitive_text, arith_text};
+ghost use Rattle.te_reader.specs.Canonical.{calculation_text, further_text, inside_text, expression_text, test_text};
+ghost use Rattle.te_reader.specs.Canonical.{do_open, do_close, choose_open, choose_close, event_text, indent, closing};
+ghost use Rattle.te_reader.specs.Canonical.{line_text, left_behind, lines_text, thread_text, spaced, channels_text};
+ghost use Rattle.te_reader.specs.Canonical.{canonical_text};
 ghost use Rattle.te_reader.specs.Text.{Text};
 ghost use Rattle.te_reader.specs.Limits.{most_bytes};
 ghost use Rattle.te_terms.specs.Limits.{most_nodes};
@@ -185,7 +189,9 @@ fn put_test(out: &mut Vec<u8>, test: Test) -> Result<(), NoMemory>
 }
 
 fn put_condition(out: &mut Vec<u8>, names: &Names<'_>, c: &Cond) -> Result<(), NoMemory>
-    ensures { OnOk result (out.new.items ≡ out.old.items ++ (primitive_text (spelling_of_names names.now) (primitive_of c.now.left) ++ test_text c.now.test ++ primitive_text (spelling_of_names names.now) (primitive_of c.now.right))) }
+    ensures { OnOk result (out.new.items ≡ out.old.items ++ (primitive_text (spelling_of_names names.now)
+        (primitive_of c.now.left) ++ test_text c.now.test ++ primitive_text (spelling_of_names names.now)
+        (primitive_of c.now.right))) }
 {
     put_primitive(out, names, c.left)?;
     put_test(out, c.test)?;
@@ -306,7 +312,8 @@ fn put_then(
     requires second { b < length code.now }
     requires low { level + a < most_nodes }
     requires next { level + b < most_nodes }
-    ensures { OnOk result (out.new.items ≡ out.old.items ++ event_text (spelling_of_names names.now) (standing_of standing) (and_then (term_at code.now level a) level (term_at code.now (suc level) b))) }
+    ensures { OnOk result (out.new.items ≡ out.old.items ++ event_text (spelling_of_names names.now)
+        (standing_of standing) (and_then (term_at code.now level a) level (term_at code.now (suc level) b))) }
 {
     put(out, do_open(standing))?;
     put_inner(out, level)?;

@@ -11,7 +11,10 @@ use Rattle.te_terms.specs.declared.event.Outcome.{Outcome}
 use Rattle.te_terms.specs.declared.event.Outcome.TheVariants.{Gives, Raises}
 use Rattle.te_terms.specs.Values.{trap_value, arith_result, fits_i64}
 use Rattle.te_terms.specs.Limits.{most_atoms}
-use Rattle.te_terms.specs.Expressions.{Variable, register, name, known, Primitive, int, chan, part, Calculation, one, both, Expression, whole, tuple, in_primitive, in_calculation, in_expression, ◌>>=◌, variable_value, primitive_atom, integer_of, calculation_atom, calculated_atoms, value_of}
+use Rattle.te_terms.specs.Expressions.{Variable, register, name, known, Primitive, int, chan, part, Calculation, one}
+use Rattle.te_terms.specs.Expressions.{both, Expression, whole, tuple, in_primitive, in_calculation, in_expression}
+use Rattle.te_terms.specs.Expressions.{◌>>=◌, variable_value, primitive_atom, integer_of, calculation_atom}
+use Rattle.te_terms.specs.Expressions.{calculated_atoms, value_of}
 use Rattle.te_terms.specs.Terms.{Term, always, never, fresh, throw, send, recv, and_then, choose, catch, when, replaced, name_to, bound}
 use Rattle.te_terms.specs.Steps.{given_by, raised_by, outcome_of}
 use Rattle.te_terms.proofs.Lists.{all_at}

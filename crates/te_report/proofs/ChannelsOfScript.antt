@@ -1,6 +1,8 @@
 -- Each channel in a loose history of a script's threads is one of the script or a fresh one of one of its threads; integers are
 -- of 64 bits, and values have at most 4 atoms.
-use Rattle.std.proofs.Common.{◌≡◌, ◌≢◌, ◌⊎◌, inl, inr, ℕ, zero, suc, ◌+◌, ◌<◌, ◌≤◌, Bool, true, false, cond, eqb, List, [], ◌∷◌, ◌++◌, length, map, replicate, Option, Some, None, refl, sym, ap, subst, ◌∙◌, arith}
+use Rattle.std.proofs.Common.{◌≡◌, ◌≢◌, ◌⊎◌, inl, inr, ℕ, zero, suc, ◌+◌, ◌<◌, ◌≤◌, Bool, true, false, cond, eqb, List}
+use Rattle.std.proofs.Common.{[], ◌∷◌, ◌++◌, length, map, replicate, Option, Some, None, refl, sym, ap, subst, ◌∙◌}
+use Rattle.std.proofs.Common.{arith}
 use Rattle.std.specs.Prelude.{slice_get}
 use Rattle.std.specs.List.{AllByRecursion}
 use Rattle.std.proofs.lemmas.Option.{slice_get_within}
@@ -22,7 +24,7 @@ use Rattle.te_history.specs.declared.status.How.{How}
 use Rattle.te_history.specs.State.{Standing, idle, parked, given, ended, State, state, changed, with_standing, with_given}
 use Rattle.te_history.specs.Follows.{Stands, AreEvents, Commits, MayEndAs, caller_of, LooselyFollows, IsLoose}
 use Rattle.te_history.proofs.AfterEntry.{state-after, length-state}
-use Rattle.te_terms.proofs.Lists.{all_at}
+use Rattle.te_terms.proofs.Lists.{all_at, same_item}
 use Rattle.te_history.proofs.Commits.{same_or_other, stands_put, stands_other}
 use Rattle.te_report.specs.OfScript.{taken, taken_from, WishedBy, IsOfScript}
 use Rattle.te_report.specs.Fitting.{OutcomeFits, HowFits, EntryIsSpelled}
@@ -32,7 +34,6 @@ use Rattle.te_report.proofs.FittingHas.{entries_have}
 use Rattle.te_report.proofs.ChannelsStepped.{Makes, Fits, AllFit, reductions_have}
 use Rattle.te_report.proofs.ChannelsWished.{EventHas, WishHas, wish_has}
 use Rattle.te_history.proofs.GivenOnce.{all_idle}
-use Rattle.te_terms.proofs.Lists.{same_item}
 
 group_rises : (s : State) (low : ℕ) (ms : List Member) (gs : List steps.Member) → RiseAfter low ms → AreEvents s ms gs → RiseFrom low gs
 group_rises s low [] [] rise events = tt

@@ -13,8 +13,12 @@ use Rattle.te_terms.specs.Limits.{most_fresh}
 use Rattle.te_terms.specs.Measures.{fresh_count}
 use Rattle.te_terms.specs.Expressions.{value_of, channel_value, test_value}
 use Rattle.te_terms.specs.Terms.{Term, always, never, fresh, throw, send, recv, and_then, choose, catch, when, bound}
-use Rattle.te_terms.specs.Steps.{Member, come_to, at_term, giving, raising, outcome_of, thrown, send_trap, recv_trap, decided, under_then, under_catch, goes_on, is_caught, quiet_step_of, quiet_step, head, with_head}
-use Rattle.te_terms.specs.Joint.{Label, choice, meeting, Action, quiet, labelled, chosen_from, after_choice, Message, message, sent_from, sending, receiving, member_of, with_member, with_term, handed, meeting_of, meeting_joint, joint_step, after, and_outcome, outcomes_of, Reduces}
+use Rattle.te_terms.specs.Steps.{Member, come_to, at_term, giving, raising, outcome_of, thrown, send_trap, recv_trap}
+use Rattle.te_terms.specs.Steps.{decided, under_then, under_catch, goes_on, is_caught, quiet_step_of, quiet_step, head}
+use Rattle.te_terms.specs.Steps.{with_head}
+use Rattle.te_terms.specs.Joint.{Label, choice, meeting, Action, quiet, labelled, chosen_from, after_choice, Message}
+use Rattle.te_terms.specs.Joint.{message, sent_from, sending, receiving, member_of, with_member, with_term, handed}
+use Rattle.te_terms.specs.Joint.{meeting_of, meeting_joint, joint_step, after, and_outcome, outcomes_of, Reduces}
 use Rattle.te_terms.proofs.FreshStaysFew.{quiet_makes, handed_few, choice_few}
 use Rattle.te_report.specs.Fitting.{ValueFits, TermFits, OutcomeFits}
 use Rattle.te_report.proofs.ChannelsEvaluated.{trap_has, value_has, outcome_has, bound_has}

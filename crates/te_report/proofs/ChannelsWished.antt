@@ -12,7 +12,9 @@ use Rattle.te_terms.specs.Terms.{Term, always, never, fresh, throw, send, recv, 
 use Rattle.te_terms.proofs.Measured.{fresh_sees, counted-replaced}
 use Rattle.te_script.specs.declared.wish.Site.{Site}
 use Rattle.te_script.specs.Scripts.{Statement, sync, emit, repeat, Scope, one_deeper, IsVariable, IsPrimitive, IsCalculation, IsExpression, IsEvent, AreStatements, with_register, Thread, IsThread}
-use Rattle.te_script.specs.Wishes.{Step, syncing, emitting, site_at, steps_of, pass_over, passes_over, flat_from, flat, Wish, syncs, done, raised, holding, Doing, synchronises, ends, has_raised, Reached, emits_or, reached_by, reached, wish_of, wish}
+use Rattle.te_script.specs.Wishes.{Step, syncing, emitting, site_at, steps_of, pass_over, passes_over, flat_from, flat}
+use Rattle.te_script.specs.Wishes.{Wish, syncs, done, raised, holding, Doing, synchronises, ends, has_raised, Reached}
+use Rattle.te_script.specs.Wishes.{emits_or, reached_by, reached, wish_of, wish}
 use Rattle.te_report.specs.Fitting.{ValueFits, VariableFits, PrimitiveFits, CalculationFits, ExpressionFits, TermFits, OutcomeFits}
 use Rattle.te_report.proofs.ChannelsEvaluated.{trap_has, value_has, expression_by, term_by}
 

@@ -15,7 +15,9 @@ use Rattle.te_report.specs.declared.saying.Said.TheVariants as says
 use Rattle.te_history.specs.declared.entry.Entry.TheVariants as entries
 use Rattle.te_report.specs.Readable.{IsOutcomeOf, IsMemberOf, IsNamed, IsMeetingOf, CommitIsReadable}
 use Rattle.te_report.specs.Report.{name_of, outcome_text, letter, member_text, other_members, members_text, member_thread, member_name, meeting_text, commit_text}
-use Rattle.te_report.specs.Sayings.{called_of, up_to, cut_behind, words, or_first, said_ticket, said_thread, said_outcome, said_choices, said_member, said_gets, said_place, said_meeting, said_members, said_outcomes, said_meets, said_commit}
+use Rattle.te_report.specs.Sayings.{called_of, up_to, cut_behind, words, or_first, said_ticket, said_thread}
+use Rattle.te_report.specs.Sayings.{said_outcome, said_choices, said_member, said_gets, said_place, said_meeting}
+use Rattle.te_report.specs.Sayings.{said_members, said_outcomes, said_meets, said_commit}
 use Rattle.te_report.proofs.Appends.{parts_7}
 use Rattle.te_report.proofs.Cuts.{lacks, lacks_cons, lacks_append, front, back, IsWord, others, joined, words_joined, lacks_joined, lacks_others, back_joined}
 use Rattle.te_report.proofs.NumbersTold.{ticket_told, number_lacks}
@@ -83,7 +85,8 @@ module _ (script : Program) (is : IsScript script) where
 
     member_is_told : said_member (called_of script) (member_text script m o) ≡ m
     member_is_told =
-        let thread : said_thread (called_of script).threads (up_to 46 (member_text script m o)) ≡ m.thread = ap (said_thread (called_of script).threads) name_front ∙ thread_is_told script is m.thread h.0 in
+        let thread : said_thread (called_of script).threads (up_to 46 (member_text script m o)) ≡ m.thread =
+        ap (said_thread (called_of script).threads) name_front ∙ thread_is_told script is m.thread h.0 in
         let ticket : said_ticket (up_to 91 (cut_behind 46 (member_text script m o))) ≡ m.ticket = ap said_ticket ticket_front ∙ ticket_told m.ticket h.1 in
         let choices : said_choices (up_to 93 (cut_behind 91 (cut_behind 46 (member_text script m o)))) ≡ m.choices = ap said_choices choices_front ∙ letters_told m.choices in
         λ i. record { thread = thread i; ticket = ticket i; choices = choices i }
@@ -189,11 +192,16 @@ module _ (script : Program) (is : IsScript script) where
   meeting_is_told : (ms : List Member) (m : Meeting) → AllByRecursion (IsMemberOf script) ms → IsMeetingOf ms m → said_meeting (called_of script) ms (met_text script ms m) ≡ m
   meeting_is_told ms m hs n =
       let clear = (name_at ms m.sender 62 refl hs n.0).1 in
-      let first_end = ap (λ x. said_place ms (said_thread (called_of script).threads x)) (front 62 (member_name script ms m.sender) (member_name script ms m.receiver) clear) ∙ place_told ms m.sender hs n.0 in
-      let last_end = ap (λ x. said_place ms (said_thread (called_of script).threads x)) (back 62 (member_name script ms m.sender) (member_name script ms m.receiver) clear) ∙ place_told ms m.receiver hs n.1 in
+      let first_end = ap (λ x. said_place ms (said_thread (called_of script).threads x))
+      (front 62 (member_name script ms m.sender) (member_name script ms m.receiver) clear)
+      ∙ place_told ms m.sender hs n.0 in
+      let last_end = ap (λ x. said_place ms (said_thread (called_of script).threads x))
+      (back 62 (member_name script ms m.sender) (member_name script ms m.receiver) clear)
+      ∙ place_told ms m.receiver hs n.1 in
       λ i. record { sender = first_end i; receiver = last_end i }
 
-  meeting_lacks : (c : ℕ) (ms : List Member) (m : Meeting) → is_word_byte c ≡ false → (62 == c) ≡ false → AllByRecursion (IsMemberOf script) ms → IsMeetingOf ms m → lacks c (met_text script ms m) ≡ true
+  meeting_lacks : (c : ℕ) (ms : List Member) (m : Meeting) → is_word_byte c ≡ false → (62 == c) ≡ false
+      → AllByRecursion (IsMemberOf script) ms → IsMeetingOf ms m → lacks c (met_text script ms m) ≡ true
   meeting_lacks c ms m sign other hs n =
       lacks_append c (member_name script ms m.sender) (62 ∷ member_name script ms m.receiver) (name_at ms m.sender c sign hs n.0).1
       (lacks_cons c 62 (member_name script ms m.receiver) other (name_at ms m.receiver c sign hs n.1).1)
@@ -211,7 +219,8 @@ module _ (script : Program) (is : IsScript script) where
     meets_are_words ms xs hs ns.1,
   )
 
-  pub meets_lack : (c : ℕ) (ms : List Member) (xs : List Meeting) → is_word_byte c ≡ false → (62 == c) ≡ false → (32 == c) ≡ false → AllByRecursion (IsMemberOf script) ms → AllByRecursion (IsMeetingOf ms) xs
+  pub meets_lack : (c : ℕ) (ms : List Member) (xs : List Meeting) → is_word_byte c ≡ false → (62 == c) ≡ false
+      → (32 == c) ≡ false → AllByRecursion (IsMemberOf script) ms → AllByRecursion (IsMeetingOf ms) xs
       → lacks c (flat_map (meeting_text script ms) xs) ≡ true
   meets_lack c ms xs sign other no_space hs ns = ap (lacks c) (meets_joined ms xs) ∙ lacks_others c 32 (map (met_text script ms) xs) no_space (each xs ns)
     where
@@ -219,7 +228,8 @@ module _ (script : Program) (is : IsScript script) where
       each [] ns = tt
       each (x ∷ xs) ns = (meeting_lacks c ms x sign other hs ns.0, each xs ns.1)
 
-  each_meeting_told : (ms : List Member) (xs : List Meeting) → AllByRecursion (IsMemberOf script) ms → AllByRecursion (IsMeetingOf ms) xs → map (said_meeting (called_of script) ms) (map (met_text script ms) xs) ≡ xs
+  each_meeting_told : (ms : List Member) (xs : List Meeting) → AllByRecursion (IsMemberOf script) ms
+      → AllByRecursion (IsMeetingOf ms) xs → map (said_meeting (called_of script) ms) (map (met_text script ms) xs) ≡ xs
   each_meeting_told ms [] hs ns = refl
   each_meeting_told ms (x ∷ xs) hs ns = let this = meeting_is_told ms x hs ns.0 in let rest = each_meeting_told ms xs hs ns.1 in λ i. this i ∷ rest i
 
@@ -244,7 +254,9 @@ module _ (script : Program) (is : IsScript script) where
   }
 
   pub commit_is_told : (by : ℕ) (cert : Cert) (outcomes : List Outcome) → CommitIsReadable script cert outcomes
-      → said_commit (called_of script) by (up_to 59 (commit_text script cert outcomes)) (cut_behind 32 (cut_behind 59 (commit_text script cert outcomes))) ≡ says.Entry (entries.Commit by cert outcomes)
+      → said_commit (called_of script) by (up_to 59 (commit_text script cert outcomes))
+      (cut_behind 32 (cut_behind 59 (commit_text script cert outcomes))) ≡ says.Entry
+      (entries.Commit by cert outcomes)
   commit_is_told by cert outcomes h =
       let ms = cert.members in
       let meets_text = flat_map (meeting_text script ms) cert.meets in
@@ -253,9 +265,13 @@ module _ (script : Program) (is : IsScript script) where
       let first_part : up_to 59 (commit_text script cert outcomes) ≡ members_text script ms outcomes = ap (up_to 59) parts ∙ front 59 (members_text script ms outcomes) meets_text clear in
       let last_part : cut_behind 59 (commit_text script cert outcomes) ≡ meets_text = ap (cut_behind 59) parts ∙ back 59 (members_text script ms outcomes) meets_text clear in
       let split = ap (words 32) first_part ∙ members_split ms outcomes h.members h.gets in
-      let members : said_members (called_of script) (up_to 59 (commit_text script cert outcomes)) ≡ ms = ap (map (said_member (called_of script))) split ∙ each_member_told ms outcomes h.as_many h.members h.gets in
-      let gets : said_outcomes (called_of script) (up_to 59 (commit_text script cert outcomes)) ≡ outcomes = ap (map (said_gets (called_of script))) split ∙ each_gets_told ms outcomes h.as_many h.members h.gets in
-      let meets : said_meets (called_of script) (said_members (called_of script) (up_to 59 (commit_text script cert outcomes))) (cut_behind 32 (cut_behind 59 (commit_text script cert outcomes))) ≡ cert.meets =
+      let members : said_members (called_of script) (up_to 59 (commit_text script cert outcomes)) ≡ ms =
+      ap (map (said_member (called_of script))) split ∙ each_member_told ms outcomes h.as_many h.members h.gets in
+      let gets : said_outcomes (called_of script) (up_to 59 (commit_text script cert outcomes)) ≡ outcomes =
+      ap (map (said_gets (called_of script))) split ∙ each_gets_told ms outcomes h.as_many h.members h.gets in
+      let meets : said_meets (called_of script) (said_members (called_of script)
+      (up_to 59 (commit_text script cert outcomes))) (cut_behind 32
+      (cut_behind 59 (commit_text script cert outcomes))) ≡ cert.meets =
       ap (λ x. said_meets (called_of script) x (cut_behind 32 (cut_behind 59 (commit_text script cert outcomes)))) members
       ∙ ap (λ x. said_meets (called_of script) ms (cut_behind 32 x)) last_part ∙ meets_are_told ms cert.meets h.members h.meets in
       λ i. says.Entry (entries.Commit by (record { members = members i; meets = meets i }) (gets i))

@@ -82,14 +82,18 @@ back_dropped c (b ∷ bs) = by (b == c) (back_dropped c bs) where
 pub front_all : (c : ℕ) (bs : List ℕ) → length bs ≤ prefix_len (λ b. not (b == c)) bs → up_to c bs ≡ bs
 front_all c [] long = refl
 front_all c (b ∷ bs) long = by (b == c) (front_all c bs) long where
-  by : (t : Bool) → (length bs ≤ prefix_len (λ b. not (b == c)) bs → up_to c bs ≡ bs) → suc (length bs) ≤ cond (not t) (1 + prefix_len (λ b. not (b == c)) bs) 0 → (if t then [] else b ∷ up_to c bs) ≡ b ∷ bs
+  by : (t : Bool) → (length bs ≤ prefix_len (λ b. not (b == c)) bs → up_to c bs ≡ bs)
+      → suc (length bs) ≤ cond (not t) (1 + prefix_len (λ b. not (b == c)) bs) 0
+      → (if t then [] else b ∷ up_to c bs) ≡ b ∷ bs
   by true more long = absurd (omega arith)
   by false more long = ap (λ l. b ∷ l) (more (omega arith))
 
 pub back_none : (c : ℕ) (bs : List ℕ) → length bs ≤ prefix_len (λ b. not (b == c)) bs → cut_behind c bs ≡ []
 back_none c [] long = refl
 back_none c (b ∷ bs) long = by (b == c) (back_none c bs) long where
-  by : (t : Bool) → (length bs ≤ prefix_len (λ b. not (b == c)) bs → cut_behind c bs ≡ []) → suc (length bs) ≤ cond (not t) (1 + prefix_len (λ b. not (b == c)) bs) 0 → (if t then bs else cut_behind c bs) ≡ []
+  by : (t : Bool) → (length bs ≤ prefix_len (λ b. not (b == c)) bs → cut_behind c bs ≡ [])
+      → suc (length bs) ≤ cond (not t) (1 + prefix_len (λ b. not (b == c)) bs) 0
+      → (if t then bs else cut_behind c bs) ≡ []
   by true more long = absurd (omega arith)
   by false more long = more (omega arith)
 
@@ -159,7 +163,8 @@ word_done f done new x c rest before back b is some front_is back_is told longer
     ∙ ap (λ bs. done ++ f (up_to c rest) ∷ [] ++ map f (words c bs)) back_is
     ∙ next_done f done c rest (some_left rest b is some) ∙ so_far
 
-pub words_done : {A : Type 0} (f : List ℕ → A) (done : List A) (c : ℕ) (rest : List ℕ) (b : Bool) → b ≡ (length rest == 0) → b ≡ true → (whole : List A) → done ++ map f (words c rest) ≡ whole → done ≡ whole
+pub words_done : {A : Type 0} (f : List ℕ → A) (done : List A) (c : ℕ) (rest : List ℕ) (b : Bool)
+    → b ≡ (length rest == 0) → b ≡ true → (whole : List A) → done ++ map f (words c rest) ≡ whole → done ≡ whole
 words_done f done c rest b is none whole so_far = sym (all_done f done c rest (none_left rest b is none)) ∙ so_far
 
 few_by : (n c : ℕ) (bytes : List ℕ) → length (words_by n c bytes) ≤ n

@@ -56,7 +56,9 @@ module _ (script : Program) (hist : History) (by : ℕ) (c : At) (core : IsCoreO
   sync_wished (raised v) event is = absurd is
 
   -- a wish to synchronise is that of a post
-  pub post_wished : (want : Want) (ticket : ℕ) (event : Term) → want ≡ wants.Sync event → IsWant (wish c.thread (taken by hist.entries)) want → IsWishedAt script hist.entries (entries.Post by ticket event)
+  pub post_wished : (want : Want) (ticket : ℕ) (event : Term) → want ≡ wants.Sync event
+      → IsWant (wish c.thread (taken by hist.entries)) want → IsWishedAt script hist.entries
+      (entries.Post by ticket event)
   post_wished want ticket event sync is =
       is_wished (entries.Post by ticket event) refl (sync_wished (wish c.thread (taken by hist.entries)) event (subst (IsWant (wish c.thread (taken by hist.entries))) sync is))
 
@@ -66,7 +68,8 @@ module _ (script : Program) (hist : History) (by : ℕ) (c : At) (core : IsCoreO
   no_sync w (wants.Raised v) event is told other = subst (λ x. IsWant x (wants.Raised v)) is told
 
   -- and no post is the thread's where its wish is another
-  pub post_unwished : (want : Want) (ticket : ℕ) (event : Term) → IsWant (wish c.thread (taken by hist.entries)) want → ((e : Term) → want ≢ wants.Sync e) → ¬ IsWishedAt script hist.entries (entries.Post by ticket event)
+  pub post_unwished : (want : Want) (ticket : ℕ) (event : Term) → IsWant (wish c.thread (taken by hist.entries)) want
+      → ((e : Term) → want ≢ wants.Sync e) → ¬ IsWishedAt script hist.entries (entries.Post by ticket event)
   post_unwished want ticket event told other w =
       no_sync (wish c.thread (taken by hist.entries)) want event (wished_is (entries.Post by ticket event) refl w) told other
 

@@ -79,7 +79,9 @@ module _ (count front_at paths groups : ℕ) (h0 : count < 2 ^ 64) (h1 : front_a
       let p : said_number (up_to 32 (cut_behind 32 (cut_behind 32 (decimal front_at ++ 32 ∷ second)))) ≡ paths =
       ap (λ x. said_number (up_to 32 (cut_behind 32 x))) behind_f ∙ ap said_number (front 32 (decimal paths) third (spaced paths h2)) ∙ number_told paths h2 in
       let g : said_number (cut_behind 32 (cut_behind 32 (cut_behind 32 (cut_behind 32 (decimal front_at ++ 32 ∷ second))))) ≡ groups =
-      ap (λ x. said_number (cut_behind 32 (cut_behind 32 (cut_behind 32 x)))) behind_f ∙ ap (λ x. said_number (cut_behind 32 x)) (back 32 (decimal paths) third (spaced paths h2)) ∙ number_told groups h3 in
+      ap (λ x. said_number (cut_behind 32 (cut_behind 32 (cut_behind 32 x)))) behind_f
+      ∙ ap (λ x. said_number (cut_behind 32 x)) (back 32 (decimal paths) third (spaced paths h2))
+      ∙ number_told groups h3 in
       λ i. endings.Spent (f i) (p i) (g i)
 
   pub spent_told : said_ending (up_to 10 (last_line count (endings.Spent front_at paths groups) ++ more)) ≡ endings.Spent front_at paths groups

@@ -69,7 +69,9 @@ told_like false script h (entries.End by how) = (refl, tt)
 -- ---- the line of an entry that is meant
 
 module _ (sites : Bool) (script : Program) (h : List Entry) where
-  post_text : (sites : Bool) (by ticket : ℕ) (at site : Option Site) (event other : Term) → SaysSite sites script h (says.Post by ticket site) (entries.Post by ticket event) → at ≡ posted_site script h (entries.Post by ticket event)
+  post_text : (sites : Bool) (by ticket : ℕ) (at site : Option Site) (event other : Term)
+      → SaysSite sites script h (says.Post by ticket site) (entries.Post by ticket event)
+      → at ≡ posted_site script h (entries.Post by ticket event)
       → entry_text (version_of sites) script site (entries.Post by ticket other) ≡ entry_text (version_of sites) script at (entries.Post by ticket event)
   post_text true by ticket at site event other says_so is = ap (λ x. entry_text second script x (entries.Post by ticket other)) (sym says_so ∙ sym is)
   post_text false by ticket at site event other says_so is = refl
@@ -79,7 +81,9 @@ module _ (sites : Bool) (script : Program) (h : List Entry) where
   post_site true by ticket site event says_so has = subst IsSite (sym says_so) has
   post_site false by ticket site event says_so has = tt
 
-  other_text : (version : Version) (at : Option Site) (e : Entry) → IsUnposted e → (entry_text version script at e ≡ entry_text version script (posted_site script h e) e) × HasSite version (posted_site script h e) e
+  other_text : (version : Version) (at : Option Site) (e : Entry) → IsUnposted e
+      → (entry_text version script at e ≡ entry_text version script (posted_site script h e) e) × HasSite version
+      (posted_site script h e) e
   other_text version at (entries.Post by ticket event) un = absurd un
   other_text first at (entries.Commit by cert outcomes) un = (refl, tt)
   other_text second at (entries.Commit by cert outcomes) un = (refl, tt)
@@ -129,14 +133,16 @@ module _ (sites : Bool) (script : Program) (is : IsScript script) (hist : Histor
   pub too_many : most_reported_entries < number → HasNoEntry (version_of sites) script hist rest
   too_many past at e line more split spells = let within = spells.within in omega arith
 
-  module _ (s : Said) (behind : List ℕ) (is_said : s ≡ said (called_of script) sites (up_to 10 rest)) (split : rest ≡ numbered number (said_text script s) ++ behind) (within : number ≤ most_reported_entries) where
+  module _ (s : Said) (behind : List ℕ) (is_said : s ≡ said (called_of script) sites (up_to 10 rest))
+      (split : rest ≡ numbered number (said_text script s) ++ behind) (within : number ≤ most_reported_entries) where
     fit : FitsIn (version_of sites) script s
     fit = subst (FitsIn (version_of sites) script) (sym is_said) (said_fits script is sites (up_to 10 rest))
 
     pub unposted : HasUnposted s
     unposted = fit.unposted
 
-    pub goes_on : (new : History) (e : Entry) → IsMeant sites script hist s e → new.callers ≡ hist.callers → new.entries ≡ hist.entries ++ e ∷ [] → ReadingGoesOn (version_of sites) script hist new rest behind
+    pub goes_on : (new : History) (e : Entry) → IsMeant sites script hist s e → new.callers ≡ hist.callers
+        → new.entries ≡ hist.entries ++ e ∷ [] → ReadingGoesOn (version_of sites) script hist new rest behind
     goes_on new e meant callers entries =
         let line = meant_line sites script hist.entries s e fit meant.like meant.site in
         record {

@@ -48,7 +48,8 @@ no_head bytes few none_first none_second = record { few = few; headless = each }
     each second rest = none_second rest
 
 -- before the first entry the cores are at the first wishes
-pub followed_first : (script : Program) (hist : History) (cores : List At) → hist.callers ≡ length script.threads → hist.entries ≡ [] → cores ≡ cores_from [] 0 script.threads → AreFollowed script hist cores
+pub followed_first : (script : Program) (hist : History) (cores : List At) → hist.callers ≡ length script.threads
+    → hist.entries ≡ [] → cores ≡ cores_from [] 0 script.threads → AreFollowed script hist cores
 followed_first script hist cores callers none is = record {
   callers = callers;
   of_script = subst (λ (h : List Entry). IsOfScript script h) (sym none) tt;

@@ -129,7 +129,8 @@ module _ (script : Program) (is : IsScript script) where
 
   -- behind a colon and a space
   by_colon : (sites : Bool) (letter t : ℕ) (tail : List ℕ) → t < length script.threads
-      → said_entry (called_of script) sites letter (said_thread (called_of script).threads (up_to 58 (up_to 32 (name_of script t ++ 58 ∷ 32 ∷ tail)))) (cut_behind 32 (name_of script t ++ 58 ∷ 32 ∷ tail))
+      → said_entry (called_of script) sites letter (said_thread (called_of script).threads
+      (up_to 58 (up_to 32 (name_of script t ++ 58 ∷ 32 ∷ tail)))) (cut_behind 32 (name_of script t ++ 58 ∷ 32 ∷ tail))
       ≡ said_entry (called_of script) sites letter t tail
   by_colon sites letter t tail lt =
       let name = name_of script t in
@@ -152,13 +153,16 @@ module _ (script : Program) (is : IsScript script) where
       → said_entry (called_of script) (tells version) 112 by (decimal ticket ++ site_parts version at) ≡ says.Post by ticket (shown version at)
   post_told first at by ticket event few site =
       let clear = number_lacks 32 ticket refl (few_numbers ticket few) in
-      let under : said_ticket (up_to 32 (decimal ticket ++ [])) ≡ ticket = ap (λ x. said_ticket (up_to 32 x)) (append-nil (decimal ticket)) ∙ ap said_ticket (whole_front 32 (decimal ticket) clear) ∙ ticket_told ticket few in
+      let under : said_ticket (up_to 32 (decimal ticket ++ [])) ≡ ticket =
+      ap (λ x. said_ticket (up_to 32 x)) (append-nil (decimal ticket)) ∙ ap said_ticket
+      (whole_front 32 (decimal ticket) clear) ∙ ticket_told ticket few in
       ap (λ x. says.Post by x None) under
   post_told second None by ticket event few site = absurd site
   post_told second (Some s) by ticket event few site =
       let clear = number_lacks 32 ticket refl (few_numbers ticket few) in
       let spelled : List ℕ = decimal s.statement ++ 46 ∷ decimal s.pass in
-      let under : said_ticket (up_to 32 (decimal ticket ++ 32 ∷ 97 ∷ 116 ∷ 32 ∷ spelled)) ≡ ticket = ap said_ticket (front 32 (decimal ticket) (97 ∷ 116 ∷ 32 ∷ spelled) clear) ∙ ticket_told ticket few in
+      let under : said_ticket (up_to 32 (decimal ticket ++ 32 ∷ 97 ∷ 116 ∷ 32 ∷ spelled)) ≡ ticket =
+      ap said_ticket (front 32 (decimal ticket) (97 ∷ 116 ∷ 32 ∷ spelled) clear) ∙ ticket_told ticket few in
       let place : said_site true (cut_behind 32 (cut_behind 32 (decimal ticket ++ 32 ∷ 97 ∷ 116 ∷ 32 ∷ spelled))) ≡ Some s =
       ap (λ x. said_site true (cut_behind 32 x)) (back 32 (decimal ticket) (97 ∷ 116 ∷ 32 ∷ spelled) clear) ∙ site_told s site.0 site.1 in
       λ i. says.Post by (under i) (place i)
@@ -180,7 +184,8 @@ module _ (script : Program) (is : IsScript script) where
   how_told ways.Stuck h = refl
 
   -- the words of an entry
-  words_told : (version : Version) (at : Option Site) (e : Entry) → IsEntryOf script e → HasSite version at e → said_words (called_of script) (tells version) (entry_parts version script at e) ≡ told_as version at e
+  words_told : (version : Version) (at : Option Site) (e : Entry) → IsEntryOf script e → HasSite version at e
+      → said_words (called_of script) (tells version) (entry_parts version script at e) ≡ told_as version at e
   words_told version at (entries.Post by ticket event) h site = by_spaced (tells version) 112 by (decimal ticket ++ site_parts version at) h.0 ∙ post_told version at by ticket event h.1 site
   words_told version at (entries.Commit by cert outcomes) h site = by_colon (tells version) 99 by (commit_text script cert outcomes) h.0 ∙ commit_is_told script is by cert outcomes h.1
   words_told version at (entries.Withdraw by ticket) h site = by_spaced (tells version) 119 by (decimal ticket) h.0 ∙ ap (λ x. says.Entry (entries.Withdraw by x)) (ticket_told ticket h.1)

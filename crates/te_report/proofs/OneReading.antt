@@ -41,7 +41,9 @@ fault_of count too_long = faults.Tail (suc (suc (suc count)))
 
 -- ---- what is told doesn't hang on the spare room of a history
 
-entry_spare : (c : ℕ) (es : List Entry) (a b : ℕ) (e : Entry) (f : StepFault) → RefusesEntry (record { callers = c; entries = es; spare = a }) e f → RefusesEntry (record { callers = c; entries = es; spare = b }) e f
+entry_spare : (c : ℕ) (es : List Entry) (a b : ℕ) (e : Entry) (f : StepFault)
+    → RefusesEntry (record { callers = c; entries = es; spare = a }) e f
+    → RefusesEntry (record { callers = c; entries = es; spare = b }) e f
 entry_spare c es a b (entries.Post by ticket event) f r = r
 entry_spare c es a b (entries.Commit by cert outcomes) f r = r
 entry_spare c es a b (entries.Withdraw by ticket) f r = r
@@ -50,7 +52,9 @@ entry_spare c es a b (entries.Rest by) f r = r
 entry_spare c es a b (entries.Stuck by) f r = r
 entry_spare c es a b (entries.End by how) f r = r
 
-refused_spare : (c : ℕ) (es : List Entry) (a b : ℕ) (e : Entry) (f : StepFault) → IsRefused (record { callers = c; entries = es; spare = a }) e f → IsRefused (record { callers = c; entries = es; spare = b }) e f
+refused_spare : (c : ℕ) (es : List Entry) (a b : ℕ) (e : Entry) (f : StepFault)
+    → IsRefused (record { callers = c; entries = es; spare = a }) e f
+    → IsRefused (record { callers = c; entries = es; spare = b }) e f
 refused_spare c es a b e steps.Caller r = r
 refused_spare c es a b e steps.Closed r = r
 refused_spare c es a b e (steps.Other status) r = (r.0, r.1, entry_spare c es a b e (steps.Other status) r.2)
@@ -64,7 +68,8 @@ refused_spare c es a b e steps.Resting r = (r.0, r.1, entry_spare c es a b e ste
 refused_spare c es a b e steps.How r = (r.0, r.1, entry_spare c es a b e steps.How r.2)
 refused_spare c es a b e steps.Memory r = (r.0, r.1, entry_spare c es a b e steps.Memory r.2)
 
-cause_spare : (version : Version) (script : Program) (c : ℕ) (es : List Entry) (a b : ℕ) (e : Entry) (line : List ℕ) (cause : Cause) → IsCause version script (record { callers = c; entries = es; spare = a }) e line cause
+cause_spare : (version : Version) (script : Program) (c : ℕ) (es : List Entry) (a b : ℕ) (e : Entry) (line : List ℕ)
+    (cause : Cause) → IsCause version script (record { callers = c; entries = es; spare = a }) e line cause
     → IsCause version script (record { callers = c; entries = es; spare = b }) e line cause
 cause_spare version script c es a b e line (causes.Step f) r = (refused_spare c es a b e f r.0, r.1)
 cause_spare version script c es a b e line causes.Script r = r
@@ -89,7 +94,8 @@ module _ (script : Program) (is : IsScript script) (bytes : List ℕ) where
   can_spell version h r n at = readable version script h.entries is.program at.within (subst (λ (c : ℕ). IsLoose c h.entries) at.callers at.loose) at.of_script
 
   -- the next entry of the longer history stands where the shorter one ends
-  next_line : (version : Version) (h g : History) (r s : List ℕ) (n : ℕ) (e : Entry) (more : List Entry) → LineStandsAt script bytes version g s n → h.callers ≡ g.callers → g.entries ≡ h.entries ++ e ∷ more
+  next_line : (version : Version) (h g : History) (r s : List ℕ) (n : ℕ) (e : Entry) (more : List Entry)
+      → LineStandsAt script bytes version g s n → h.callers ≡ g.callers → g.entries ≡ h.entries ++ e ∷ more
       → r ≡ entry_lines version script h.entries (e ∷ more) ++ s → IsLine version script h.entries h.callers r e
   next_line version h g r s n e more at callers whole text =
       let spelled = part_readable [] h.entries (subst (AreReadable version script []) whole (can_spell version g s n at)) in
@@ -123,7 +129,8 @@ module _ (script : Program) (is : IsScript script) (bytes : List ℕ) where
       part_wished before (x ∷ xs) all = subst (λ b. WishedFrom script.threads b (e ∷ more)) (append_assoc before (x ∷ []) xs) (part_wished (before ++ x ∷ []) xs all.1)
 
   -- of two points at which something is told neither stands before the other
-  no_longer : (version : Version) (h g : History) (r s : List ℕ) (m n : ℕ) (k : Kind) → LineStandsAt script bytes version h r m → LineStandsAt script bytes version g s n → LineSays version script h r k
+  no_longer : (version : Version) (h g : History) (r s : List ℕ) (m n : ℕ) (k : Kind)
+      → LineStandsAt script bytes version h r m → LineStandsAt script bytes version g s n → LineSays version script h r k
       → Longer script is version [] h.entries g.entries r s → (h.entries ≡ g.entries) × (r ≡ s)
   no_longer version h g r s m n k at at' says l = by l.more l.whole l.text where
     by : (more : List Entry) → g.entries ≡ h.entries ++ more → r ≡ entry_lines version script h.entries more ++ s → (h.entries ≡ g.entries) × (r ≡ s)
@@ -135,9 +142,17 @@ module _ (script : Program) (is : IsScript script) (bytes : List ℕ) where
   parted version h r n at = at.text ∙ append_assoc (head_line version) (entry_lines version script [] h.entries) r
 
   stood : (version : Version) (h : History) (r : List ℕ) (n : ℕ) → LineStandsAt script bytes version h r n → Stands script is version (length script.threads) [] h.entries
-  stood version h r n at = record { within = (let few = at.within in omega arith); readable = can_spell version h r n at; loose = subst (λ c. IsLoose c h.entries) at.callers at.loose; wished = at.of_script }
+  stood version h r n at = record {
+    within = (let few = at.within in omega arith);
+    readable =
+        can_spell version h r n at;
+    loose = subst (λ c. IsLoose c h.entries) at.callers at.loose;
+    wished = at.of_script;
+  }
 
-  same_kind : (version : Version) (h g : History) (r s : List ℕ) (k l : Kind) → length g.entries ≤ most_reported_entries → h.callers ≡ g.callers → h.entries ≡ g.entries → r ≡ s → LineSays version script h r k → LineSays version script g s l → k ≡ l
+  same_kind : (version : Version) (h g : History) (r s : List ℕ) (k l : Kind) → length g.entries ≤ most_reported_entries
+      → h.callers ≡ g.callers → h.entries ≡ g.entries → r ≡ s → LineSays version script h r k
+      → LineSays version script g s l → k ≡ l
   same_kind version h g r s k l within callers entries same p q =
       one_kind script is version g s within k l
       (subst (λ x. LineSays version script g x k) same
@@ -146,7 +161,9 @@ module _ (script : Program) (is : IsScript script) (bytes : List ℕ) where
       q
 
   -- what is told at two points is told at one
-  points : (version : Version) (h g : History) (r s : List ℕ) (m n : ℕ) (k l : Kind) → LineStandsAt script bytes version h r m → LineStandsAt script bytes version g s n → LineSays version script h r k → LineSays version script g s l
+  points : (version : Version) (h g : History) (r s : List ℕ) (m n : ℕ) (k l : Kind)
+      → LineStandsAt script bytes version h r m → LineStandsAt script bytes version g s n → LineSays version script h r k
+      → LineSays version script g s l
       → (h.entries ≡ g.entries) × (k ≡ l)
   points version h g r s m n k l at at' p q =
       by (compare script is version (length script.threads) [] h.entries g.entries r s (stood version h r m at) (stood version g s n at')
@@ -165,7 +182,9 @@ module _ (script : Program) (is : IsScript script) (bytes : List ℕ) where
 
   pub one_told : (h g : History) (k l : Kind) → IsTold script bytes h k → IsTold script bytes g l → (h.entries ≡ g.entries) × (k ≡ l)
   one_told h g k l p q =
-      let heads = same_head p.version q.version (entry_lines p.version script [] h.entries ++ p.rest) (entry_lines q.version script [] g.entries ++ q.rest) (sym (parted p.version h p.rest p.n p.stands) ∙ parted q.version g q.rest q.n q.stands) in
+      let heads = same_head p.version q.version (entry_lines p.version script [] h.entries ++ p.rest)
+      (entry_lines q.version script [] g.entries ++ q.rest)
+      (sym (parted p.version h p.rest p.n p.stands) ∙ parted q.version g q.rest q.n q.stands) in
       let same = sym heads.0 in
       points p.version h g p.rest q.rest p.n q.n k l p.stands (subst (λ v. LineStandsAt script bytes v g q.rest q.n) same q.stands) p.says (subst (λ v. LineSays v script g q.rest l) same q.says)
 
@@ -242,7 +261,8 @@ module _ (script : Program) (is : IsScript script) (bytes : List ℕ) where
   told_few h k t = t.stands.few
 
   told_headed : (h : History) (k : Kind) → IsTold script bytes h k → IsRefusedFor script bytes faults.Head → ⊥
-  told_headed h k t f = f.headless t.version (entry_lines t.version script [] h.entries ++ t.rest) (t.stands.text ∙ append_assoc (head_line t.version) (entry_lines t.version script [] h.entries) t.rest)
+  told_headed h k t f = f.headless t.version (entry_lines t.version script [] h.entries ++ t.rest)
+      (t.stands.text ∙ append_assoc (head_line t.version) (entry_lines t.version script [] h.entries) t.rest)
 
   -- a report that is read is the only one, and no fault but want of memory stands
   pub read_once : (history other : List Entry) (ending last : Ending) → IsReadAs script history ending bytes → IsReadAs script other last bytes → (history ≡ other) × (ending ≡ last)

@@ -111,6 +111,7 @@ readable_from version script is before (e ∷ es) few so fits loose wished =
       readable_from version script is (before ++ e ∷ []) es (omega (arith, few, longer)) (loose-after (length script.threads) before e so loose.0) fits.1 loose.1 wished.1,
     )
 
-pub readable : (version : Version) (script : Program) (history : List Entry) → IsProgram script → length history ≤ most_reported_entries → IsLoose (length script.threads) history → IsOfScript script history
+pub readable : (version : Version) (script : Program) (history : List Entry) → IsProgram script
+    → length history ≤ most_reported_entries → IsLoose (length script.threads) history → IsOfScript script history
     → AreReadable version script [] history
 readable version script history is few loose wished = readable_from version script is [] history (omega (arith, few)) tt (all_fit script history is loose wished) loose wished

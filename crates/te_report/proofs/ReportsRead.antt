@@ -22,7 +22,8 @@ use Rattle.te_report.proofs.Growing.{wished_more}
 use Rattle.te_report.proofs.LinesSoFar.{lines_next}
 
 -- at the first line behind the head
-pub stands_first : (script : Program) (bytes : List ℕ) (version : Version) (hist : History) (rest : List ℕ) → length bytes ≤ most_report_bytes → hist.callers ≡ length script.threads → hist.entries ≡ []
+pub stands_first : (script : Program) (bytes : List ℕ) (version : Version) (hist : History) (rest : List ℕ)
+    → length bytes ≤ most_report_bytes → hist.callers ≡ length script.threads → hist.entries ≡ []
     → bytes ≡ head_line version ++ rest → LineStandsAt script bytes version hist rest 2
 stands_first script bytes version hist rest few callers none text =
     subst (λ (h : History). LineStandsAt script bytes version h rest 2) (back hist none) (record {
@@ -39,7 +40,8 @@ stands_first script bytes version hist rest few callers none text =
     back h is = λ i. record { callers = h.callers; entries = sym is i; spare = h.spare }
 
 -- behind one line more
-pub stands_next : (script : Program) (bytes : List ℕ) (version : Version) (old new : History) (rest behind : List ℕ) (n : ℕ) → LineStandsAt script bytes version old rest n → ReadingGoesOn version script old new rest behind
+pub stands_next : (script : Program) (bytes : List ℕ) (version : Version) (old new : History) (rest behind : List ℕ)
+    (n : ℕ) → LineStandsAt script bytes version old rest n → ReadingGoesOn version script old new rest behind
     → LineStandsAt script bytes version new behind (suc n)
 stands_next script bytes version old new rest behind n at on =
     let e = on.entry in
@@ -54,7 +56,8 @@ stands_next script bytes version old new rest behind n at on =
       text =
           at.text ∙ ap (λ r. head_line version ++ entry_lines version script [] h ++ r) on.text
           ∙ sym (append_assoc (head_line version ++ entry_lines version script [] h) (entry_line version script h e) behind)
-          ∙ ap (λ x. x ++ behind) (append_assoc (head_line version) (entry_lines version script [] h) (entry_line version script h e) ∙ ap (λ x. head_line version ++ x) (sym (lines_next version script h e)))
+          ∙ ap (λ x. x ++ behind) (append_assoc (head_line version) (entry_lines version script [] h)
+          (entry_line version script h e) ∙ ap (λ x. head_line version ++ x) (sym (lines_next version script h e)))
           ∙ ap (λ (es : List Entry). head_line version ++ entry_lines version script [] es ++ behind) (sym on.one_more);
       line = ap suc at.line ∙ ap (λ (k : ℕ). suc (suc k)) (sym longer);
     }
@@ -65,7 +68,8 @@ stands_next script bytes version old new rest behind n at on =
 
 -- ---- what is told of the whole
 
-pub read_as : (script : Program) (bytes : List ℕ) (version : Version) (hist : History) (rest : List ℕ) (n : ℕ) (ending : Ending) → LineStandsAt script bytes version hist rest n → EndIsWished hist rest ending
+pub read_as : (script : Program) (bytes : List ℕ) (version : Version) (hist : History) (rest : List ℕ) (n : ℕ)
+    (ending : Ending) → LineStandsAt script bytes version hist rest n → EndIsWished hist rest ending
     → IsReadAs script hist.entries ending bytes
 read_as script bytes version hist rest n ending at ends = record {
   few = at.few;
@@ -77,7 +81,8 @@ read_as script bytes version hist rest n ending at ends = record {
   closed = subst (λ (c : ℕ). ReportIsClosed ending c hist.entries) at.callers ends.closed;
 }
 
-pub refused_next : (script : Program) (bytes : List ℕ) (version : Version) (hist : History) (rest : List ℕ) (n : ℕ) (fault : ReportFault) → LineStandsAt script bytes version hist rest n → rest ≢ [] → ¬ BeginsLast rest
+pub refused_next : (script : Program) (bytes : List ℕ) (version : Version) (hist : History) (rest : List ℕ) (n : ℕ)
+    (fault : ReportFault) → LineStandsAt script bytes version hist rest n → rest ≢ [] → ¬ BeginsLast rest
     → NextFails version script hist rest fault → IsRefusedFor script bytes fault
 refused_next script bytes version hist rest n (faults.Line k) at some not_last fails =
     let same : n ≡ k = at.line ∙ sym fails.0 in
@@ -103,7 +108,8 @@ refused_next script bytes version hist rest n faults.Head at some not_last fails
 refused_next script bytes version hist rest n (faults.Tail k) at some not_last fails = absurd fails
 refused_next script bytes version hist rest n faults.Long at some not_last fails = absurd fails
 
-pub refused_last : (script : Program) (bytes : List ℕ) (version : Version) (hist : History) (rest : List ℕ) (n : ℕ) (fault : ReportFault) → LineStandsAt script bytes version hist rest n → FailsLast hist rest fault
+pub refused_last : (script : Program) (bytes : List ℕ) (version : Version) (hist : History) (rest : List ℕ) (n : ℕ)
+    (fault : ReportFault) → LineStandsAt script bytes version hist rest n → FailsLast hist rest fault
     → IsRefusedFor script bytes fault
 refused_last script bytes version hist rest n (faults.Tail k) at (inl fails) =
     record { version = version; history = hist; rest = rest; place = n; stands = at; fails = inl (fails.0, fails.1 ∙ sym at.line) }
@@ -137,11 +143,14 @@ split_last (z ∷ zs) later (y ∷ h) x e is =
     split_more y z zs h x e same (split_last zs later h x e rest)
 
 -- by an entry that declares it
-pub declares : (callers by : ℕ) (h more : List Entry) (d : Declaration) → d.before ≡ length h → d.parked ≡ parked_list (state callers h) → more ≡ h ++ entries.Stuck by ∷ [] → DeclaredIn callers more (Some d)
+pub declares : (callers by : ℕ) (h more : List Entry) (d : Declaration) → d.before ≡ length h
+    → d.parked ≡ parked_list (state callers h) → more ≡ h ++ entries.Stuck by ∷ [] → DeclaredIn callers more (Some d)
 declares callers by h more d before parked is = record { earlier = h; by = by; later = []; whole = is; count = before; are_parked = parked }
 
 -- by another entry nothing changes
-pub declared_still : (callers : ℕ) (h more : List Entry) (e : Entry) (declared : Option Declaration) → ((by : ℕ) → e ≢ entries.Stuck by) → more ≡ h ++ e ∷ [] → DeclaredIn callers h declared → DeclaredIn callers more declared
+pub declared_still : (callers : ℕ) (h more : List Entry) (e : Entry) (declared : Option Declaration)
+    → ((by : ℕ) → e ≢ entries.Stuck by) → more ≡ h ++ e ∷ [] → DeclaredIn callers h declared
+    → DeclaredIn callers more declared
 declared_still callers h more e (Some d) other is declared = record {
   earlier = declared.earlier;
   by = declared.by;
@@ -152,7 +161,9 @@ declared_still callers h more e (Some d) other is declared = record {
 }
 declared_still callers h more e None other is declared = λ before parked d. by_place before parked d (split_last d.earlier d.later h (entries.Stuck d.by) e (sym d.whole ∙ is))
   where
-    by_place : (before : ℕ) (parked : List Parked) (d : IsDeclared callers more before parked) → ((entries.Stuck d.by ≡ e) × (d.earlier ≡ h)) ⊎ ((left : List Entry) × (h ≡ d.earlier ++ entries.Stuck d.by ∷ left)) → ⊥
+    by_place : (before : ℕ) (parked : List Parked) (d : IsDeclared callers more before parked)
+        → ((entries.Stuck d.by ≡ e) × (d.earlier ≡ h)) ⊎ ((left : List Entry)
+        × (h ≡ d.earlier ++ entries.Stuck d.by ∷ left)) → ⊥
     by_place before parked d (inl last) = other d.by (sym last.0)
     by_place before parked d (inr earlier) = declared before parked (record { earlier = d.earlier; by = d.by; later = earlier.0; whole = earlier.1; count = d.count; are_parked = d.are_parked })
 

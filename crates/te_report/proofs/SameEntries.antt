@@ -111,7 +111,9 @@ posts_same : (script : Program) (h : List Entry) (by by' ticket ticket' : ℕ) (
 posts_same script h by by' ticket ticket' a b same w v =
     let one : by ≡ by' = cc in
     let two : ticket ≡ ticket' = cc in
-    let back : IsWishedAt script h (entries.Post by ticket b) = subst (λ t. IsWishedAt script h (entries.Post t ticket b)) (sym one) (subst (λ k. IsWishedAt script h (entries.Post by' k b)) (sym two) v) in
+    let back : IsWishedAt script h (entries.Post by ticket b) =
+    subst (λ t. IsWishedAt script h (entries.Post t ticket b)) (sym one)
+    (subst (λ k. IsWishedAt script h (entries.Post by' k b)) (sym two) v) in
     let event = one_event (slice_get script.threads by) (taken by h) by ticket a b w back in
     λ i. entries.Post (one i) (two i) (event i)
 

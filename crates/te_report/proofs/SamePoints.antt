@@ -108,12 +108,17 @@ module _ (script : Program) (is : IsScript script) (version : Version) where
     illegal_digit : (cause : Cause) → HasIllegal version script h rest cause → (48 ≤ first_byte rest) × (first_byte rest ≤ 57)
     illegal_digit cause i = digit i.at i.entry i.line i.more i.spells i.split
 
-    same_spelled : (a b : Option Site) (d e : Entry) (l m r s : List ℕ) → SpellsEntry version script number a d l → SpellsEntry version script number b e m → rest ≡ l ++ r → rest ≡ m ++ s → told_as version a d ≡ told_as version b e
+    same_spelled : (a b : Option Site) (d e : Entry) (l m r s : List ℕ) → SpellsEntry version script number a d l
+        → SpellsEntry version script number b e m → rest ≡ l ++ r → rest ≡ m ++ s
+        → told_as version a d ≡ told_as version b e
     same_spelled a b d e l m r s sd se split split' =
         let some = sd.within in
-        line_plain script is version number a b d e rest r s (few_lines (length h.entries) some) sd.entry sd.site se.entry se.site (split ∙ ap (λ x. x ++ r) sd.text) (split' ∙ ap (λ x. x ++ s) se.text)
+        line_plain script is version number a b d e rest r s
+        (few_lines (length h.entries) some) sd.entry sd.site se.entry se.site (split ∙ ap (λ x. x ++ r) sd.text)
+        (split' ∙ ap (λ x. x ++ s) se.text)
 
-    same_lines : (a b : Option Site) (d e : Entry) (l m : List ℕ) → SpellsEntry version script number a d l → SpellsEntry version script number b e m → told_as version a d ≡ told_as version b e → l ≡ m
+    same_lines : (a b : Option Site) (d e : Entry) (l m : List ℕ) → SpellsEntry version script number a d l
+        → SpellsEntry version script number b e m → told_as version a d ≡ told_as version b e → l ≡ m
     same_lines a b d e l m sd se same =
         sd.text ∙ ap (numbered number) (text_same version script a d) ∙ ap (λ t. numbered number (said_text script t)) same
         ∙ sym (se.text ∙ ap (numbered number) (text_same version script b e))
@@ -258,7 +263,9 @@ module _ (script : Program) (is : IsScript script) (version : Version) where
       let left = append_assoc (entry_line version script before d) (entry_lines version script (before ++ d ∷ []) es) r in
       let right = append_assoc (entry_line version script before f) (entry_lines version script (before ++ f ∷ []) fs) s in
       let number : suc (length before) < 2 ^ 64 = omega arith in
-      let told = line_plain script is version (suc (length before)) (posted_site script before d) (posted_site script before f) d f ((entry_line version script before d ++ entry_lines version script (before ++ d ∷ []) es) ++ r)
+      let told = line_plain script is version (suc (length before)) (posted_site script before d)
+      (posted_site script before f) d f ((entry_line version script before d ++ entry_lines version script
+      (before ++ d ∷ []) es) ++ r)
       (entry_lines version script (before ++ d ∷ []) es ++ r) (entry_lines version script (before ++ f ∷ []) fs ++ s) number a.readable.0 a.readable.1 b.readable.0 b.readable.1 left (e ∙ right) in
       let same : d ≡ f = plain_same script before d f (told_same version (posted_site script before d) (posted_site script before f) d f told) a.wished.0 b.wished.0 in
       let rest = append_cancel_left (entry_line version script before d) (entry_lines version script (before ++ d ∷ []) es ++ r) (entry_lines version script (before ++ d ∷ []) fs ++ s)

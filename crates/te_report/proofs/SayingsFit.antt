@@ -20,7 +20,12 @@ use Rattle.te_report.specs.declared.saying.Said.TheVariants as says
 use Rattle.te_report.specs.ScriptChannels.{IsChannelOf}
 use Rattle.te_report.specs.Readable.{IsAtomOf, IsValueOf, IsOutcomeOf, IsHowOf, IsNumber, IsScriptThread, IsMemberOf, IsNamed, IsMeetingOf, IsEntryOf, HasSite}
 use Rattle.te_report.specs.Report.{Version, entry_text}
-use Rattle.te_report.specs.Sayings.{called_of, up_to, cut_behind, words, below, said_number, said_ticket, fitting_number, or_zero, said_integer, decimal_value, or_first, place_of_name, said_thread, said_channel, atom_of, said_atom, few_atoms, said_value, said_outcome, said_member, said_gets, said_place, said_meeting, said_members, said_outcomes, said_meets, said_values, said_how, said_site, said_commit, said_entry, said, entry_in, site_in, said_text, version_of, first_byte}
+use Rattle.te_report.specs.Sayings.{called_of, up_to, cut_behind, words, below, said_number, said_ticket}
+use Rattle.te_report.specs.Sayings.{fitting_number, or_zero, said_integer, decimal_value, or_first, place_of_name}
+use Rattle.te_report.specs.Sayings.{said_thread, said_channel, atom_of, said_atom, few_atoms, said_value, said_outcome}
+use Rattle.te_report.specs.Sayings.{said_member, said_gets, said_place, said_meeting, said_members, said_outcomes}
+use Rattle.te_report.specs.Sayings.{said_meets, said_values, said_how, said_site, said_commit, said_entry, said}
+use Rattle.te_report.specs.Sayings.{entry_in, site_in, said_text, version_of, first_byte}
 use Rattle.te_report.specs.Judging.{IsUnposted, HasUnposted}
 use Rattle.te_report.proofs.NamesTold.{place_by, position_is, found_below}
 
@@ -149,11 +154,21 @@ module _ (script : Program) (is : IsScript script) where
       by (Some i) found =
           let f = found i refl in
           let own : f.item.thread ≡ t = let p = f.passes in grind (arith, nat_tests) in
-          record { member = f.item; there = f.there; first_one = λ k y lt there same. (let fails = f.before k y lt there in let e : y.thread ≡ t = same ∙ own in let p : (y.thread == t) ≡ true = grind (arith, nat_tests) in absurd cc) }
+          record {
+            member = f.item;
+            there = f.there;
+            first_one = λ k y lt there same.
+                (let fails = f.before k y lt there in let e : y.thread ≡ t = same ∙ own in let p : (y.thread == t) ≡ true =
+                grind (arith, nat_tests) in absurd cc);
+          }
 
   meets_fit : (ms : List Member) (bytes : List ℕ) → AllByRecursion (IsMeetingOf ms) (said_meets (called_of script) ms bytes)
   meets_fit [] bytes = tt
-  meets_fit (m ∷ ms) bytes = all_map (IsMeetingOf (m ∷ ms)) (said_meeting (called_of script) (m ∷ ms)) (λ w. (place_fits m ms (said_thread (called_of script).threads (up_to 62 w)), place_fits m ms (said_thread (called_of script).threads (cut_behind 62 w)))) (words 32 bytes)
+  meets_fit (m ∷ ms) bytes = all_map (IsMeetingOf (m ∷ ms)) (said_meeting (called_of script) (m ∷ ms))
+      (λ w. (
+        place_fits m ms (said_thread (called_of script).threads (up_to 62 w)),
+        place_fits m ms (said_thread (called_of script).threads (cut_behind 62 w)),
+      )) (words 32 bytes)
 
   length_maps : {A B C : Type 0} (f : A → B) (g : A → C) (xs : List A) → length (map f xs) ≡ length (map g xs)
   length_maps f g [] = refl
@@ -165,7 +180,8 @@ module _ (script : Program) (is : IsScript script) where
   how_fits : (bytes : List ℕ) → IsHowOf script (said_how (called_of script) bytes)
   how_fits [] = tt
   how_fits (b ∷ bs) = by (b == 100) (b == 114) where
-    by : (t u : Bool) → IsHowOf script (if t then ways.Done (said_values (called_of script) (cut_behind 32 (b ∷ bs))) else (if u then ways.Raised (said_value (called_of script) (cut_behind 32 (b ∷ bs))) else ways.Stuck))
+    by : (t u : Bool) → IsHowOf script (if t then ways.Done (said_values (called_of script) (cut_behind 32 (b ∷ bs)))
+        else (if u then ways.Raised (said_value (called_of script) (cut_behind 32 (b ∷ bs))) else ways.Stuck))
     by true u = values_fit (cut_behind 32 (b ∷ bs))
     by false true = value_fits (cut_behind 32 (b ∷ bs))
     by false false = tt
@@ -191,7 +207,12 @@ module _ (script : Program) (is : IsScript script) where
   post_fits true by under place lt = record { entry = (lt, ticket_fits under); site = (ticket_fits (up_to 46 place), ticket_fits (cut_behind 46 place)); text = refl; unposted = tt }
 
   commit_fits : (by : ℕ) (members meets : List ℕ) → by < length script.threads
-      → IsEntryOf script (entries.Commit by (record { members = said_members (called_of script) members; meets = said_meets (called_of script) (said_members (called_of script) members) meets }) (said_outcomes (called_of script) members))
+      → IsEntryOf script (entries.Commit by (record {
+        members = said_members (called_of script) members;
+        meets =
+            said_meets (called_of script) (said_members (called_of script) members) meets;
+      })
+      (said_outcomes (called_of script) members))
   commit_fits by members meets lt = (
     lt,
     record {
@@ -215,7 +236,9 @@ module _ (script : Program) (is : IsScript script) where
     pick true c w t r s = post_fits sites by (up_to 32 tail) (cut_behind 32 (cut_behind 32 tail)) lt
     pick false true w t r s = other_fits sites _ (commit_fits by (up_to 59 tail) (cut_behind 32 (cut_behind 59 tail)) lt) tt
     pick false false true t r s = other_fits sites (entries.Withdraw by (said_ticket tail)) (lt, ticket_fits tail) tt
-    pick false false false true r s = other_fits sites (entries.Take by (said_ticket (up_to 32 tail)) (said_outcome (called_of script) (cut_behind 32 tail))) (lt, ticket_fits (up_to 32 tail), outcome_fits (cut_behind 32 tail)) tt
+    pick false false false true r s = other_fits sites (entries.Take by (said_ticket (up_to 32 tail))
+        (said_outcome (called_of script) (cut_behind 32 tail)))
+        (lt, ticket_fits (up_to 32 tail), outcome_fits (cut_behind 32 tail)) tt
     pick false false false false true s = other_fits sites (entries.Rest by) lt tt
     pick false false false false false true = other_fits sites (entries.Stuck by) lt tt
     pick false false false false false false = other_fits sites (entries.End by (said_how (called_of script) tail)) (lt, how_fits tail) tt
@@ -224,4 +247,6 @@ module _ (script : Program) (is : IsScript script) where
   unfolding said
   said_fits sites line =
       let bytes = cut_behind 32 line in
-      entry_fits sites (first_byte bytes) (said_thread (called_of script).threads (up_to 58 (up_to 32 (cut_behind 32 bytes)))) (cut_behind 32 (cut_behind 32 bytes)) (thread_fits (up_to 58 (up_to 32 (cut_behind 32 bytes))))
+      entry_fits sites (first_byte bytes) (said_thread (called_of script).threads
+      (up_to 58 (up_to 32 (cut_behind 32 bytes)))) (cut_behind 32 (cut_behind 32 bytes))
+      (thread_fits (up_to 58 (up_to 32 (cut_behind 32 bytes))))

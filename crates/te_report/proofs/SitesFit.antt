@@ -9,7 +9,9 @@ use Rattle.te_terms.specs.Expressions.{Variable, in_expression, value_of}
 use Rattle.te_terms.specs.Terms.{Term}
 use Rattle.te_script.specs.Limits.{most_times}
 use Rattle.te_script.specs.Scripts.{Statement, sync, emit, repeat, with_register, AreStatements, Thread, IsThread}
-use Rattle.te_script.specs.Wishes.{Step, syncing, emitting, site_at, steps_of, pass_over, passes_over, flat_from, flat, syncs, holding, Doing, synchronises, ends, has_raised, Reached, emits_or, reached_by, reached, wish_of, wish, site_of, site}
+use Rattle.te_script.specs.Wishes.{Step, syncing, emitting, site_at, steps_of, pass_over, passes_over, flat_from, flat}
+use Rattle.te_script.specs.Wishes.{syncs, holding, Doing, synchronises, ends, has_raised, Reached, emits_or, reached_by}
+use Rattle.te_script.specs.Wishes.{reached, wish_of, wish, site_of, site}
 use Rattle.te_report.specs.Readable.{IsSite}
 
 -- ---- steps
@@ -74,7 +76,8 @@ DoesSited (synchronises at t) = IsSite (Some at)
 DoesSited ends = Unit {0}
 DoesSited (has_raised v) = Unit {0}
 
-emits_sited : (r : Result (List Atom) Trap) (emitted : List (List Atom)) (go : List (List Atom) → Reached) → ((more : List (List Atom)) → DoesSited (go more).does) → DoesSited (emits_or r emitted go).does
+emits_sited : (r : Result (List Atom) Trap) (emitted : List (List Atom)) (go : List (List Atom) → Reached)
+    → ((more : List (List Atom)) → DoesSited (go more).does) → DoesSited (emits_or r emitted go).does
 emits_sited (Ok v) emitted go rest = rest (emitted ++ v ∷ [])
 emits_sited (Err t) emitted go rest = tt
 

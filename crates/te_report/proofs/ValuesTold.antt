@@ -16,7 +16,9 @@ use Rattle.te_script.specs.Scripts.{Program, HasNames, IsScript}
 use Rattle.te_report.specs.ScriptChannels.{IsChannelOf}
 use Rattle.te_report.specs.Readable.{IsAtomOf, IsValueOf, IsOutcomeOf}
 use Rattle.te_report.specs.Report.{thread_name, name_of, channel_name, channel_text, atom_text, other_atoms, atoms_text, value_text, outcome_text, spaced_value}
-use Rattle.te_report.specs.Sayings.{called_of, up_to, cut_behind, words, said_number, said_ticket, said_thread, said_integer, said_channel, atom_of, said_atom, few_atoms, said_value, said_outcome, said_values}
+use Rattle.te_report.specs.Sayings.{called_of, up_to, cut_behind, words, said_number, said_ticket, said_thread}
+use Rattle.te_report.specs.Sayings.{said_integer, said_channel, atom_of, said_atom, few_atoms, said_value, said_outcome}
+use Rattle.te_report.specs.Sayings.{said_values}
 use Rattle.te_report.proofs.Followed.{some_thread}
 use Rattle.te_report.proofs.Appends.{parts_5}
 use Rattle.te_report.proofs.Cuts.{lacks, lacks_cons, lacks_append, front, back, no_back, IsWord, others, joined, words_joined, lacks_joined}
@@ -100,8 +102,12 @@ module _ (script : Program) (is : IsScript script) where
       let number = number_lacks 46 (k % 2 ^ 18) refl wide in
       let tail : cut_behind 46 text ≡ decimal (k % 2 ^ 18) ++ 46 ∷ decimal n = ap (cut_behind 46) e ∙ back 46 (name_of script t) (decimal (k % 2 ^ 18) ++ 46 ∷ decimal n) name in
       let some : 0 < length (cut_behind 46 text) = rw tail (omega (arith, length_tail (decimal (k % 2 ^ 18)) (decimal n))) in
-      let thread : said_thread (called_of script).threads (up_to 46 text) ≡ t = ap (said_thread (called_of script).threads) (ap (up_to 46) e ∙ front 46 (name_of script t) (decimal (k % 2 ^ 18) ++ 46 ∷ decimal n) name) ∙ thread_is_told t lt in
-      let ticket : said_ticket (up_to 46 (cut_behind 46 text)) ≡ k % 2 ^ 18 = ap said_ticket (ap (up_to 46) tail ∙ front 46 (decimal (k % 2 ^ 18)) (decimal n) number) ∙ ticket_told (k % 2 ^ 18) small in
+      let thread : said_thread (called_of script).threads (up_to 46 text) ≡ t =
+      ap (said_thread (called_of script).threads) (ap (up_to 46) e ∙ front 46 (name_of script t)
+      (decimal (k % 2 ^ 18) ++ 46 ∷ decimal n) name) ∙ thread_is_told t lt in
+      let ticket : said_ticket (up_to 46 (cut_behind 46 text)) ≡ k % 2 ^ 18 =
+      ap said_ticket (ap (up_to 46) tail ∙ front 46 (decimal (k % 2 ^ 18)) (decimal n) number) ∙ ticket_told
+      (k % 2 ^ 18) small in
       let count : said_number (cut_behind 46 (cut_behind 46 text)) ≡ n = ap said_number (ap (cut_behind 46) tail ∙ back 46 (decimal (k % 2 ^ 18)) (decimal n) number) ∙ number_told n (omega arith) in
       let same : fresh_channel t (k % 2 ^ 18) (n % 16) ≡ fresh_channel t k n = omega arith in
       fresh_said text (cut_behind 46 text) some

@@ -51,7 +51,9 @@ not_end (entries.End by how) un other = other by how refl
 
 module _ (script : Program) (hist : History) (cores : List At) (so_far : AreFollowed script hist cores) where
   -- an end is wished where its thread's core ends so
-  pub end_wished : (by : ℕ) (how : How) (c : At) (b : Bool) → slice_get cores by ≡ Some c → (b ≡ true) ↔ EndsSo (wish c.thread (taken by hist.entries)) how → (b ≡ true) ↔ IsWishedAt script hist.entries (entries.End by how)
+  pub end_wished : (by : ℕ) (how : How) (c : At) (b : Bool) → slice_get cores by ≡ Some c
+      → (b ≡ true) ↔ EndsSo (wish c.thread (taken by hist.entries)) how
+      → (b ≡ true) ↔ IsWishedAt script hist.entries (entries.End by how)
   end_wished by how c b found h =
       let core = core_of script hist cores by c so_far found in
       (λ t. is_wished script hist by c core (entries.End by how) refl (h.0 t), λ w. h.1 (wished_is script hist by c core (entries.End by how) refl w))
@@ -110,7 +112,9 @@ module _ (script : Program) (hist : History) (cores : List At) (so_far : AreFoll
     )
 
     -- no post is wished
-    pub post_fails : (sites : Bool) (ticket : ℕ) (at : Option Site) (cause : Cause) → ((event : Term) → want ≢ wants.Sync event) → PostIsRefused hist by ticket cause → IsFailing sites script hist (says.Post by ticket at) cause
+    pub post_fails : (sites : Bool) (ticket : ℕ) (at : Option Site) (cause : Cause)
+        → ((event : Term) → want ≢ wants.Sync event) → PostIsRefused hist by ticket cause
+        → IsFailing sites script hist (says.Post by ticket at) cause
     post_fails sites ticket at (causes.Step fault) other fails = ((entries.Post by ticket fails.0.0, (fails.0.0, refl), fails.0.1), fails.1)
     post_fails sites ticket at causes.Script other fails = (
       (entries.Post by ticket fails.0, (fails.0, refl), fails.1),

@@ -32,7 +32,8 @@ pub fn fresh_channels_are_spelled()
 pub fn readings_are_one()
     ensures read { (script : Program) (bytes : List ℕ) (history other : List Entry) (ending last : End) → IsScript script → IsReadAs script history ending bytes → IsReadAs script other last bytes
         → (history ≡ other) × (ending ≡ last) }
-    ensures unrefused { (script : Program) (bytes : List ℕ) (history : List Entry) (ending : End) (fault : Fault) → IsScript script → IsReadAs script history ending bytes → IsRefusedFor script bytes fault
+    ensures unrefused { (script : Program) (bytes : List ℕ) (history : List Entry) (ending : End) (fault : Fault)
+        → IsScript script → IsReadAs script history ending bytes → IsRefusedFor script bytes fault
         → fault ≡ Memory }
     ensures one { (script : Program) (bytes : List ℕ) (a b : Fault) → IsScript script → IsRefusedFor script bytes a → IsRefusedFor script bytes b → (a ≡ b) ⊎ ((a ≡ Memory) ⊎ (b ≡ Memory)) }
 {}

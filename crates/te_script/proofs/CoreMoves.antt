@@ -1,5 +1,7 @@
 -- How an outcome moves a core on: the register is written, and each sync writes one of the thread's registers.
-use Rattle.std.proofs.Common.{◌≡◌, ℕ, zero, suc, ◌+◌, ◌≤◌, ◌<◌, Bool, true, false, ◌⊎◌, Option, Some, None, List, [], ◌∷◌, length, map, drop, slice_set, cond, ltb, eqb, eq-eqb, refl, sym, ap, subst, ◌∙◌, arith, inl, inr}
+use Rattle.std.proofs.Common.{◌≡◌, ℕ, zero, suc, ◌+◌, ◌≤◌, ◌<◌, Bool, true, false, ◌⊎◌, Option, Some, None, List, []}
+use Rattle.std.proofs.Common.{◌∷◌, length, map, drop, slice_set, cond, ltb, eqb, eq-eqb, refl, sym, ap, subst, ◌∙◌}
+use Rattle.std.proofs.Common.{arith, inl, inr}
 use Rattle.std.specs.Prelude.{slice_get}
 use Rattle.te_terms.specs.declared.value.Atom.{Atom}
 use Rattle.std.proofs.Math.Seq.{drop-nil}
@@ -12,7 +14,9 @@ use Rattle.te_script.specs.declared.script.Stmt.{Stmt}
 use Rattle.te_script.specs.declared.wish.Spot.{Spot}
 use Rattle.te_script.specs.Scripts.{Statement, sync, emit, repeat, AreStatements, with_register, Thread, IsThread}
 use Rattle.te_script.specs.Wishes.{Step, syncing, emitting}
-use Rattle.te_script.specs.Cores.{register_to, written, stand_at, moved, without_register, under, next_of, next_at, IsWaiting, WritesTo, emits_left, Settles, IsCore, IsSyncSpot, steps_left_at, steps_behind_first}
+use Rattle.te_script.specs.Cores.{register_to, written, stand_at, moved, without_register, under, next_of, next_at}
+use Rattle.te_script.specs.Cores.{IsWaiting, WritesTo, emits_left, Settles, IsCore, IsSyncSpot, steps_left_at}
+use Rattle.te_script.specs.Cores.{steps_behind_first}
 use Rattle.te_script.specs.Texts.{statement_of}
 use Rattle.te_script.proofs.Places.{slice_get_set_same, slice_get_set_other}
 use Rattle.te_script.proofs.EmitsDone.{nothing_from}
@@ -82,7 +86,8 @@ given_on regs left r (Some u) emitted v lt h w = absurd h
 given_on regs [] r None emitted v lt h w = absurd w
 given_on regs (emitting at e ∷ rest) r None emitted v lt h w = absurd w
 given_on regs (syncing at s t ∷ rest) r None emitted v lt h w =
-    let set = rebound r v rest (without_register r (registers_to regs)) (registers_to (slice_set regs r v)) (IsPartial-without r (registers_to regs) (registers_partial regs)) (set_register regs r v lt) in
+    let set = rebound r v rest (without_register r (registers_to regs)) (registers_to (slice_set regs r v))
+    (IsPartial-without r (registers_to regs) (registers_partial regs)) (set_register regs r v lt) in
     ap (λ ss'. stand_at ss' emitted) (subst (λ k. written k v (under (without_register k (registers_to regs)) rest) ≡ under (registers_to (slice_set regs r v)) rest) w set)
 
 -- a sync emits nothing
@@ -116,7 +121,8 @@ module _ (t : Thread) (first second : List Stmt) (spot : Spot) (r : ℕ) (first_
 
   pub core_given : (regs : List (List Atom)) (raised' : Option (List Atom)) (emitted now : List (List Atom)) (v : List Atom) (spot' : Spot) (room : ℕ)
       → IsCore t spot (length emitted) room → IsSyncSpot spot' (map statement_of second)
-      → Settles (slice_set regs r v) (steps_behind_first (steps_left_at spot (map statement_of second))) emitted raised' (steps_left_at spot' (map statement_of second)) now → IsCore t spot' (length now) room
+      → Settles (slice_set regs r v) (steps_behind_first (steps_left_at spot (map statement_of second))) emitted raised'
+      (steps_left_at spot' (map statement_of second)) now → IsCore t spot' (length now) room
   core_given regs raised' emitted now v spot' room old at settles =
       let fits = subst (λ (ss : List Statement). length now + emits_left (steps_left_at spot' ss) ≤ length emitted + emits_left (steps_behind_first (steps_left_at spot ss))) second_is settles.fits in
       record {

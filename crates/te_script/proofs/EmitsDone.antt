@@ -62,7 +62,8 @@ pub emit_from : (stmts : List Stmt) (i : ℕ) (s : Stmt) (e : Expr) → i < leng
 emit_from stmts i s e lt is kind = statements_from stmts i s lt is ∙ ap (λ k. statement_of k ∷ drop (i + 1) (map statement_of stmts)) kind
 
 -- the steps from an emit on
-pub behind_emit : (place : ℕ) (ss : List Statement) (e : Expression) → drop place ss ≡ emit e ∷ drop (place + 1) ss → steps_behind place ss ≡ emitting (site_at (suc place) 0) e ∷ steps_behind (place + 1) ss
+pub behind_emit : (place : ℕ) (ss : List Statement) (e : Expression) → drop place ss ≡ emit e ∷ drop (place + 1) ss
+    → steps_behind place ss ≡ emitting (site_at (suc place) 0) e ∷ steps_behind (place + 1) ss
 behind_emit place ss e is = ap (flat_from (suc place) 0) is ∙ (let n : suc place ≡ place + 1 = omega arith in λ i. emitting (site_at (suc place) 0) e ∷ flat_from (suc (n i)) 0 (drop (place + 1) ss))
 
 -- what is no emit is past the emits

@@ -6,7 +6,9 @@ use Rattle.te_script.specs.declared.wish.Spot.{Spot}
 use Rattle.te_script.specs.declared.wish.Round.{Round}
 use Rattle.te_script.specs.Scripts.{Statement, sync, emit, repeat, AreSyncs, IsRepeat}
 use Rattle.te_script.specs.Wishes.{Step, syncing, emitting, site_at, steps_of, pass_over, passes_over, flat_from}
-use Rattle.te_script.specs.Cores.{next_of, IsWaiting, IsPastEmitting, steps_behind, left_in, steps_left_at, IsInRepeat, FitsRound, IsAtSync, IsSyncSpot, HasBodies, steps_behind_first, SpotGoesOn, IsPastEmits, pass_of}
+use Rattle.te_script.specs.Cores.{next_of, IsWaiting, IsPastEmitting, steps_behind, left_in, steps_left_at, IsInRepeat}
+use Rattle.te_script.specs.Cores.{FitsRound, IsAtSync, IsSyncSpot, HasBodies, steps_behind_first, SpotGoesOn}
+use Rattle.te_script.specs.Cores.{IsPastEmits, pass_of}
 
 -- what is behind a statement
 pub tail_of : (ss : List Statement) (i : ℕ) (s : Statement) (rest : List Statement) → drop i ss ≡ s ∷ rest → drop (suc i) ss ≡ rest
@@ -20,7 +22,8 @@ flat_skips number zero ss = let n : number + 0 ≡ number = omega arith in rw n 
 flat_skips number (suc k) [] = refl
 flat_skips number (suc k) (s ∷ ss) = let n : number + suc k ≡ suc number + k = omega arith in rw n (flat_skips (suc number) k ss)
 
-pub behind_sync : (place : ℕ) (ss rest : List Statement) (r : ℕ) (t : Term) → drop place ss ≡ sync r t ∷ rest → steps_behind place ss ≡ syncing (site_at (suc place) 0) r t ∷ steps_behind (suc place) ss
+pub behind_sync : (place : ℕ) (ss rest : List Statement) (r : ℕ) (t : Term) → drop place ss ≡ sync r t ∷ rest
+    → steps_behind place ss ≡ syncing (site_at (suc place) 0) r t ∷ steps_behind (suc place) ss
 behind_sync place ss rest r t e =
     ap (flat_from (suc place) 0) e ∙ (λ i. syncing (site_at (suc place) 0) r t ∷ flat_from (suc (suc place)) 0 (sym (tail_of ss place (sync r t) rest e) i))
 
@@ -103,7 +106,8 @@ goes_out : (place reg : ℕ) (t : Term) (r : Round) (ss : List Statement) → pl
 goes_out place reg t r ss lt le last e =
     let none : r.times - suc r.pass ≡ 0 = omega (arith, last) in
     let at_end : r.end ≡ suc place = omega (arith, lt, le) in
-    let out : passes_over (r.times - suc r.pass) (suc r.first) (suc r.pass) (take (r.end - r.first) (drop r.first ss)) ++ steps_behind r.end ss ≡ steps_behind (suc place) ss = rw (none, at_end) refl in
+    let out : passes_over (r.times - suc r.pass) (suc r.first) (suc r.pass) (take (r.end - r.first) (drop r.first ss))
+    ++ steps_behind r.end ss ≡ steps_behind (suc place) ss = rw (none, at_end) refl in
     sym (ap steps_behind_first (in_round place reg t r ss lt e) ∙ pass_done place r ss le ∙ out)
 
 -- ---- where a spot goes on
@@ -139,7 +143,8 @@ on_next_pass place r ss h le more =
       goes_again place at.0 at.1 r ss h.inside le more at.2,
     )
 
-pub on_behind : (place : ℕ) (r : Round) (ss : List Statement) → IsInRepeat place r ss → r.end ≤ suc place → r.times ≤ suc r.pass → steps_behind (suc place) ss ≡ steps_behind_first (left_in place (Some r) ss)
+pub on_behind : (place : ℕ) (r : Round) (ss : List Statement) → IsInRepeat place r ss → r.end ≤ suc place
+    → r.times ≤ suc r.pass → steps_behind (suc place) ss ≡ steps_behind_first (left_in place (Some r) ss)
 on_behind place r ss h le last = let at = sync_in_round place r ss h in goes_out place at.0 at.1 r ss h.inside le last at.2
 
 -- ---- what stands at a spot
@@ -149,7 +154,8 @@ pub left_sync : (spot : Spot) (ss rest : List Statement) (r : ℕ) (t : Term) �
     → steps_left_at spot ss ≡ syncing (site_at (suc spot.place) (pass_of spot.round)) r t ∷ steps_behind_first (steps_left_at spot ss)
 left_sync spot ss rest r t h e = at spot.place spot.round h.round e
   where
-    at : (place : ℕ) (o : Option Round) → FitsRound place o ss → drop place ss ≡ sync r t ∷ rest → left_in place o ss ≡ syncing (site_at (suc place) (pass_of o)) r t ∷ steps_behind_first (left_in place o ss)
+    at : (place : ℕ) (o : Option Round) → FitsRound place o ss → drop place ss ≡ sync r t ∷ rest
+        → left_in place o ss ≡ syncing (site_at (suc place) (pass_of o)) r t ∷ steps_behind_first (left_in place o ss)
     at place None h e = let is = behind_sync place ss rest r t e in is ∙ ap (λ (xs : List Step). syncing (site_at (suc place) 0) r t ∷ xs) (sym (ap steps_behind_first is))
     at place (Some q) h e =
         let tail = tail_of ss place (sync r t) rest e in
@@ -157,7 +163,8 @@ left_sync spot ss rest r t h e = at spot.place spot.round h.round e
         is ∙ ap (λ (xs : List Step). syncing (site_at (suc place) q.pass) r t ∷ xs) (sym (ap steps_behind_first is))
 
 -- a spot where something waits is at a sync
-pub waits_at : (spot : Spot) (ss : List Statement) → IsSyncSpot spot ss → IsWaiting (next_of (steps_left_at spot ss)) → (r : ℕ) × (t : Term) × (drop spot.place ss ≡ sync r t ∷ drop (suc spot.place) ss)
+pub waits_at : (spot : Spot) (ss : List Statement) → IsSyncSpot spot ss → IsWaiting (next_of (steps_left_at spot ss))
+    → (r : ℕ) × (t : Term) × (drop spot.place ss ≡ sync r t ∷ drop (suc spot.place) ss)
 waits_at spot ss h w = at spot.place spot.round h.round w
   where
     outside : (place : ℕ) (rest : List Statement) → drop place ss ≡ rest → IsAtSync rest → IsWaiting (next_of (flat_from (suc place) 0 rest))

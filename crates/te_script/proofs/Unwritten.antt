@@ -41,5 +41,6 @@ pub first_stand : (t : Thread) (stmts : List Stmt) (spot : Spot) {regs now : Lis
     → Settles regs (steps_behind 0 (map statement_of stmts)) [] raised (steps_left_at spot (map statement_of stmts)) now
     → record { emitted = now; next = next_at raised regs (steps_left_at spot t.statements) } ≡ stand_at (flat t) []
 first_stand t stmts spot {regs = regs} {now = now} {raised = raised} is h settles =
-    let stands = subst (λ (ss : List Statement). stand_at (under (registers_to regs) (steps_behind 0 ss)) [] ≡ record { emitted = now; next = next_at raised regs (steps_left_at spot ss) }) is settles.stands in
+    let stands = subst (λ (ss : List Statement). stand_at (under (registers_to regs) (steps_behind 0 ss)) []
+    ≡ record { emitted = now; next = next_at raised regs (steps_left_at spot ss) }) is settles.stands in
     sym stands ∙ ap (λ (ss : List Step). stand_at ss []) (nothing_written 256 t regs h)

@@ -5,7 +5,9 @@ use Rattle.te_terms.specs.declared.value.Trap.{Trap}
 use Rattle.te_terms.specs.declared.event.Outcome.{Outcome}
 use Rattle.te_terms.specs.declared.event.Outcome.TheVariants.{Gives, Raises}
 use Rattle.te_terms.specs.Values.{trap_value}
-use Rattle.te_terms.specs.Expressions.{Variable, register, name, known, Primitive, int, chan, part, Calculation, one, both, Expression, whole, tuple, in_primitive, in_calculation, in_expression, value_of}
+use Rattle.te_terms.specs.Expressions.{Variable, register, name, known, Primitive, int, chan, part, Calculation, one}
+use Rattle.te_terms.specs.Expressions.{both, Expression, whole, tuple, in_primitive, in_calculation, in_expression}
+use Rattle.te_terms.specs.Expressions.{value_of}
 use Rattle.te_terms.specs.Terms.{Term, always, never, fresh, throw, send, recv, and_then, choose, catch, when, replaced}
 use Rattle.te_script.specs.Scripts.{Thread}
 use Rattle.te_script.specs.declared.wish.Site.{Site}

@@ -14,14 +14,13 @@ use Rattle.te_trail.specs.Stores.{Holds, same_path}
 use Rattle.te_trail.specs.Views.{touches, view_of}
 use Rattle.te_trail.proofs.Lines.{above_trans}
 use Rattle.te_trail.proofs.ClockLaws.{Agrees, agree_by, clock_self, clock_top, made_planted, made_branched, made_met}
-use Rattle.te_terms.proofs.Lists.{eq_same}
+use Rattle.te_terms.proofs.Lists.{eq_same, both}
 use Rattle.te_trail.proofs.PastsChain.{pasts_true, above_own, same_true, same_self}
 use Rattle.te_search.specs.Groups.{IsFinal}
 use Rattle.te_search.specs.Searching.{Fails, wanting, AllFail}
 use Rattle.te_search.proofs.StepsTaken.{Stepping, stepped_quietly, stepped_by_choice, Joining, stepped_by_meeting, steps_quietly, steps_by_choice, steps_by_meeting}
 use Rattle.te_search.proofs.EveryChainCovered.{Full, Covers, covers}
 use Rattle.te_search.proofs.ChainsSplit.{Uncrossed, part_at, part_put, class_of, class_uncrossed, side_of, side_uncrossed, side_labels}
-use Rattle.te_terms.proofs.Lists.{both}
 
 -- ---- a side of the whole list that is tight
 weave : (side s2 : ℕ → Bool) (w : List Label) → Uncrossed side w → Uncrossed s2 (side_labels side w) → Uncrossed (λ k. cond (side k) (s2 k) false) w

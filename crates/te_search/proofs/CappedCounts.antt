@@ -1,5 +1,7 @@
 -- Sums and products of a list's counts that stay at a most.
-use Rattle.std.proofs.Common.{◌≡◌, ◌≤◌, ◌<◌, ◌⊎◌, inl, inr, ℕ, zero, suc, ◌+◌, ◌*◌, ◌^◌, min, List, [], ◌∷◌, ◌++◌, map, take, length, Some, slice_get, refl, ap, ap₂, sym, ◌∙◌, subst, arith, le_trans, le_of_lt, mul_assoc, mul_comm, mul-one, add-zero, add_assoc}
+use Rattle.std.proofs.Common.{◌≡◌, ◌≤◌, ◌<◌, ◌⊎◌, inl, inr, ℕ, zero, suc, ◌+◌, ◌*◌, ◌^◌, min, List, [], ◌∷◌, ◌++◌, map}
+use Rattle.std.proofs.Common.{take, length, Some, slice_get, refl, ap, ap₂, sym, ◌∙◌, subst, arith, le_trans, le_of_lt}
+use Rattle.std.proofs.Common.{mul_assoc, mul_comm, mul-one, add-zero, add_assoc}
 use Rattle.std.proofs.Math.Nat.{min-eq_left, min-eq_right, min-le_left, le-mul_of_pos_right, pow-zero, pow-suc}
 use Rattle.std.proofs.lemmas.Nat.{pow-add}
 use Rattle.std.proofs.lemmas.Bool.{cases_lt}
@@ -90,7 +92,9 @@ as_long : (ps : List Parked) → length (as_group ps) ≡ length ps
 as_long [] = refl
 as_long (p ∷ ps) = ap suc (as_long ps)
 
-pub paths_capped : (ps : List Parked) (m : ℕ) → min (min (length ps) (m + 1) * (3 ^ over_all choice_count (as_group ps) * (min (over_all receive_count (as_group ps)) m + 1) ^ over_all send_count (as_group ps))) (m + 1)
+pub paths_capped : (ps : List Parked) (m : ℕ) → min (min (length ps) (m + 1) *
+    (3 ^ over_all choice_count (as_group ps) * (min (over_all receive_count (as_group ps)) m + 1) ^ over_all send_count
+    (as_group ps))) (m + 1)
     ≡ min (paths_most (as_group ps)) (m + 1)
 paths_capped ps m =
     let c : ℕ = over_all choice_count (as_group ps) in

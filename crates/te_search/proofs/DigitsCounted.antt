@@ -1,5 +1,7 @@
 -- Lists of digits are as many as the product of their bases, and what has such a list of its own is no more.
-use Rattle.std.proofs.Common.{◌≡◌, ◌≢◌, ◌≤◌, ◌<◌, ℕ, zero, suc, ◌+◌, ◌*◌, ◌^◌, List, [], ◌∷◌, ◌++◌, length, replicate, Bool, true, false, ◌||◌, eqb, refl, ap, ap₂, sym, ◌∙◌, subst, arith, true≢false, eqb-true, mul_assoc, one-mul}
+use Rattle.std.proofs.Common.{◌≡◌, ◌≢◌, ◌≤◌, ◌<◌, ℕ, zero, suc, ◌+◌, ◌*◌, ◌^◌, List, [], ◌∷◌, ◌++◌, length, replicate}
+use Rattle.std.proofs.Common.{Bool, true, false, ◌||◌, eqb, refl, ap, ap₂, sym, ◌∙◌, subst, arith, true≢false, eqb-true}
+use Rattle.std.proofs.Common.{mul_assoc, one-mul}
 use Rattle.std.specs.List.{AllByRecursion, IsDistinct, list_any}
 use Rattle.std.proofs.Math.Nat.{pow-succ', pow-zero}
 use Rattle.std.proofs.lemmas.Nat.{mul-add-lt, same_from_place}
@@ -135,7 +137,8 @@ abbrev pub NoneAlike : {A : Type 0} → List A → Type 0
 NoneAlike [] = Unit {0}
 NoneAlike (x ∷ xs) = AllByRecursion (λ y. x ≢ y) xs × NoneAlike xs
 
-distinct : {A : Type 0} (Is : A → ℕ → Type 0) (n : ℕ) (tells : (x y : A) (k : ℕ) → Is x k → Is y k → x ≡ y) (xs : List A) (h : AreNumbered Is n xs) → NoneAlike xs → IsDistinct eqb (numbers Is n tells xs h)
+distinct : {A : Type 0} (Is : A → ℕ → Type 0) (n : ℕ) (tells : (x y : A) (k : ℕ) → Is x k → Is y k → x ≡ y)
+    (xs : List A) (h : AreNumbered Is n xs) → NoneAlike xs → IsDistinct eqb (numbers Is n tells xs h)
 unfolding numbers IsDistinct
 distinct Is n tells [] h a = tt
 distinct Is n tells (x ∷ xs) h a = (other Is n tells x h.0.0 h.0.2 xs h.1 a.0, distinct Is n tells xs h.1 a.1)

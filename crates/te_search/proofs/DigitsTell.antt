@@ -1,5 +1,7 @@
 -- The letters of the choices, and for each send the receiver and how much it had received, tell where all threads stand.
-use Rattle.std.proofs.Common.{◌≡◌, ◌⊎◌, ◌≤◌, ◌<◌, inl, inr, ℕ, zero, suc, ◌+◌, List, [], ◌∷◌, ◌++◌, length, Bool, true, false, Option, Some, None, refl, ap, sym, ◌∙◌, subst, arith, nat_eq, eqb-true, append_assoc, append-nil}
+use Rattle.std.proofs.Common.{◌≡◌, ◌⊎◌, ◌≤◌, ◌<◌, inl, inr, ℕ, zero, suc, ◌+◌, List, [], ◌∷◌, ◌++◌, length, Bool, true}
+use Rattle.std.proofs.Common.{false, Option, Some, None, refl, ap, sym, ◌∙◌, subst, arith, nat_eq, eqb-true}
+use Rattle.std.proofs.Common.{append_assoc, append-nil}
 use Rattle.std.specs.Option.{option_map}
 use Rattle.te_terms.specs.Steps.{Member, at_term}
 use Rattle.te_terms.specs.Joint.{after_choice, receiving}
@@ -11,10 +13,9 @@ use Rattle.te_trail.specs.States.{chosen, members_met, MovedEnds, path_state, Ha
 use Rattle.te_trail.proofs.Lines.{above_self, above_trans, above_both, above_line, rests_move, above_rests}
 use Rattle.te_trail.proofs.ClockLaws.{clock_self, clock_top, Agrees, made_planted}
 use Rattle.te_trail.proofs.MembersMove.{Handing, handing}
-use Rattle.te_terms.proofs.Lists.{some_map}
+use Rattle.te_terms.proofs.Lists.{some_map, never_both}
 use Rattle.te_trail.proofs.PastsChain.{then_some, parts_of, fits_past}
 use Rattle.te_pair.proofs.EndsTold.{one_state}
-use Rattle.te_terms.proofs.Lists.{never_both}
 
 -- ---- the digits
 
@@ -300,7 +301,11 @@ module _ (g : List Member) (c d : Standing g) (like : AreAlike g c d) where
           let kq : Receives g q = (sends_at g d (thread_of s) s q (rests (sent s q) h)).1 in
           let uq : IsAbove q (d.path (thread_of r)) = subst (λ k. IsAbove q (d.path k)) tq
           (top g d (thread_of s) q (above_rests (sent s q) (d.path (thread_of s)) (move_of q) h (inr (inr (rests_move q))))) in
-          let one : q ≡ r = elim (above_line q r (d.path (thread_of r)) uq lr) [ inl a ↦ one_receive (thread_of r) q r kq lr a nq | inr a ↦ sym (one_receive (thread_of r) r q here.1 uq a (sym nq)) ] in
+          let one : q ≡ r = elim (above_line q r (d.path (thread_of r)) uq lr) [
+            | inl a ↦ one_receive (thread_of r) q r kq lr a nq
+            | inr a ↦
+                sym (one_receive (thread_of r) r q here.1 uq a (sym nq))
+          ] in
           subst (λ z. IsAbove (sent s z) (d.path (thread_of s))) one h
 
   -- so all of one is in the other

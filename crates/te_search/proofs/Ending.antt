@@ -17,7 +17,7 @@ use Rattle.te_trail.specs.Paths.{Path, planted, branched, sent, got}
 use Rattle.te_trail.specs.Stores.{Holds, IsStore, labels_of_move}
 use Rattle.te_trail.specs.Trails.{IsAtChoice, IsPathThread}
 use Rattle.te_trail.specs.States.{chosen, MovedEnds, members_met, path_state}
-use Rattle.te_terms.proofs.Lists.{some_map}
+use Rattle.te_terms.proofs.Lists.{some_map, all_with, get_low, get-longer, all_both, at_last}
 use Rattle.te_trail.proofs.MembersMove.{Handing, handing}
 use Rattle.te_search.specs.declared.work.Work.{Work}
 use Rattle.te_search.specs.declared.finals.Final.{Final}
@@ -31,11 +31,8 @@ use Rattle.te_search.specs.Works.{Gains, IsPassed, IsSpentAt, WaitsOn}
 use Rattle.te_search.proofs.ListLaws.{once_both, holds_left, holds_right, holds_which, holds_one, once_by_places}
 use Rattle.te_trail.proofs.StoresHold.{held}
 use Rattle.te_search.proofs.WorkDone.{IsStep, step_done, final_cannot_choose}
-use Rattle.te_terms.proofs.Lists.{all_with}
 use Rattle.te_search.proofs.Trying.{path_there}
-use Rattle.te_terms.proofs.Lists.{get_low}
 use Rattle.te_search.proofs.Working.{map_both, low_both, work_gained}
-use Rattle.te_terms.proofs.Lists.{get-longer}
 use Rattle.te_terms.specs.declared.event.Outcome.{Outcome}
 use Rattle.te_terms.specs.Terms.{never}
 use Rattle.te_terms.specs.Steps.{head}
@@ -54,8 +51,6 @@ use Rattle.te_search.specs.Works.{IsHit, StepEndsSo, threads_of}
 use Rattle.te_trail.proofs.CallsLeave.{moves_held}
 use Rattle.te_search.proofs.WorkDone.{parent_made, final_cannot_meet, final_is_last}
 use Rattle.te_search.proofs.PartialLaws.{tries_zero, tries_less, tried_more}
-use Rattle.te_terms.proofs.Lists.{all_both}
-use Rattle.te_terms.proofs.Lists.{at_last}
 
 -- ---- a store is closed
 

@@ -7,14 +7,13 @@ use Rattle.te_terms.specs.Joint.{member_of}
 use Rattle.te_trail.specs.Paths.{Path, planted, branched, sent, got}
 use Rattle.te_trail.specs.States.{chosen, MovedEnds, members_met, path_state, HasState}
 use Rattle.te_trail.specs.Stores.{Holds, IsStore}
-use Rattle.te_terms.proofs.Lists.{some_map}
+use Rattle.te_terms.proofs.Lists.{some_map, all_with}
 use Rattle.te_trail.proofs.PastsChain.{then_some, parts_of}
 use Rattle.te_pair.specs.declared.end.End.{End}
 use Rattle.te_search.specs.Groups.{IsFinal, Partial, IsPartial}
 use Rattle.te_search.specs.Searching.{MayMeet, IsSearch}
 use Rattle.te_search.specs.Works.{EndsStand, WaitsOn, IsCounted}
 use Rattle.te_search.specs.Stacks.{EventsAreAmong}
-use Rattle.te_terms.proofs.Lists.{all_with}
 use Rattle.te_search.proofs.Ending.{fails_fewer}
 
 -- a path that stands at a member stands there still

@@ -13,10 +13,9 @@ use Rattle.te_trail.specs.States.{chosen, MovedEnds, members_met, path_state}
 use Rattle.te_trail.specs.Views.{view_of}
 use Rattle.te_trail.proofs.Lines.{above_self}
 use Rattle.te_trail.proofs.ClockLaws.{eq_apart, deeper_either, Agrees, agree_by}
-use Rattle.te_terms.proofs.Lists.{eq_same}
+use Rattle.te_terms.proofs.Lists.{eq_same, some_map}
 use Rattle.te_trail.proofs.MembersMove.{found_new, found_other, view_append, Handing, handing}
 use Rattle.te_trail.proofs.MovesChain.{view_choice, view_choice_other, view_sender, view_receiver, view_other, state_after}
-use Rattle.te_terms.proofs.Lists.{some_map}
 use Rattle.te_trail.proofs.AgreeIsExact.{agree_flip}
 use Rattle.te_search.proofs.StepsTaken.{Stepping, stepped_quietly, stepped_by_choice, Joining, stepped_by_meeting}
 
@@ -110,7 +109,8 @@ agree_planted s t ne = record {
 pub record Full (g : List Member) (made : Path → Type 0) : Type 0 where
   pub plants : (t : ℕ) (e : Member) → member_of t g ≡ Some e → made (planted t)
   pub branches : (p : Path) (l : Bool) (e u : Member) → made p → path_state g p ≡ Some e → chosen l e ≡ Some u → made (branched p l)
-  pub joins : (p q : Path) (a b : Member) (r : MovedEnds) → made p → made q → Agrees p q → path_state g p ≡ Some a → path_state g q ≡ Some b → members_met a b ≡ Some r → made (sent p q) × made (got p q)
+  pub joins : (p q : Path) (a b : Member) (r : MovedEnds) → made p → made q → Agrees p q → path_state g p ≡ Some a
+      → path_state g q ≡ Some b → members_met a b ≡ Some r → made (sent p q) × made (got p q)
 
 -- one made path for each member, where a after with the labels w has come to h
 pub record Covers (g : List Member) (made : Path → Type 0) (h : List Member) (w : List Label) : Type 0 where

@@ -6,7 +6,7 @@ use Rattle.te_terms.specs.Steps.{Member}
 use Rattle.te_trail.specs.Paths.{Path, thread_of}
 use Rattle.te_trail.specs.Stores.{Holds}
 use Rattle.te_search.specs.declared.finals.Final.{Final}
-use Rattle.te_search.specs.Finals.{numbers_of, is_in, numbers_in, TellThreads}
+use Rattle.te_search.specs.Finals.{numbers_of, is_in, bucket_numbers, TellThreads}
 use Rattle.te_search.specs.Searching.{paths_by, NoPathTwice}
 use Rattle.te_trail.specs.Records.{path_at}
 use Rattle.te_search.specs.Assemblies.{AssemblyStand}
@@ -76,7 +76,7 @@ kept_once paths take_it (f ∷ finals) h = go (take_it f) (kept_once paths take_
 
 -- assembly stands on a bucket as it does on all final paths
 pub stand_in : (g : List Member) (paths : List Path) (threads : List ℕ) (finals : List Final) (bucket : ℕ) (there : List ℕ) → AssemblyStand g paths threads (numbers_of finals)
-    → there ≡ numbers_in bucket finals → AssemblyStand g paths threads there
+    → there ≡ bucket_numbers bucket finals → AssemblyStand g paths threads there
 stand_in g paths threads finals bucket there s is = subst (AssemblyStand g paths threads) (sym is) (record {
   store = s.store;
   ups = s.ups;
@@ -111,11 +111,11 @@ in_filter take_it (g ∷ finals) (suc i) f e w = go (take_it g) (in_filter take_
 abbrev pub HasAllOf : List Path → List ℕ → List ℕ → ℕ → Type 0
 HasAllOf paths finals there t = (i n : ℕ) (x : Path) → slice_get finals i ≡ Some n → slice_get paths n ≡ Some x → thread_of x ≡ t → (j : ℕ) × (slice_get there j ≡ Some n)
 
-pub bucket_has : (paths : List Path) (finals : List Final) (t : ℕ) (there : List ℕ) → TellThreads paths finals → there ≡ numbers_in (min t 64) finals
+pub bucket_has : (paths : List Path) (finals : List Final) (t : ℕ) (there : List ℕ) → TellThreads paths finals → there ≡ bucket_numbers (min t 64) finals
     → HasAllOf paths (numbers_of finals) there t
 bucket_has paths finals t there told is i n x en ex tx =
     let f : (f : Final) × (slice_get finals i ≡ Some f) × (f.path ≡ n) = final_at finals i n en in
     let th : f.0.thread ≡ t = sym (told i f.0 x f.1 (ap (slice_get paths) f.2 ∙ ex)) ∙ tx in
     let w : is_in (min t 64) f.0 ≡ true = eq-eqb (min f.0.thread 64) (min t 64) (ap (λ k. min k 64) th) in
-    let j : (j : ℕ) × (slice_get (numbers_in (min t 64) finals) j ≡ Some f.0.path) = in_filter (is_in (min t 64)) finals i f.0 f.1 w in
+    let j : (j : ℕ) × (slice_get (bucket_numbers (min t 64) finals) j ≡ Some f.0.path) = in_filter (is_in (min t 64)) finals i f.0 f.1 w in
     (j.0, ap (λ l. slice_get l j.0) is ∙ j.1 ∙ ap Some f.2)

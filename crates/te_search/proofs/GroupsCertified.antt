@@ -29,8 +29,7 @@ use Rattle.te_search.proofs.ChainsSplit.{Uncrossed, part_at}
 use Rattle.te_search.proofs.JoinedPasts.{joint_past}
 use Rattle.te_search.proofs.GroupsSound.{taken, GroupOf, sound}
 use Rattle.te_search.proofs.Trying.{state_member}
-use Rattle.te_terms.proofs.Lists.{get_low}
-use Rattle.te_terms.proofs.Lists.{get_some}
+use Rattle.te_terms.proofs.Lists.{get_low, get_some}
 use Rattle.te_search.proofs.PicksOfHits.{past_touched, picked_touched, taken_touched, touched_path, reach_holds}
 use Rattle.te_search.proofs.MembersPicked.{events_by, group_by, choices_by, threads_by, rise_by, group_part, placed_by, part_same, part_side, member_number, number_member}
 

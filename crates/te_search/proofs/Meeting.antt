@@ -1,6 +1,7 @@
 -- A path in hand meets the kept ends that are its partners, one after the other.
 use Rattle.std.proofs.Common.{◌≡◌, ◌≤◌, ◌<◌, inl, inr, ℕ, zero, suc, ◌+◌, List, [], ◌∷◌, ◌++◌, length, map, Bool, true}
-use Rattle.std.proofs.Common.{false, not, cond, nat_eq, Option, Some, MatchBool, slice_get, get_or, refl, ap, sym, ◌∙◌, subst, arith, append_assoc, append-nil, length-append, eq-or-lt_of_le, eq-eqb, true≢false}
+use Rattle.std.proofs.Common.{false, not, cond, nat_eq, Option, Some, MatchBool, slice_get, get_or, refl, ap, sym, ◌∙◌}
+use Rattle.std.proofs.Common.{subst, arith, append_assoc, append-nil, length-append, eq-or-lt_of_le, eq-eqb, true≢false}
 use Rattle.std.specs.List.{filter, IsDistinct, AllByRecursion}
 use Rattle.std.proofs.lemmas.Map.Keys.{IsDistinct-head, IsDistinct-tail}
 use Rattle.te_terms.specs.Steps.{Member}
@@ -21,11 +22,9 @@ use Rattle.te_search.specs.Works.{label_told, pending_of, IsWorkOf, IsWorkOn, Ca
 use Rattle.te_search.proofs.ListLaws.{holds_left, holds_right, holds_which}
 use Rattle.te_trail.proofs.StoresHold.{held}
 use Rattle.te_search.proofs.Trying.{path_there}
-use Rattle.te_terms.proofs.Lists.{get_some}
+use Rattle.te_terms.proofs.Lists.{get_some, found_here, get-longer}
 use Rattle.te_search.proofs.Trying as trying
-use Rattle.te_terms.proofs.Lists.{found_here}
 use Rattle.te_search.proofs.Working.{gains_both, ups_more}
-use Rattle.te_terms.proofs.Lists.{get-longer}
 
 -- ---- the kept paths of a direction and channel
 

@@ -1,5 +1,7 @@
 -- A list of parked events has at most as many path names as its nodes allow, and as many group names.
-use Rattle.std.proofs.Common.{◌≡◌, ◌≢◌, ◌⊎◌, ◌≤◌, ◌<◌, inl, inr, ℕ, zero, suc, ◌+◌, ◌*◌, ◌^◌, List, [], ◌∷◌, ◌++◌, map, length, replicate, Bool, true, false, cond, Option, Some, None, refl, ap, ap₂, sym, ◌∙◌, subst, arith, nat_eq}
+use Rattle.std.proofs.Common.{◌≡◌, ◌≢◌, ◌⊎◌, ◌≤◌, ◌<◌, inl, inr, ℕ, zero, suc, ◌+◌, ◌*◌, ◌^◌, List, [], ◌∷◌, ◌++◌, map}
+use Rattle.std.proofs.Common.{length, replicate, Bool, true, false, cond, Option, Some, None, refl, ap, ap₂, sym, ◌∙◌}
+use Rattle.std.proofs.Common.{subst, arith, nat_eq}
 use Rattle.std.specs.List.{AllByRecursion}
 use Rattle.std.proofs.lemmas.Nat.{pow-add}
 use Rattle.te_terms.specs.Terms.{Term}
@@ -16,7 +18,9 @@ use Rattle.te_search.proofs.EveryChainCovered.{Full, Covers, covers}
 use Rattle.te_search.proofs.Trying.{state_member}
 use Rattle.te_search.proofs.NodesRunOut.{moves_fit}
 use Rattle.te_search.proofs.DigitsTell.{letters, Target, targets, Standing, AreAlike, digits_tell}
-use Rattle.te_search.proofs.DigitsCounted.{product, Fit, number, number_low, number_tells, fit_both, fit_length, product_both, product_alike, both_same, padded, padded_fits, padded_tells, AreNumbered, NoneAlike, counted}
+use Rattle.te_search.proofs.DigitsCounted.{product, Fit, number, number_low, number_tells, fit_both, fit_length}
+use Rattle.te_search.proofs.DigitsCounted.{product_both, product_alike, both_same, padded, padded_fits, padded_tells}
+use Rattle.te_search.proofs.DigitsCounted.{AreNumbered, NoneAlike, counted}
 use Rattle.te_search.proofs.NamesCounted.{all_found, all_at, place_in, place_low, place_tells, IsTarget, target_code, target_low, target_tells, letters_weigh, targets_weigh, are_targets}
 use Rattle.te_terms.proofs.Lists.{all_with}
 
@@ -134,7 +138,8 @@ letters_fit g rise c = all_with (λ m. StaysShort g (c.path m.thread) m) (λ m. 
 targets_fit : (g : List Member) → IsGroup g → (c : Standing g) → AllByRecursion (λ m. Fit (target_bases g m) (target_digits g c.path m)) g
 targets_fit g rise c = all_with (λ m. StaysShort g (c.path m.thread) m) (λ m. Fit (target_bases g m) (target_digits g c.path m)) g
     (λ m short. padded_fits (target_code g) (over_all receive_count g) (send_count m.term) (targets (c.path m.thread))
-    (all_with (IsTarget g) (λ x. target_code g x < over_all receive_count g) (targets (c.path m.thread)) (λ x is. target_low g x is.member is.is_member is.early) short.targets_are)) (all_short g rise c)
+    (all_with (IsTarget g) (λ x. target_code g x < over_all receive_count g) (targets (c.path m.thread))
+    (λ x is. target_low g x is.member is.is_member is.early) short.targets_are)) (all_short g rise c)
 
 digits_fit : (g : List Member) → IsGroup g → (c : Standing g) (t : ℕ) (m : Member) → member_of t g ≡ Some m → Fit (bases g) (digits g t c.path)
 digits_fit g rise c t m at = (

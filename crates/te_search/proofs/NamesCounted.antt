@@ -1,5 +1,7 @@
 -- A list of parked events has at most as many names as its nodes allow.
-use Rattle.std.proofs.Common.{◌≡◌, ◌≢◌, ◌⊎◌, ◌≤◌, ◌<◌, inl, inr, ℕ, zero, suc, ◌+◌, ◌*◌, ◌^◌, List, [], ◌∷◌, ◌++◌, map, length, replicate, Bool, true, false, cond, Option, Some, None, refl, ap, ap₂, sym, ◌∙◌, subst, arith, nat_eq, eqb-true, true≢false, length-append, append-nil}
+use Rattle.std.proofs.Common.{◌≡◌, ◌≢◌, ◌⊎◌, ◌≤◌, ◌<◌, inl, inr, ℕ, zero, suc, ◌+◌, ◌*◌, ◌^◌, List, [], ◌∷◌, ◌++◌, map}
+use Rattle.std.proofs.Common.{length, replicate, Bool, true, false, cond, Option, Some, None, refl, ap, ap₂, sym, ◌∙◌}
+use Rattle.std.proofs.Common.{subst, arith, nat_eq, eqb-true, true≢false, length-append, append-nil}
 use Rattle.std.specs.List.{AllByRecursion}
 use Rattle.std.specs.Option.{option_map}
 use Rattle.std.proofs.lemmas.Nat.{pow-add}
@@ -12,7 +14,7 @@ use Rattle.te_terms.specs.Settling.{settled}
 use Rattle.te_trail.specs.Paths.{Path, planted, branched, sent, got, thread_of, own_labels}
 use Rattle.te_trail.specs.States.{chosen, MovedEnds, members_met, path_state, HasState}
 use Rattle.te_trail.specs.Views.{Chain, view_of, Name, path_name_of, IsPathName, IsGroupName}
-use Rattle.te_terms.proofs.Lists.{eq_same}
+use Rattle.te_terms.proofs.Lists.{eq_same, all_with, all_both}
 use Rattle.te_trail.proofs.MembersMove.{found_thread}
 use Rattle.te_trail.proofs.MovesChain.{state_after}
 use Rattle.te_trail.proofs.PastsChain.{then_some, parts_of}
@@ -21,9 +23,9 @@ use Rattle.te_search.proofs.EveryChainCovered.{Full, Covers, covers}
 use Rattle.te_search.proofs.Trying.{state_member}
 use Rattle.te_search.proofs.NodesRunOut.{moves_weigh, moves_fit}
 use Rattle.te_search.proofs.DigitsTell.{letters, receives, Target, target_of, targets, Standing, AreAlike, digits_tell}
-use Rattle.te_search.proofs.DigitsCounted.{product, Fit, number, number_low, number_tells, fit_both, fit_length, product_both, product_alike, both_same, padded, padded_fits, padded_tells, AreNumbered, NoneAlike, counted}
-use Rattle.te_terms.proofs.Lists.{all_with}
-use Rattle.te_terms.proofs.Lists.{all_both}
+use Rattle.te_search.proofs.DigitsCounted.{product, Fit, number, number_low, number_tells, fit_both, fit_length}
+use Rattle.te_search.proofs.DigitsCounted.{product_both, product_alike, both_same, padded, padded_fits, padded_tells}
+use Rattle.te_search.proofs.DigitsCounted.{AreNumbered, NoneAlike, counted}
 
 -- ---- members
 
@@ -82,7 +84,9 @@ unfolding place_in
 place_tells [] s t m n e f p = absurd cc
 place_tells (x ∷ g) s t m n e f p = go (place_tells g s t m n) (nat_eq x.thread s) refl (nat_eq x.thread t) refl e f p
   where
-    go : (member_of s g ≡ Some m → member_of t g ≡ Some n → place_in g s ≡ place_in g t → s ≡ t) → (o : Bool) → nat_eq x.thread s ≡ o → (v : Bool) → nat_eq x.thread t ≡ v → cond o (Some x) (member_of s g) ≡ Some m → cond v (Some x) (member_of t g) ≡ Some n
+    go : (member_of s g ≡ Some m → member_of t g ≡ Some n → place_in g s ≡ place_in g t → s ≡ t) → (o : Bool)
+        → nat_eq x.thread s ≡ o → (v : Bool) → nat_eq x.thread t ≡ v → cond o (Some x) (member_of s g) ≡ Some m
+        → cond v (Some x) (member_of t g) ≡ Some n
         → cond o 0 (suc (place_in g s)) ≡ cond v 0 (suc (place_in g t)) → s ≡ t
     go ih true w true u e f p = sym (eqb-true x.thread s w) ∙ eqb-true x.thread t u
     go ih true w false u e f p = absurd (omega (arith, p))
@@ -106,7 +110,9 @@ unfolding target_code
 target_low [] x m e h = absurd cc
 target_low (y ∷ g) x m e h = go (λ f. target_low g x m f h) (nat_eq y.thread x.thread) e
   where
-    go : (member_of x.thread g ≡ Some m → target_code g x < over_all receive_count g) → (o : Bool) → cond o (Some y) (member_of x.thread g) ≡ Some m → cond o x.before (receive_count y.term + target_code g x) < receive_count y.term + over_all receive_count g
+    go : (member_of x.thread g ≡ Some m → target_code g x < over_all receive_count g) → (o : Bool)
+        → cond o (Some y) (member_of x.thread g) ≡ Some m → cond o x.before
+        (receive_count y.term + target_code g x) < receive_count y.term + over_all receive_count g
     go ih true f = let same : y ≡ m = cc in let more : x.before < receive_count y.term = subst (λ z. x.before < receive_count z.term) (sym same) h in omega (arith, more)
     go ih false f = omega (arith, ih f)
 
@@ -116,7 +122,9 @@ unfolding target_code
 target_tells [] x y m n e h f k p = absurd cc
 target_tells (z ∷ g) x y m n e h f k p = go (λ e f q. target_tells g x y m n e h f k q) (nat_eq z.thread x.thread) refl (nat_eq z.thread y.thread) refl e f p
   where
-    go : (member_of x.thread g ≡ Some m → member_of y.thread g ≡ Some n → target_code g x ≡ target_code g y → x ≡ y) → (o : Bool) → nat_eq z.thread x.thread ≡ o → (v : Bool) → nat_eq z.thread y.thread ≡ v → cond o (Some z) (member_of x.thread g) ≡ Some m → cond v (Some z) (member_of y.thread g) ≡ Some n
+    go : (member_of x.thread g ≡ Some m → member_of y.thread g ≡ Some n → target_code g x ≡ target_code g y → x ≡ y)
+        → (o : Bool) → nat_eq z.thread x.thread ≡ o → (v : Bool) → nat_eq z.thread y.thread ≡ v
+        → cond o (Some z) (member_of x.thread g) ≡ Some m → cond v (Some z) (member_of y.thread g) ≡ Some n
         → cond o x.before (receive_count z.term + target_code g x) ≡ cond v y.before (receive_count z.term + target_code g y) → x ≡ y
     go ih true w true u e f p = ap₂ (λ a b. record { thread = a; before = b }) (sym (eqb-true z.thread x.thread w) ∙ eqb-true z.thread y.thread u) p
     go ih true w false u e f p = let same : z ≡ m = cc in let more : x.before < receive_count z.term = subst (λ i. x.before < receive_count i.term) (sym same) h in absurd (omega (arith, more, p))
@@ -143,7 +151,8 @@ receives_weigh (branched p l) = omega (arith, receives_weigh p)
 receives_weigh (sent s r) = omega (arith, receives_weigh s)
 receives_weigh (got s r) = omega (arith, receives_weigh r)
 
-received : (g : List Member) (s r : Path) → ((a : Member) × (b : Member) × (p : MovedEnds) × (path_state g s ≡ Some a) × (path_state g r ≡ Some b) × (members_met a b ≡ Some p)) → IsTarget g (target_of r)
+received : (g : List Member) (s r : Path) → ((a : Member) × (b : Member) × (p : MovedEnds) × (path_state g s ≡ Some a)
+    × (path_state g r ≡ Some b) × (members_met a b ≡ Some p)) → IsTarget g (target_of r)
 received g s r (a, b, p, sa, sb, m) =
     let e : (n : Member) × (member_of (thread_of r) g ≡ Some n) = state_member g r (b, sb) in
     let fit = moves_fit 0 0 1 g (got s r) e.0 (settled p.receiver) e.1 (state_after g s r a b p sa sb m).1 in

@@ -87,7 +87,10 @@ moves_weigh c s r (got a b) = moves_weigh c s r b + r
 ends_as : (f : MovedEnds → Member) (g : List Member) (a b : Path) (x y : Member) (p : MovedEnds) (n : Member) → path_state g a ≡ Some x → path_state g b ≡ Some y → members_met x y ≡ Some p
     → option_and_then (λ i. option_and_then (λ j. option_map f (members_met i j)) (path_state g b)) (path_state g a) ≡ Some n → f p ≡ n
 ends_as f g a b x y p n ea eb m e =
-    let is : Some (f p) ≡ Some n = subst (λ z. option_map f z ≡ Some n) m (subst (λ z. option_and_then (λ j. option_map f (members_met x j)) z ≡ Some n) eb (subst (λ z. option_and_then (λ i. option_and_then (λ j. option_map f (members_met i j)) (path_state g b)) z ≡ Some n) ea e)) in
+    let is : Some (f p) ≡ Some n = subst (λ z. option_map f z ≡ Some n) m
+    (subst (λ z. option_and_then (λ j. option_map f (members_met x j)) z ≡ Some n) eb
+    (subst (λ z. option_and_then (λ i. option_and_then (λ j. option_map f (members_met i j)) (path_state g b)) z
+    ≡ Some n) ea e)) in
     cc
 
 -- and the nodes that are left count at most what the event has

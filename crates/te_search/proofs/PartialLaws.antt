@@ -13,8 +13,7 @@ use Rattle.te_search.specs.Assemblies.{IsMore, Tries, IsThrough, TriesBy}
 use Rattle.te_search.proofs.ListLaws.{one_place}
 use Rattle.te_trail.proofs.StoresHold.{held}
 use Rattle.te_search.proofs.WorkDone.{final_is_last}
-use Rattle.te_terms.proofs.Lists.{all_with}
-use Rattle.te_terms.proofs.Lists.{all_both}
+use Rattle.te_terms.proofs.Lists.{all_with, all_both}
 
 pub all_across : (P Q : Partial → Type 0) (xs ys : List Partial) → ((x y : Partial) → P x → Q y → ¬ AreOne x y) → AllByRecursion P xs → AllByRecursion Q ys
     → AllByRecursion (λ x. AllByRecursion (λ y. ¬ AreOne x y) ys) xs

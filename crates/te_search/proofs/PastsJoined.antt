@@ -35,7 +35,7 @@ use Rattle.te_search.specs.Plantings.{has_number}
 use Rattle.te_search.specs.Picks.{Picks, touched, members_by, EndsAt, EndSo, thread_of_member, AreMembers, AreGathered, IsJointTrail, AreMeetingsOf, AreMeets, NumbersRise, TellsNamed}
 use Rattle.te_search.proofs.Working.{map_both}
 use Rattle.te_search.proofs.Trying.{above_number}
-use Rattle.te_terms.proofs.Lists.{get_at}
+use Rattle.te_terms.proofs.Lists.{get_at, bool_is}
 use Rattle.te_search.proofs.JoinedPasts.{joint_in}
 use Rattle.te_search.proofs.GroupsClosed.{past_named}
 use Rattle.te_search.proofs.EventsAdded.{state_more}
@@ -43,7 +43,6 @@ use Rattle.te_search.proofs.PicksOfHits.{hit_picks, picks_more}
 use Rattle.te_search.proofs.MembersPicked.{threads_by, group_part, number_in}
 use Rattle.te_search.proofs.NumbersListed.{take_one, group_numbers}
 use Rattle.te_search.proofs.GroupsCertified.{certified, meetings_in, touched_named}
-use Rattle.te_terms.proofs.Lists.{bool_is}
 use Rattle.te_trail.proofs.PastsTold.{labels_append}
 
 -- ---- moves of the past

@@ -14,10 +14,8 @@ use Rattle.te_search.proofs.JoinedPasts.{crew_named, joint_past}
 use Rattle.te_search.proofs.GroupsSound.{taken, taken_true, true_taken}
 use Rattle.te_search.proofs.GroupsClosed.{HoldsThread, Closed, close, past_named}
 use Rattle.te_search.proofs.Trying.{stands_top, joined_threads}
-use Rattle.te_terms.proofs.Lists.{get_low}
-use Rattle.te_terms.proofs.Lists.{get_some}
+use Rattle.te_terms.proofs.Lists.{get_low, get_some, bool_is}
 use Rattle.te_search.proofs.EventsAdded.{final_more, state_more, store_more}
-use Rattle.te_terms.proofs.Lists.{bool_is}
 
 holds_number : (threads : List ℕ) (i t : ℕ) → slice_get threads i ≡ Some t → HoldsThread threads t
 holds_number [] i t e = cc

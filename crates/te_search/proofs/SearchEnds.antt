@@ -118,7 +118,9 @@ passed_more g h budget among p = record {
   beyond = p.beyond;
 }
 
-pub used_up : (parked : List Parked) (w : Work) (budget : ℕ) → IsGroup (as_group parked) → EventsAreAmong w.store.events (as_group parked) → IsSpentAt w w.store.events budget → IsUsedUp parked budget (length w.store.paths) w.groups
+pub used_up : (parked : List Parked) (w : Work) (budget : ℕ) → IsGroup (as_group parked)
+    → EventsAreAmong w.store.events (as_group parked) → IsSpentAt w w.store.events budget
+    → IsUsedUp parked budget (length w.store.paths) w.groups
 used_up parked w budget rise among s = subst (IsUsedUp parked budget (length w.store.paths)) c.count_is
     (used_by parked budget w.store.paths c.tried rise (store_more w.store.events (as_group parked) w.store.paths among s.store) c.are
     (subst (λ n. IsNear (length w.store.paths + n) budget) (sym c.count_is) s.sum) (passed_more w.store.events (as_group parked) budget among s.passed))

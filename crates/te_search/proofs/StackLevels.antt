@@ -7,16 +7,13 @@ use Rattle.te_trail.specs.declared.moves.Move.{Move}
 use Rattle.te_trail.specs.Paths.{Path}
 use Rattle.te_trail.specs.Trails.{Mark, back_at}
 use Rattle.te_trail.proofs.RecordsRead.{take_low, take_all}
-use Rattle.te_terms.proofs.Lists.{get_taken}
+use Rattle.te_terms.proofs.Lists.{get_taken, get_low, take_more, at_or_last}
 use Rattle.te_pair.specs.declared.end.End.{End}
 use Rattle.te_search.specs.declared.finals.Final.{Final}
 use Rattle.te_search.specs.declared.stack.Level.{Level}
 use Rattle.te_search.specs.declared.stack.Stack.{Stack}
 use Rattle.te_search.specs.Works.{threads_of}
 use Rattle.te_search.specs.Stacks.{Lists, lists_of, SearchIsWhole, Extent, extent_of, back_to, IsBefore, extent_at, IsLevel, AreLevels, EventsAreAmong, HasLevels, IsStack}
-use Rattle.te_terms.proofs.Lists.{get_low}
-use Rattle.te_terms.proofs.Lists.{take_more}
-use Rattle.te_terms.proofs.Lists.{at_or_last}
 
 -- ---- parts of lists
 

@@ -11,14 +11,12 @@ use Rattle.te_trail.specs.Clocks.{Agree, IsSound}
 use Rattle.te_trail.specs.States.{chosen, MovedEnds, members_met, path_state, HasState}
 use Rattle.te_trail.specs.Stores.{Holds, IsNext, with_move, with_moves, AreMade, IsStore}
 use Rattle.te_trail.specs.Trails.{FaceEachOther}
-use Rattle.te_terms.proofs.Lists.{eq_same}
+use Rattle.te_terms.proofs.Lists.{eq_same, at_or_last, get-longer}
 use Rattle.te_trail.proofs.MovesChain.{state_after}
 use Rattle.te_trail.proofs.PastsChain.{grown_has}
 use Rattle.te_search.proofs.ListLaws.{holds_which, holds_one}
 use Rattle.te_trail.proofs.StoresHold.{held}
 use Rattle.te_trail.proofs.CallsLeave.{moves_held}
-use Rattle.te_terms.proofs.Lists.{at_or_last}
-use Rattle.te_terms.proofs.Lists.{get-longer}
 use Rattle.te_search.proofs.Ending.{sent_made}
 
 -- ---- one path more, and two

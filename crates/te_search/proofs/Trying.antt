@@ -14,7 +14,7 @@ use Rattle.te_trail.specs.Stores.{Holds, any_rests_on}
 use Rattle.te_trail.specs.Trails.{IsClock, TellsWhether, IsPathThread}
 use Rattle.te_trail.proofs.Lines.{above_depth, above_same, rests_move}
 use Rattle.te_trail.proofs.ClockLaws.{clock_in, clock_thread, clock_top, agree_by}
-use Rattle.te_terms.proofs.Lists.{some_map}
+use Rattle.te_terms.proofs.Lists.{some_map, get_some, if_ok, get_at, at_or_last, get_low}
 use Rattle.te_trail.proofs.PastsChain.{pasts_true, then_some, parts_of}
 use Rattle.te_search.specs.Groups.{IsFinal}
 use Rattle.te_search.specs.Searching.{paths_by, AreUp, Fails}
@@ -27,12 +27,7 @@ use Rattle.te_trail.proofs.StoresHold.{held}
 use Rattle.te_search.proofs.WorkDone.{final_is_last}
 use Rattle.te_search.proofs.JoinedPasts.{joint_in, joint_past, joint_deep, crew_open, crew_more, fails_open}
 use Rattle.te_search.proofs.PartialLaws.{tries_none, tries_skip, tries_all, tries_zero, tries_more, Adding}
-use Rattle.te_terms.proofs.Lists.{get_some}
-use Rattle.te_terms.proofs.Lists.{if_ok}
-use Rattle.te_terms.proofs.Lists.{get_at}
 use Rattle.te_search.proofs.DigitsTell.{root_above}
-use Rattle.te_terms.proofs.Lists.{at_or_last}
-use Rattle.te_terms.proofs.Lists.{get_low}
 use Rattle.te_trail.proofs.PastsTold.{clock_low}
 
 -- ---- places
@@ -306,7 +301,8 @@ tried_thread g paths threads finals there joined t n p s count ep th ne tried = 
 
 -- ---- what a store has
 
-pub stands_made : (g : List Member) (paths : List Path) (threads finals : List ℕ) → AssemblyStand g paths threads finals → (y : Path) (t : ℕ) (c : Path) → Holds paths y → clock_of y t ≡ Some c → Holds paths c
+pub stands_made : (g : List Member) (paths : List Path) (threads finals : List ℕ) → AssemblyStand g paths threads finals
+    → (y : Path) (t : ℕ) (c : Path) → Holds paths y → clock_of y t ≡ Some c → Holds paths c
 stands_made g paths threads finals st y t c h e = st.closed y c h (clock_in y t c (move_of c) e (rests_move c))
 
 pub stands_top : (g : List Member) (paths : List Path) (threads finals : List ℕ) → AssemblyStand g paths threads finals → (x : Path) → IsFinal g x → IsTop (Holds paths) x

@@ -9,7 +9,7 @@ use Rattle.te_trail.specs.Paths.{Path, branched, sent, got, thread_of}
 use Rattle.te_trail.specs.Stores.{Holds, IsStore, labels_of_move}
 use Rattle.te_trail.specs.Clocks.{Agree}
 use Rattle.te_trail.specs.States.{chosen, MovedEnds, members_met, path_state}
-use Rattle.te_terms.proofs.Lists.{some_map}
+use Rattle.te_terms.proofs.Lists.{some_map, get_low, at_or_last, get-longer, never_both}
 use Rattle.te_trail.proofs.MembersMove.{Handing, handing}
 use Rattle.te_pair.specs.Ends.{path_of, paths_kept}
 use Rattle.te_search.specs.declared.work.Work.{Work}
@@ -24,13 +24,9 @@ use Rattle.te_trail.proofs.StoresHold.{held}
 use Rattle.te_search.proofs.FinalsTold.{told_more}
 use Rattle.te_search.proofs.WorkDone.{IsStep, step_done}
 use Rattle.te_search.proofs.Trying.{listed, paths_at, path_there}
-use Rattle.te_terms.proofs.Lists.{get_low}
 use Rattle.te_search.proofs.Working.{map_both, at_more, by_more, low_more, low_both, counted_more, ends_more}
-use Rattle.te_terms.proofs.Lists.{at_or_last}
-use Rattle.te_terms.proofs.Lists.{get-longer}
 use Rattle.te_search.proofs.Meeting.{IsThere, end_of_other, other_of_end, number_there, agree_flips}
 use Rattle.te_pair.proofs.EndsTold.{one_state}
-use Rattle.te_terms.proofs.Lists.{never_both}
 
 -- ---- what stands at a send or a receive does nothing else
 

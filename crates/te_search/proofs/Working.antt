@@ -25,13 +25,8 @@ use Rattle.te_trail.proofs.StoresHold.{place_held}
 use Rattle.te_trail.proofs.StoresHold.{held as holds_at}
 use Rattle.te_search.proofs.FinalsTold.{told_more}
 use Rattle.te_search.proofs.WorkDone.{IsStep, step_done, final_cannot_choose}
-use Rattle.te_terms.proofs.Lists.{all_with}
+use Rattle.te_terms.proofs.Lists.{all_with, get_low, get_some, get-longer, never_both, at_or_last}
 use Rattle.te_search.proofs.Trying.{path_there}
-use Rattle.te_terms.proofs.Lists.{get_low}
-use Rattle.te_terms.proofs.Lists.{get_some}
-use Rattle.te_terms.proofs.Lists.{get-longer}
-use Rattle.te_terms.proofs.Lists.{never_both}
-use Rattle.te_terms.proofs.Lists.{at_or_last}
 
 pub map_both : {A B : Type 0} (f : A → B) (xs ys : List A) → map f (xs ++ ys) ≡ map f xs ++ map f ys
 map_both f [] ys = refl

@@ -141,4 +141,5 @@ Assembles g paths threads finals joined count result = (start : Path) (ps : List
     → Tries g paths start ps count × MatchOption result (Fails (Holds (paths_by paths finals)) ps) (λ v. IsFound g paths threads start ps v.items)
 
 abbrev pub TriesOnly : List Member → List Path → List ℕ → List (Option ℕ) → ℕ → Type 0
-TriesOnly g paths threads joined count = (start : Path) (ps : List Path) → Crew g (Holds paths) (IsFinal g) ps → Holds ps start → NamesPaths paths threads (joint ps) joined → Tries g paths start ps count
+TriesOnly g paths threads joined count = (start : Path) (ps : List Path) → Crew g (Holds paths) (IsFinal g) ps
+    → Holds ps start → NamesPaths paths threads (joint ps) joined → Tries g paths start ps count

@@ -71,7 +71,10 @@ pub fn enough(parked: &[Parked]) -> Option<u64>
     requires { IsGroup (as_group parked.now) }
     ensures some { IfSome result (λ n. n ≡ enough_for (as_group parked.now)) }
     ensures none { (result ≡ None) ↔ (1000000 < enough_for (as_group parked.now)) }
-    ensures names { (paths groups : List Name) → NoNameTwice paths → AllByRecursion (IsPathName (as_group parked.now)) paths → NoNameTwice groups → AllByRecursion (IsGroupName (as_group parked.now)) groups → length paths + length groups ≤ enough_for (as_group parked.now) }
+    ensures names { (paths groups : List Name) → NoNameTwice paths
+        → AllByRecursion (IsPathName (as_group parked.now)) paths → NoNameTwice groups
+        → AllByRecursion (IsGroupName (as_group parked.now)) groups
+        → length paths + length groups ≤ enough_for (as_group parked.now) }
 {
     let paths = paths_in(parked);
     if paths <= 500_000 {

@@ -1,7 +1,8 @@
 // The final paths of a search, in the order of assembling, and those that may be of one thread.
 
 ghost use Rattle.std.specs.Prelude.{◌≡◌, ◌<◌, ℕ, [], ◌∷◌, ◌++◌, length, take, cond, nat_eq, min, OnOk, OnErr};
-ghost use Rattle.te_search.specs.Finals.{numbers_at, numbers_in, without_last};
+ghost use Rattle.te_pair.specs.Places.{without_last};
+ghost use Rattle.te_search.specs.Finals.{numbers_at, bucket_numbers};
 
 use std::alloc::Global;
 use std::marker::Model;
@@ -60,7 +61,7 @@ impl Finals {
     /// The numbers of the final paths in the bucket of a thread, in the order of assembling. Those of the thread are all
     /// among them.
     pub(crate) fn bucket(&self, thread: u32) -> &[u32]
-        ensures { result.now ≡ numbers_in (min thread 64) self.now }
+        ensures { result.now ≡ bucket_numbers (min thread 64) self.now }
     {
         match self.buckets.get(bucket_of(thread)) {
             Some(there) => there.as_slice(),

@@ -7,7 +7,7 @@ use Rattle.std.specs.List.{AllByRecursion}
 use Rattle.te_terms.specs.Terms.{Term}
 use Rattle.te_terms.specs.declared.event.Parked.{Parked}
 use Rattle.te_script.proofs.Places.{slice_get_set_same}
-use Rattle.te_terms.proofs.Lists.{AllByRecursion-append}
+use Rattle.te_terms.proofs.Lists.{AllByRecursion-append, take_all, take_next}
 use Rattle.te_history.specs.declared.status.How.TheVariants as ways
 use Rattle.te_history.specs.declared.entry.Entry.{Entry}
 use Rattle.te_history.specs.declared.entry.Entry.TheVariants as entries
@@ -22,8 +22,6 @@ use Rattle.te_serial.specs.Runs.{ShowsPlace, HasEndedAll, HasClosed}
 use Rattle.te_serial.proofs.Continuing.{grown_twice}
 use Rattle.te_serial.proofs.BoardStates.{state_grown}
 use Rattle.te_serial.proofs.RoundsSoFar.{Callers, slice_at_cut, drop_next, drop_set, take_set}
-use Rattle.te_terms.proofs.Lists.{take_all}
-use Rattle.te_terms.proofs.Lists.{take_next}
 
 -- ---- the parked list, one caller more
 

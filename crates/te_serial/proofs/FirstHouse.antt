@@ -1,9 +1,8 @@
 -- A house before any thread has done anything.
 use Rattle.std.proofs.Common.{◌≡◌, List, [], ◌∷◌, ◌++◌, length, sym, ap, refl, subst, ◌∙◌}
 use Rattle.te_script.specs.Scripts.{Thread}
-use Rattle.te_terms.proofs.Lists.{AllByRecursion-append}
+use Rattle.te_terms.proofs.Lists.{AllByRecursion-append, all_at}
 use Rattle.te_script.specs.Cores.{At, core_after}
-use Rattle.te_terms.proofs.Lists.{all_at}
 use Rattle.te_board.specs.Boards.{BoardLog}
 use Rattle.te_serial.specs.Houses.{IsHouse, AreFresh}
 

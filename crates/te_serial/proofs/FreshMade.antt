@@ -19,7 +19,7 @@ use Rattle.te_history.proofs.AfterEntry.{posts_by_at_most, length-state}
 use Rattle.te_history.proofs.GivenOnce.{ticket_below}
 use Rattle.te_history.proofs.Growing.{legal_is_loose}
 use Rattle.te_history.proofs.Places.{all_by_places}
-use Rattle.te_terms.proofs.Lists.{all_at}
+use Rattle.te_terms.proofs.Lists.{all_at, get-last, get-longer, take_all, take_more, get_front, get_taken}
 use Rattle.te_report.specs.OfScript.{taken, WishedBy, WishedFrom, IsOfScript}
 use Rattle.te_report.specs.Fitting.{EntryIsSpelled}
 use Rattle.te_report.proofs.Growing.{grows_wished, AtPlace, at_place}
@@ -28,12 +28,6 @@ use Rattle.te_report.proofs.ChannelsStepped.{Makes}
 use Rattle.te_report.proofs.ChannelsOfScript.{StandingHas, SoFar, MembersMake, goes_on, first}
 use Rattle.te_serial.specs.FreshChannels.{HasMemberAt, IsMadeByMember, ChannelsAreMade}
 use Rattle.te_serial.proofs.ChannelsMore.{term_more, outcome_more, outcomes_more, entry_more, entries_more}
-use Rattle.te_terms.proofs.Lists.{get-last}
-use Rattle.te_terms.proofs.Lists.{get-longer}
-use Rattle.te_terms.proofs.Lists.{take_all}
-use Rattle.te_terms.proofs.Lists.{take_more}
-use Rattle.te_terms.proofs.Lists.{get_front}
-use Rattle.te_terms.proofs.Lists.{get_taken}
 
 -- the channel is a fresh one of a member of a commit
 pub record IsMade (h : List Entry) (c : ℕ) : Type 0 where

@@ -13,8 +13,7 @@ use Rattle.te_serial.specs.declared.place.Place.{Place}
 use Rattle.te_serial.specs.declared.place.Place.TheVariants as places
 use Rattle.te_serial.specs.Runs.{ShowsPlace, IsKeptOf, IsParkedAt}
 use Rattle.te_serial.proofs.ParkedChanges.{IsUnparked, entry_of, unparked_by, put_later}
-use Rattle.te_terms.proofs.Lists.{take_all}
-use Rattle.te_terms.proofs.Lists.{take_next}
+use Rattle.te_terms.proofs.Lists.{take_all, take_next}
 use Rattle.te_serial.proofs.ClosingsSoFar.{parked_more, shown_parked}
 use Rattle.te_serial.proofs.ClosingsSoFar.{front_length}
 

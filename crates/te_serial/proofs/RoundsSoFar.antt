@@ -8,7 +8,7 @@ use Rattle.te_terms.specs.declared.event.Outcome.{Outcome}
 use Rattle.te_terms.specs.Joint.{CanCommit}
 use Rattle.te_script.specs.Cores.{Stand}
 use Rattle.te_script.proofs.Places.{slice_get_set_same}
-use Rattle.te_terms.proofs.Lists.{AllByRecursion-append}
+use Rattle.te_terms.proofs.Lists.{AllByRecursion-append, take_next, take_all}
 use Rattle.te_history.specs.declared.entry.Entry.{Entry}
 use Rattle.te_serial.specs.declared.place.Place.{Place}
 use Rattle.te_serial.specs.declared.place.Place.TheVariants as places
@@ -20,8 +20,6 @@ use Rattle.te_serial.specs.Houses.{grown}
 use Rattle.te_serial.specs.Runs.{ShowsPlace, NoneGiven, HasOpened, HasOpenedAll, HasCommittedBlock, HasCommittedAll}
 use Rattle.te_serial.proofs.Continuing.{grown_twice}
 use Rattle.te_serial.proofs.BoardStates.{opened_state, opens_idle, opens_other, blocks_more}
-use Rattle.te_terms.proofs.Lists.{take_next}
-use Rattle.te_terms.proofs.Lists.{take_all}
 
 -- the threads before t have opened, and the others stand as at the start
 pub record OpenedSoFar (old now : BoardLog) (t : ℕ) : Type 0 where

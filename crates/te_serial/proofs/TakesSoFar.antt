@@ -31,13 +31,8 @@ use Rattle.te_serial.proofs.BoardStates.{caller_within, TakenState, taken_state,
 use Rattle.te_serial.proofs.ParkedChanges.{parked_same}
 use Rattle.te_serial.proofs.GroupsGiven.{after_lower}
 use Rattle.te_serial.proofs.Openings.{appends_grown}
-use Rattle.te_terms.proofs.Lists.{take_all}
-use Rattle.te_terms.proofs.Lists.{take_next}
-use Rattle.te_terms.proofs.Lists.{drop_at}
+use Rattle.te_terms.proofs.Lists.{take_all, take_next, drop_at, get_some, get-longer, AllByRecursion-append}
 use Rattle.te_board.proofs.TakesFollow.{given_so}
-use Rattle.te_terms.proofs.Lists.{get_some}
-use Rattle.te_terms.proofs.Lists.{get-longer}
-use Rattle.te_terms.proofs.Lists.{AllByRecursion-append}
 
 -- ---- one take
 

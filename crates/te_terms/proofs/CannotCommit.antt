@@ -8,7 +8,9 @@ use Rattle.te_terms.specs.declared.event.Parked.{Parked}
 use Rattle.te_terms.specs.Expressions.{int, chan, one, tuple}
 use Rattle.te_terms.specs.Terms.{Term, never, send, recv, and_then}
 use Rattle.te_terms.specs.Steps.{Member, IsSettled, quiet_step}
-use Rattle.te_terms.specs.Joint.{Label, choice, meeting, Action, quiet, labelled, with_member, with_term, meeting_of, joint_step, after, after_choice, outcomes_of, and_outcome, as_member, Reduces, CanCommit}
+use Rattle.te_terms.specs.Joint.{Label, choice, meeting, Action, quiet, labelled, with_member, with_term, meeting_of}
+use Rattle.te_terms.specs.Joint.{joint_step, after, after_choice, outcomes_of, and_outcome, as_member, Reduces}
+use Rattle.te_terms.specs.Joint.{CanCommit}
 use Rattle.te_terms.specs.Settling.{CannotChoose, IsOpen}
 
 pub nobody_can_commit : ¬ CanCommit []

@@ -63,9 +63,9 @@ impl Atom {
     }
 }
 
-/// A value: a tuple of 0 to 4 atoms, seen as the list of them.
 // 40 bytes without a gap, since values are copied more than anything else: a word for each atom, its kind,
 // and fillers behind them, so that equal values have equal fields.
+/// A value: a tuple of 0 to 4 atoms, seen as the list of them.
 #[derive(Clone, Copy, Debug)]
 pub struct Value {
     words: [i64; MOST_ATOMS],

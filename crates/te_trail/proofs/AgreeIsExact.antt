@@ -1,5 +1,8 @@
 -- agree is exact, and the views of a path's past name it.
-use Rattle.std.proofs.Common.{◌≡◌, ◌⊎◌, ◌≤◌, ◌<◌, inl, inr, ℕ, zero, suc, ◌+◌, List, [], ◌∷◌, ◌++◌, length, Bool, true, false, cond, ltb, ◌||◌, ◌&&◌, Option, Some, None, option_map, IsTrue, refl, ap, ap₂, sym, ◌∙◌, subst, arith, rules, nat_eq, le_refl, le_of_lt, eq-or-lt_of_le, eqb-true, eq-eqb, ltb-true, ltb-false, append_assoc, append-nil, length-append, true≢false}
+use Rattle.std.proofs.Common.{◌≡◌, ◌⊎◌, ◌≤◌, ◌<◌, inl, inr, ℕ, zero, suc, ◌+◌, List, [], ◌∷◌, ◌++◌, length, Bool, true}
+use Rattle.std.proofs.Common.{false, cond, ltb, ◌||◌, ◌&&◌, Option, Some, None, option_map, IsTrue, refl, ap, ap₂, sym}
+use Rattle.std.proofs.Common.{◌∙◌, subst, arith, rules, nat_eq, le_refl, le_of_lt, eq-or-lt_of_le, eqb-true, eq-eqb}
+use Rattle.std.proofs.Common.{ltb-true, ltb-false, append_assoc, append-nil, length-append, true≢false}
 use Rattle.std.specs.Option.{option_and_then}
 use Rattle.te_terms.specs.Steps.{Member}
 use Rattle.te_terms.specs.Settling.{settled}
@@ -9,13 +12,23 @@ use Rattle.te_trail.specs.Clocks.{deeper, clock_of, Passes, Agree, IsSound}
 use Rattle.te_trail.specs.States.{chosen, members_met, MovedEnds, path_state, HasState}
 use Rattle.te_trail.specs.Stores.{Holds, IsNext, with_move, with_moves, AreMade, IsStore, labels_of_move, labels_of, same_side, same_path, rests_on, any_rests_on, trail_of, joint_trail}
 use Rattle.te_trail.specs.Views.{Chain, touches, view_of, Begins, HasPast, LeavesAt, ChainOfBoth}
-use Rattle.te_trail.proofs.Lines.{above_self, above_depth, above_thread, above_trans, above_same, above_both, above_line, line_flip, line_depth, ancestor, rests_move, rests_trans, above_rests, rests_made}
-use Rattle.te_trail.proofs.ClockLaws.{eq_apart, differ, deeper_left, deeper_right, deeper_either, clock_thread, clock_in, clock_self, Agrees, agrees_by, agree_by, made_planted, made_branched, made_met, clock_top, past_line, agree_line}
-use Rattle.te_terms.proofs.Lists.{eq_same}
-use Rattle.te_trail.proofs.MembersMove.{found_thread, found_new, found_other, chain_append, labels_append, view_append, no_chain, chain_on, Moves, quiets, settles_there, chooses, Meets, Handing, handing, meets}
-use Rattle.te_trail.proofs.MovesChain.{Together, stands_at, owned_by, PlaceAt, AreClosed, AllPlaced, state_branched, state_after, state_met, view_choice, view_choice_other, view_sender, view_receiver, view_other, Goes_on, shut_grow, runs, shut_grown, store_shut, runs_all}
-use Rattle.te_terms.proofs.Lists.{some_map}
-use Rattle.te_trail.proofs.PastsChain.{same_true, same_self, rests_true, true_rests, pasts_true, true_pasts, then_some, parts_of, fits_past, sound_past, Agreeing, team_line, joined, grown_has, above_own, PastsAre, one_chain, team_low}
+use Rattle.te_trail.proofs.Lines.{above_self, above_depth, above_thread, above_trans, above_same, above_both}
+use Rattle.te_trail.proofs.Lines.{above_line, line_flip, line_depth, ancestor, rests_move, rests_trans, above_rests}
+use Rattle.te_trail.proofs.Lines.{rests_made}
+use Rattle.te_trail.proofs.ClockLaws.{eq_apart, differ, deeper_left, deeper_right, deeper_either, clock_thread}
+use Rattle.te_trail.proofs.ClockLaws.{clock_in, clock_self, Agrees, agrees_by, agree_by, made_planted, made_branched}
+use Rattle.te_trail.proofs.ClockLaws.{made_met, clock_top, past_line, agree_line}
+use Rattle.te_terms.proofs.Lists.{eq_same, some_map}
+use Rattle.te_trail.proofs.MembersMove.{found_thread, found_new, found_other, chain_append, labels_append, view_append}
+use Rattle.te_trail.proofs.MembersMove.{no_chain, chain_on, Moves, quiets, settles_there, chooses, Meets, Handing}
+use Rattle.te_trail.proofs.MembersMove.{handing, meets}
+use Rattle.te_trail.proofs.MovesChain.{Together, stands_at, owned_by, PlaceAt, AreClosed, AllPlaced, state_branched}
+use Rattle.te_trail.proofs.MovesChain.{state_after, state_met, view_choice, view_choice_other, view_sender}
+use Rattle.te_trail.proofs.MovesChain.{view_receiver, view_other, Goes_on, shut_grow, runs, shut_grown, store_shut}
+use Rattle.te_trail.proofs.MovesChain.{runs_all}
+use Rattle.te_trail.proofs.PastsChain.{same_true, same_self, rests_true, true_rests, pasts_true, true_pasts, then_some}
+use Rattle.te_trail.proofs.PastsChain.{parts_of, fits_past, sound_past, Agreeing, team_line, joined, grown_has}
+use Rattle.te_trail.proofs.PastsChain.{above_own, PastsAre, one_chain, team_low}
 use Rattle.te_trail.proofs.OwnMoves.{own_depth, prefix_same, view_view, AreEven, HasEvenMeetings, unique}
 
 -- one path alone
@@ -88,7 +101,8 @@ even_in g store made s r h f there =
             fin (c, i, up) = let at : clock_of (sent s r) (thread_of x) ≡ Some c = subst (λ n. clock_of (sent s r) n ≡ Some c) tz i in let one : c ≡ x = cc in subst (λ y. IsAbove z y) one up
 
 pub known_in : (g : List Member) (store : List Path) → AreMade [] store → (x : Path) → IsSound x → HasState g x → Holds (with_moves [] store) (move_of x) → HasEvenMeetings x
-known_in g store made x h f there s r k = even_in g store made s r (sound_past x (sent s r) h k) (fits_past g x (sent s r) f k) (store_shut store made (move_of x) (sent s r) there (rests_made (sent s r) x k))
+known_in g store made x h f there s r k = even_in g store made s r (sound_past x (sent s r) h k)
+    (fits_past g x (sent s r) f k) (store_shut store made (move_of x) (sent s r) there (rests_made (sent s r) x k))
 
 -- the trail of a path has its past
 pub trail_has_past : (g : List Member) (store : List Path) (p : Path) → AreMade [] store → IsSound p → HasState g p → Holds (with_moves [] store) (move_of p) → HasPast p (trail_of store p)
@@ -97,10 +111,13 @@ trail_has_past g store p made h f there z k =
     subst (λ w. Begins (own_labels z) (view_of (thread_of z) w)) (trail_alone store p) (c.within z (true_pasts (p ∷ []) p (move_of z) (inl refl) k))
 
 -- a path's own moves are its thread's view of its trail
-pub own_trail : (g : List Member) (store : List Path) (p : Path) → AreMade [] store → IsSound p → HasState g p → Holds (with_moves [] store) (move_of p) → view_of (thread_of p) (trail_of store p) ≡ own_labels p
+pub own_trail : (g : List Member) (store : List Path) (p : Path) → AreMade [] store → IsSound p → HasState g p
+    → Holds (with_moves [] store) (move_of p) → view_of (thread_of p) (trail_of store p) ≡ own_labels p
 own_trail g store p made h f there =
     let c : PastsAre g store (p ∷ []) = alone g store p made h f there in
-    ap (view_of (thread_of p)) (sym (trail_alone store p)) ∙ (c.leaves p (true_pasts (p ∷ []) p (move_of p) (inl refl) (rests_move p)) (λ z hz tz. team_low g (p ∷ []) (one_team g p h f) p (inl refl) z hz tz)).1
+    ap (view_of (thread_of p)) (sym (trail_alone store p)) ∙ (c.leaves p
+    (true_pasts (p ∷ []) p (move_of p) (inl refl) (rests_move p))
+    (λ z hz tz. team_low g (p ∷ []) (one_team g p h f) p (inl refl) z hz tz)).1
 
 -- agreeing paths have one chain
 pub agree_together : (g : List Member) (store : List Path) → IsStore g store → (p q : Path) → Holds store p → Holds store q → Agrees p q → ChainOfBoth g p q
@@ -108,9 +125,20 @@ agree_together g store good p q hp hq a =
     let team : Agreeing g (p ∷ q ∷ []) = two_team g p q (good.sound p hp) (good.sound q hq) (good.state p hp) (good.state q hq) a in
     let tp : Holds (with_moves [] store) (move_of p) = grown_has store [] p good.made hp in
     let tq : Holds (with_moves [] store) (move_of q) = grown_has store [] q good.made hq in
-    let c : PastsAre g store (p ∷ q ∷ []) = one_chain g store (p ∷ q ∷ []) good.made team (λ x h. elim h [ inl e ↦ subst (λ z. Holds (with_moves [] store) (move_of z)) (sym e) tp | inr k ↦ elim k [ inl e ↦ subst (λ z. Holds (with_moves [] store) (move_of z)) (sym e) tq | inr n ↦ absurd n ] ]) in
-    let lp : (member_of (thread_of p) c.chain.end ≡ path_state g p) × (view_of (thread_of p) (joint_trail store (p ∷ q ∷ [])) ≡ own_labels p) = c.leaves p (true_pasts (p ∷ q ∷ []) p (move_of p) (inl refl) (rests_move p)) (λ z hz tz. team_low g (p ∷ q ∷ []) team p (inl refl) z hz tz) in
-    let lq : (member_of (thread_of q) c.chain.end ≡ path_state g q) × (view_of (thread_of q) (joint_trail store (p ∷ q ∷ [])) ≡ own_labels q) = c.leaves q (true_pasts (p ∷ q ∷ []) q (move_of q) (inr (inl refl)) (rests_move q)) (λ z hz tz. team_low g (p ∷ q ∷ []) team q (inr (inl refl)) z hz tz) in
+    let c : PastsAre g store (p ∷ q ∷ []) = one_chain g store (p ∷ q ∷ []) good.made team
+    (λ x h. elim h [
+      | inl e ↦ subst (λ z. Holds (with_moves [] store) (move_of z)) (sym e) tp
+      | inr k ↦
+          elim k [ inl e ↦ subst (λ z. Holds (with_moves [] store) (move_of z)) (sym e) tq | inr n ↦ absurd n ]
+    ]) in
+    let lp : (member_of (thread_of p) c.chain.end ≡ path_state g p)
+    × (view_of (thread_of p) (joint_trail store (p ∷ q ∷ [])) ≡ own_labels p) =
+    c.leaves p (true_pasts (p ∷ q ∷ []) p (move_of p) (inl refl) (rests_move p))
+    (λ z hz tz. team_low g (p ∷ q ∷ []) team p (inl refl) z hz tz) in
+    let lq : (member_of (thread_of q) c.chain.end ≡ path_state g q)
+    × (view_of (thread_of q) (joint_trail store (p ∷ q ∷ [])) ≡ own_labels q) =
+    c.leaves q (true_pasts (p ∷ q ∷ []) q (move_of q) (inr (inl refl)) (rests_move q))
+    (λ z hz tz. team_low g (p ∷ q ∷ []) team q (inr (inl refl)) z hz tz) in
     record {
       word = joint_trail store (p ∷ q ∷ []);
       chain = c.chain;
@@ -130,7 +158,9 @@ near w a b ha hb ka kb ra rb e d =
     let kx : HasEvenMeetings x.0 = λ s r k. kb s r (above_rests x.0 b (sent s r) x.1 k) in
     let oa : Begins (own_labels a) (view_of (thread_of a) w) = ra a (rests_move a) in
     let ox : Begins (own_labels x.0) (view_of (thread_of x.0) w) = rx x.0 (rests_move x.0) in
-    let same : own_labels x.0 ≡ own_labels a = prefix_same (own_labels x.0) (own_labels a) (view_of (thread_of a) w) (subst (λ n. Begins (own_labels x.0) (view_of n w)) (tx ∙ sym e) ox) oa (own_depth x.0 ∙ x.2 ∙ sym (own_depth a)) in
+    let same : own_labels x.0 ≡ own_labels a = prefix_same (own_labels x.0) (own_labels a) (view_of (thread_of a) w)
+    (subst (λ n. Begins (own_labels x.0) (view_of n w)) (tx ∙ sym e) ox) oa
+    (own_depth x.0 ∙ x.2 ∙ sym (own_depth a)) in
     let one : x.0 ≡ a = unique w x.0 a sx ha kx ka rx ra (tx ∙ sym e) same in
     subst (λ q. IsAbove q b) one x.1
   where
@@ -165,7 +195,9 @@ clocked w p c t h k r e = (
   clock_thread p t c e,
 )
 
-pub share : (w : List Label) (p q : Path) → IsSound p → IsSound q → HasEvenMeetings p → HasEvenMeetings q → HasPast p w → HasPast q w → nat_eq (thread_of p) (thread_of q) ≡ false → view_of (thread_of p) w ≡ own_labels p → view_of (thread_of q) w ≡ own_labels q → Agrees p q
+pub share : (w : List Label) (p q : Path) → IsSound p → IsSound q → HasEvenMeetings p → HasEvenMeetings q → HasPast p w
+    → HasPast q w → nat_eq (thread_of p) (thread_of q) ≡ false → view_of (thread_of p) w ≡ own_labels p
+    → view_of (thread_of q) w ≡ own_labels q → Agrees p q
 share w p q hp hq kp kq rp rq ne vp vq = record {
   apart = ne;
   lines = λ t a b e f. line a b (clocked w p a t hp kp rp e) (clocked w q b t hq kq rq f);
@@ -174,7 +206,11 @@ share w p q hp hq kp kq rp rq ne vp vq = record {
 }
   where
     line : {t : ℕ} (a b : Path) → IsSound a × HasEvenMeetings a × HasPast a w × (thread_of a ≡ t) → IsSound b × HasEvenMeetings b × HasPast b w × (thread_of b ≡ t) → OnOneLine a b
-    line a b (sa, ka, ra, ta) (sb, kb, rb, tb) = elim (either_way (depth_of a) (depth_of b)) [ inl d ↦ inl (near w a b sa sb ka kb ra rb (ta ∙ sym tb) d) | inr d ↦ inr (near w b a sb sa kb ka rb ra (tb ∙ sym ta) d) ]
+    line a b (sa, ka, ra, ta) (sb, kb, rb, tb) = elim (either_way (depth_of a) (depth_of b)) [
+      | inl d ↦ inl (near w a b sa sb ka kb ra rb (ta ∙ sym tb) d)
+      | inr d ↦
+          inr (near w b a sb sa kb ka rb ra (tb ∙ sym ta) d)
+    ]
 
     low : (x c : Path) → IsSound x → HasEvenMeetings x → HasPast x w → view_of (thread_of x) w ≡ own_labels x → IsSound c × HasEvenMeetings c × HasPast c w × (thread_of c ≡ thread_of x) → IsAbove c x
     low x c sx kx rx vx (sc, kc, rc, tc) =
@@ -184,7 +220,8 @@ share w p q hp hq kp kq rp rq ne vp vq = record {
         near w c x sc sx kc kx rc rx tc (omega (arith, size))
 
 -- paths that one chain has together agree
-pub together_agree : (g : List Member) (store : List Path) → IsStore g store → (p q : Path) → Holds store p → Holds store q → nat_eq (thread_of p) (thread_of q) ≡ false → ChainOfBoth g p q → Agrees p q
+pub together_agree : (g : List Member) (store : List Path) → IsStore g store → (p q : Path) → Holds store p
+    → Holds store q → nat_eq (thread_of p) (thread_of q) ≡ false → ChainOfBoth g p q → Agrees p q
 together_agree g store good p q hp hq ne to =
     let tp : Holds (with_moves [] store) (move_of p) = grown_has store [] p good.made hp in
     let tq : Holds (with_moves [] store) (move_of q) = grown_has store [] q good.made hq in
@@ -195,7 +232,8 @@ together_agree g store good p q hp hq ne to =
     share to.word p q sp sq (known_in g store good.made p sp fp tp) (known_in g store good.made q sq fq tq) to.past_first to.past_second ne to.leaves_first.moves to.leaves_second.moves
 
 -- no two paths of a store have one name: a member and the view_of of a past
-pub names_apart : (g : List Member) (store : List Path) → IsStore g store → (p q : Path) → Holds store p → Holds store q → thread_of p ≡ thread_of q → ((t : ℕ) → view_of t (trail_of store p) ≡ view_of t (trail_of store q)) → p ≡ q
+pub names_apart : (g : List Member) (store : List Path) → IsStore g store → (p q : Path) → Holds store p → Holds store q
+    → thread_of p ≡ thread_of q → ((t : ℕ) → view_of t (trail_of store p) ≡ view_of t (trail_of store q)) → p ≡ q
 names_apart g store good p q hp hq e same =
     let tp : Holds (with_moves [] store) (move_of p) = grown_has store [] p good.made hp in
     let tq : Holds (with_moves [] store) (move_of q) = grown_has store [] q good.made hq in
@@ -214,5 +252,8 @@ pub path_played : (g : List Member) (store : List Path) → IsStore g store → 
 path_played g store good p hp =
     let there : Holds (with_moves [] store) (move_of p) = grown_has store [] p good.made hp in
     let c : PastsAre g store (p ∷ []) = alone g store p good.made (good.sound p hp) (good.state p hp) there in
-    let left : (member_of (thread_of p) c.chain.end ≡ path_state g p) × (view_of (thread_of p) (joint_trail store (p ∷ [])) ≡ own_labels p) = c.leaves p (true_pasts (p ∷ []) p (move_of p) (inl refl) (rests_move p)) (λ z hz tz. team_low g (p ∷ []) (one_team g p (good.sound p hp) (good.state p hp)) p (inl refl) z hz tz) in
+    let left : (member_of (thread_of p) c.chain.end ≡ path_state g p)
+    × (view_of (thread_of p) (joint_trail store (p ∷ [])) ≡ own_labels p) =
+    c.leaves p (true_pasts (p ∷ []) p (move_of p) (inl refl) (rests_move p))
+    (λ z hz tz. team_low g (p ∷ []) (one_team g p (good.sound p hp) (good.state p hp)) p (inl refl) z hz tz) in
     (record { actions = c.chain.actions; end = c.chain.end; reaches = c.chain.reaches; labels_are = c.chain.labels_are ∙ trail_alone store p }, left.0)

@@ -1,5 +1,8 @@
 -- A clock names the deepest path of each thread in the past.
-use Rattle.std.proofs.Common.{◌≡◌, ◌⊎◌, ◌≤◌, ◌<◌, inl, inr, ℕ, zero, suc, ◌+◌, List, [], ◌∷◌, ◌++◌, length, Bool, true, false, cond, ltb, ◌||◌, ◌&&◌, Option, Some, None, option_map, IsTrue, refl, ap, ap₂, sym, ◌∙◌, subst, arith, rules, nat_eq, le_refl, le_of_lt, eq-or-lt_of_le, eqb-true, eq-eqb, ltb-true, ltb-false, append_assoc, append-nil, length-append, true≢false}
+use Rattle.std.proofs.Common.{◌≡◌, ◌⊎◌, ◌≤◌, ◌<◌, inl, inr, ℕ, zero, suc, ◌+◌, List, [], ◌∷◌, ◌++◌, length, Bool, true}
+use Rattle.std.proofs.Common.{false, cond, ltb, ◌||◌, ◌&&◌, Option, Some, None, option_map, IsTrue, refl, ap, ap₂, sym}
+use Rattle.std.proofs.Common.{◌∙◌, subst, arith, rules, nat_eq, le_refl, le_of_lt, eq-or-lt_of_le, eqb-true, eq-eqb}
+use Rattle.std.proofs.Common.{ltb-true, ltb-false, append_assoc, append-nil, length-append, true≢false}
 use Rattle.std.specs.Option.{option_and_then}
 use Rattle.te_terms.specs.Steps.{Member}
 use Rattle.te_terms.specs.Settling.{settled}
@@ -9,7 +12,9 @@ use Rattle.te_trail.specs.Clocks.{deeper, clock_of, Passes, Agree, IsSound}
 use Rattle.te_trail.specs.States.{chosen, members_met, MovedEnds, path_state, HasState}
 use Rattle.te_trail.specs.Stores.{Holds, IsNext, with_move, with_moves, AreMade, IsStore, labels_of_move, labels_of, same_side, same_path, rests_on, any_rests_on, trail_of, joint_trail}
 use Rattle.te_trail.specs.Views.{Chain, touches, view_of, Begins, HasPast, LeavesAt, ChainOfBoth}
-use Rattle.te_trail.proofs.Lines.{above_self, above_depth, above_thread, above_trans, above_same, above_both, above_line, line_flip, line_depth, ancestor, rests_move, rests_trans, above_rests, rests_made}
+use Rattle.te_trail.proofs.Lines.{above_self, above_depth, above_thread, above_trans, above_same, above_both}
+use Rattle.te_trail.proofs.Lines.{above_line, line_flip, line_depth, ancestor, rests_move, rests_trans, above_rests}
+use Rattle.te_trail.proofs.Lines.{rests_made}
 use Rattle.te_terms.proofs.Lists.{eq_same}
 
 pub eq_apart : (a b : ℕ) → nat_eq a b ≡ false → nat_eq b a ≡ false
@@ -58,7 +63,9 @@ deeper_either (Some a) (Some b) c e = go (ltb (depth_of a) (depth_of b)) e
 meet_thread : (s r : Path) (t : ℕ) (c : Path) → (clock_of s t ≡ Some c → thread_of c ≡ t) → (clock_of r t ≡ Some c → thread_of c ≡ t) → clock_of (sent s r) t ≡ Some c → thread_of c ≡ t
 meet_thread s r t c ihs ihr e = go (nat_eq t (thread_of s)) refl (nat_eq t (thread_of r)) refl e
   where
-    go : (o : Bool) → nat_eq t (thread_of s) ≡ o → (u : Bool) → nat_eq t (thread_of r) ≡ u → cond o (Some (sent s r)) (cond u (Some (got s r)) (deeper (clock_of s t) (clock_of r t))) ≡ Some c → thread_of c ≡ t
+    go : (o : Bool) → nat_eq t (thread_of s) ≡ o → (u : Bool) → nat_eq t (thread_of r) ≡ u
+        → cond o (Some (sent s r)) (cond u (Some (got s r)) (deeper (clock_of s t) (clock_of r t))) ≡ Some c
+        → thread_of c ≡ t
     go true w u v e = let same : sent s r ≡ c = cc in ap thread_of (sym same) ∙ sym (eqb-true t (thread_of s) w)
     go false w true v e = let same : got s r ≡ c = cc in ap thread_of (sym same) ∙ sym (eqb-true t (thread_of r) v)
     go false w false v e = elim (deeper_either (clock_of s t) (clock_of r t) c e) [ inl h ↦ ihs h | inr h ↦ ihr h ]
@@ -78,7 +85,9 @@ clock_thread (branched p l) t c e = go (clock_thread p t c) (nat_eq t (thread_of
 clock_thread (sent s r) t c e = meet_thread s r t c (clock_thread s t c) (clock_thread r t c) e
 clock_thread (got s r) t c e = meet_thread s r t c (clock_thread s t c) (clock_thread r t c) e
 
-meet_in : (s r : Path) (t : ℕ) (c m : Path) → (clock_of s t ≡ Some c → RestsOn m c → RestsOn m s) → (clock_of r t ≡ Some c → RestsOn m c → RestsOn m r) → clock_of (sent s r) t ≡ Some c → RestsOn m c → RestsOn m (sent s r)
+meet_in : (s r : Path) (t : ℕ) (c m : Path) → (clock_of s t ≡ Some c → RestsOn m c → RestsOn m s)
+    → (clock_of r t ≡ Some c → RestsOn m c → RestsOn m r) → clock_of (sent s r) t ≡ Some c → RestsOn m c
+    → RestsOn m (sent s r)
 meet_in s r t c m ihs ihr e a = go (nat_eq t (thread_of s)) (nat_eq t (thread_of r)) e
   where
     go : (o u : Bool) → cond o (Some (sent s r)) (cond u (Some (got s r)) (deeper (clock_of s t) (clock_of r t))) ≡ Some c → RestsOn m (sent s r)
@@ -161,7 +170,10 @@ made_met (branched q k) s r e = cc
 made_met (sent a b) s r e = inl e
 made_met (got a b) s r e = let e1 : a ≡ s = cc in let e2 : b ≡ r = cc in inr (rw (e1, e2) refl)
 
-meet_top : (s r : Path) → IsSound (sent s r) → (x : Path) → (RestsOn (move_of x) s → (c : Path) × (clock_of s (thread_of x) ≡ Some c) × IsAbove x c) → (RestsOn (move_of x) r → (c : Path) × (clock_of r (thread_of x) ≡ Some c) × IsAbove x c) → RestsOn (move_of x) (sent s r) → (c : Path) × (clock_of (sent s r) (thread_of x) ≡ Some c) × IsAbove x c
+meet_top : (s r : Path) → IsSound (sent s r) → (x : Path) → (RestsOn (move_of x) s
+    → (c : Path) × (clock_of s (thread_of x) ≡ Some c) × IsAbove x c)
+    → (RestsOn (move_of x) r → (c : Path) × (clock_of r (thread_of x) ≡ Some c) × IsAbove x c)
+    → RestsOn (move_of x) (sent s r) → (c : Path) × (clock_of (sent s r) (thread_of x) ≡ Some c) × IsAbove x c
 meet_top s r h x ihs ihr (inl a) = on (made_met x s r a)
   where
     on : (x ≡ sent s r) ⊎ (x ≡ got s r) → (c : Path) × (clock_of (sent s r) (thread_of x) ≡ Some c) × IsAbove x c
@@ -169,7 +181,10 @@ meet_top s r h x ihs ihr (inl a) = on (made_met x s r a)
     on (inr same) = (got s r, rw (ap thread_of same, eq_apart (thread_of s) (thread_of r) (differ h.2), eq_same (thread_of r)) refl, inl same)
 meet_top s r h x ihs ihr (inr (inl a)) = go (ihs a) (nat_eq (thread_of x) (thread_of s)) refl (nat_eq (thread_of x) (thread_of r)) refl
   where
-    go : (c : Path) × (clock_of s (thread_of x) ≡ Some c) × IsAbove x c → (o : Bool) → nat_eq (thread_of x) (thread_of s) ≡ o → (u : Bool) → nat_eq (thread_of x) (thread_of r) ≡ u → (c : Path) × (cond o (Some (sent s r)) (cond u (Some (got s r)) (deeper (clock_of s (thread_of x)) (clock_of r (thread_of x)))) ≡ Some c) × IsAbove x c
+    go : (c : Path) × (clock_of s (thread_of x) ≡ Some c) × IsAbove x c → (o : Bool)
+        → nat_eq (thread_of x) (thread_of s) ≡ o → (u : Bool) → nat_eq (thread_of x) (thread_of r) ≡ u
+        → (c : Path) × (cond o (Some (sent s r)) (cond u (Some (got s r))
+        (deeper (clock_of s (thread_of x)) (clock_of r (thread_of x)))) ≡ Some c) × IsAbove x c
     go (c, e, up) true w u v =
         let at : clock_of s (thread_of x) ≡ Some s = rw (eqb-true (thread_of x) (thread_of s) w) (clock_self s h.0) in
         let same : c ≡ s = cc in
@@ -178,11 +193,16 @@ meet_top s r h x ihs ihr (inr (inl a)) = go (ihs a) (nat_eq (thread_of x) (threa
         let at : clock_of s (thread_of r) ≡ Some c = subst (λ n. clock_of s n ≡ Some c) (eqb-true (thread_of x) (thread_of r) v) e in
         (got s r, refl, inr (above_trans x c r up ((agrees_by s r h.0 h.1 h.2).second c at)))
     go (c, e, up) false w false v =
-        let d : (b : Path) × (deeper (clock_of s (thread_of x)) (clock_of r (thread_of x)) ≡ Some b) × IsAbove c b = deeper_left (clock_of s (thread_of x)) (clock_of r (thread_of x)) c e (λ b f. (agrees_by s r h.0 h.1 h.2).lines (thread_of x) c b e f) in
+        let d : (b : Path) × (deeper (clock_of s (thread_of x)) (clock_of r (thread_of x)) ≡ Some b) × IsAbove c b =
+        deeper_left (clock_of s (thread_of x)) (clock_of r (thread_of x)) c e
+        (λ b f. (agrees_by s r h.0 h.1 h.2).lines (thread_of x) c b e f) in
         (d.0, d.1, above_trans x c d.0 up d.2)
 meet_top s r h x ihs ihr (inr (inr a)) = go (ihr a) (nat_eq (thread_of x) (thread_of s)) refl (nat_eq (thread_of x) (thread_of r)) refl
   where
-    go : (c : Path) × (clock_of r (thread_of x) ≡ Some c) × IsAbove x c → (o : Bool) → nat_eq (thread_of x) (thread_of s) ≡ o → (u : Bool) → nat_eq (thread_of x) (thread_of r) ≡ u → (c : Path) × (cond o (Some (sent s r)) (cond u (Some (got s r)) (deeper (clock_of s (thread_of x)) (clock_of r (thread_of x)))) ≡ Some c) × IsAbove x c
+    go : (c : Path) × (clock_of r (thread_of x) ≡ Some c) × IsAbove x c → (o : Bool)
+        → nat_eq (thread_of x) (thread_of s) ≡ o → (u : Bool) → nat_eq (thread_of x) (thread_of r) ≡ u
+        → (c : Path) × (cond o (Some (sent s r)) (cond u (Some (got s r))
+        (deeper (clock_of s (thread_of x)) (clock_of r (thread_of x)))) ≡ Some c) × IsAbove x c
     go (c, e, up) true w u v =
         let at : clock_of r (thread_of s) ≡ Some c = subst (λ n. clock_of r n ≡ Some c) (eqb-true (thread_of x) (thread_of s) w) e in
         (sent s r, refl, inr (above_trans x c s up ((agrees_by s r h.0 h.1 h.2).first c at)))
@@ -191,7 +211,9 @@ meet_top s r h x ihs ihr (inr (inr a)) = go (ihr a) (nat_eq (thread_of x) (threa
         let same : c ≡ r = cc in
         (got s r, refl, inr (subst (λ q. IsAbove x q) same up))
     go (c, e, up) false w false v =
-        let d : (b : Path) × (deeper (clock_of s (thread_of x)) (clock_of r (thread_of x)) ≡ Some b) × IsAbove c b = deeper_right (clock_of s (thread_of x)) (clock_of r (thread_of x)) c e (λ b f. (agrees_by s r h.0 h.1 h.2).lines (thread_of x) b c f e) in
+        let d : (b : Path) × (deeper (clock_of s (thread_of x)) (clock_of r (thread_of x)) ≡ Some b) × IsAbove c b =
+        deeper_right (clock_of s (thread_of x)) (clock_of r (thread_of x)) c e
+        (λ b f. (agrees_by s r h.0 h.1 h.2).lines (thread_of x) b c f e) in
         (d.0, d.1, above_trans x c d.0 up d.2)
 
 -- each path of a past is above the clock's path of its thread
@@ -200,7 +222,9 @@ clock_top (planted t) h x a = let same : x ≡ planted t = made_planted x t a in
 clock_top (branched p l) h x (inl a) = let same : x ≡ branched p l = made_branched x p l a in (branched p l, rw (ap thread_of same, eq_same (thread_of p)) refl, inl same)
 clock_top (branched p l) h x (inr a) = go (clock_top p h x a) (nat_eq (thread_of x) (thread_of p)) refl
   where
-    go : (c : Path) × (clock_of p (thread_of x) ≡ Some c) × IsAbove x c → (o : Bool) → nat_eq (thread_of x) (thread_of p) ≡ o → (c : Path) × (cond o (Some (branched p l)) (clock_of p (thread_of x)) ≡ Some c) × IsAbove x c
+    go : (c : Path) × (clock_of p (thread_of x) ≡ Some c) × IsAbove x c → (o : Bool)
+        → nat_eq (thread_of x) (thread_of p) ≡ o → (c : Path) × (cond o (Some (branched p l))
+        (clock_of p (thread_of x)) ≡ Some c) × IsAbove x c
     go (c, e, up) true w =
         let at : clock_of p (thread_of x) ≡ Some p = rw (eqb-true (thread_of x) (thread_of p) w) (clock_self p h) in
         let same : c ≡ p = cc in

@@ -1,5 +1,7 @@
 -- The events of a store, and the states of paths when there are more of them.
-use Rattle.std.proofs.Common.{◌≡◌, ◌⊎◌, ◌<◌, ◌≤◌, ◌+◌, inl, inr, ℕ, zero, suc, List, [], ◌∷◌, ◌++◌, Bool, true, false, cond, Option, Some, None, slice_get, refl, ap, ap₂, sym, ◌∙◌, subst, nat_eq, eqb-true, eq-eqb, length, take, map, arith}
+use Rattle.std.proofs.Common.{◌≡◌, ◌⊎◌, ◌<◌, ◌≤◌, ◌+◌, inl, inr, ℕ, zero, suc, List, [], ◌∷◌, ◌++◌, Bool, true, false}
+use Rattle.std.proofs.Common.{cond, Option, Some, None, slice_get, refl, ap, ap₂, sym, ◌∙◌, subst, nat_eq, eqb-true}
+use Rattle.std.proofs.Common.{eq-eqb, length, take, map, arith}
 use Rattle.std.proofs.lemmas.List.{map-append}
 use Rattle.std.specs.Option.{option_map, option_and_then}
 use Rattle.te_terms.specs.Steps.{Member}
@@ -11,13 +13,9 @@ use Rattle.te_trail.specs.Paths.{Path, planted, branched, sent, got}
 use Rattle.te_trail.specs.Trails.{Trail, unplanted}
 use Rattle.te_trail.specs.States.{chosen, MovedEnds, members_met, path_state, HasState}
 use Rattle.te_trail.specs.Records.{origin_at, member_of_event, members_of, ArePlannedEvents}
-use Rattle.te_terms.proofs.Lists.{eq_same}
+use Rattle.te_terms.proofs.Lists.{eq_same, get_taken, get_low, some_map, take_all}
 use Rattle.te_trail.proofs.RecordsRead.{get_old, get_which}
-use Rattle.te_terms.proofs.Lists.{get_taken}
-use Rattle.te_terms.proofs.Lists.{get_low}
 use Rattle.te_trail.proofs.PastsChain.{then_some, parts_of}
-use Rattle.te_terms.proofs.Lists.{some_map}
-use Rattle.te_terms.proofs.Lists.{take_all}
 
 events_rest : (x : Planned) (xs : List Planned) → ArePlannedEvents (x ∷ xs) → ArePlannedEvents xs
 events_rest x xs are = record {
@@ -31,7 +29,8 @@ event_found [] are i e at = cc
 event_found (x ∷ xs) are zero e at = let one : x ≡ e = cc in subst (λ y. member_of e.thread (member_of_event y ∷ members_of xs) ≡ Some (member_of_event e)) (sym one) (rw (eq_same e.thread) refl)
 event_found (x ∷ xs) are (suc i) e at = go (event_found xs (events_rest x xs are) i e at) (nat_eq x.thread e.thread) refl
   where
-    go : member_of e.thread (members_of xs) ≡ Some (member_of_event e) → (o : Bool) → nat_eq x.thread e.thread ≡ o → cond o (Some (member_of_event x)) (member_of e.thread (members_of xs)) ≡ Some (member_of_event e)
+    go : member_of e.thread (members_of xs) ≡ Some (member_of_event e) → (o : Bool) → nat_eq x.thread e.thread ≡ o
+        → cond o (Some (member_of_event x)) (member_of e.thread (members_of xs)) ≡ Some (member_of_event e)
     go ih true w = let z : zero ≡ suc i = are.once zero (suc i) x e refl at (eqb-true x.thread e.thread w) in cc
     go ih false w = ih
 
@@ -40,12 +39,15 @@ event_absent : (events : List Planned) (t : ℕ) → member_of t (members_of eve
 event_absent [] t none i e at same = cc
 event_absent (x ∷ xs) t none i e at same = go (λ n k a. event_absent xs t n k e a same) i at (nat_eq x.thread t) refl none
   where
-    go : (member_of t (members_of xs) ≡ None → (k : ℕ) → slice_get xs k ≡ Some e → ⊥) → (i : ℕ) → slice_get (x ∷ xs) i ≡ Some e → (o : Bool) → nat_eq x.thread t ≡ o → cond o (Some (member_of_event x)) (member_of t (members_of xs)) ≡ None → ⊥
+    go : (member_of t (members_of xs) ≡ None → (k : ℕ) → slice_get xs k ≡ Some e → ⊥) → (i : ℕ)
+        → slice_get (x ∷ xs) i ≡ Some e → (o : Bool) → nat_eq x.thread t ≡ o
+        → cond o (Some (member_of_event x)) (member_of t (members_of xs)) ≡ None → ⊥
     go ih i at true w none = cc
     go ih zero at false w none = let one : x ≡ e = cc in let z : nat_eq x.thread t ≡ true = eq-eqb x.thread t (ap (λ y. y.thread) one ∙ same) in cc
     go ih (suc i) at false w none = ih none i at
 
-pub events_put : (events : List Planned) (new : Planned) → ArePlannedEvents events → new.root < length new.code.value → member_of new.thread (members_of events) ≡ None → ArePlannedEvents (events ++ (new ∷ []))
+pub events_put : (events : List Planned) (new : Planned) → ArePlannedEvents events → new.root < length new.code.value
+    → member_of new.thread (members_of events) ≡ None → ArePlannedEvents (events ++ (new ∷ []))
 events_put events new are low none = record {
   rooted = λ i e at. root e i (get_which events (new ∷ []) e i at);
   once = λ i j e f ei fj same. one i j e f same (get_which events (new ∷ []) e i ei) (get_which events (new ∷ []) f j fj);
@@ -59,7 +61,9 @@ events_put events new are low none = record {
     root e i (inl a) = are.rooted i e a
     root e i (inr a) = subst (λ y. y.root < length y.code.value) (last a.0 e a.2).1 low
 
-    one : (i j : ℕ) (e f : Planned) → e.thread ≡ f.thread → (slice_get events i ≡ Some e) ⊎ ((k : ℕ) × (i ≡ length events + k) × (slice_get (new ∷ []) k ≡ Some e)) → (slice_get events j ≡ Some f) ⊎ ((k : ℕ) × (j ≡ length events + k) × (slice_get (new ∷ []) k ≡ Some f)) → i ≡ j
+    one : (i j : ℕ) (e f : Planned) → e.thread ≡ f.thread → (slice_get events i ≡ Some e)
+        ⊎ ((k : ℕ) × (i ≡ length events + k) × (slice_get (new ∷ []) k ≡ Some e))
+        → (slice_get events j ≡ Some f) ⊎ ((k : ℕ) × (j ≡ length events + k) × (slice_get (new ∷ []) k ≡ Some f)) → i ≡ j
     one i j e f same (inl a) (inl b) = are.once i j e f a b same
     one i j e f same (inl a) (inr b) = absurd (event_absent events new.thread none i e a (same ∙ ap (λ y. y.thread) (sym (last b.0 f b.2).1)))
     one i j e f same (inr a) (inl b) = absurd (event_absent events new.thread none j f b (sym same ∙ ap (λ y. y.thread) (sym (last a.0 e a.2).1)))
@@ -87,14 +91,24 @@ state_more g more (branched p left) m e =
     let a : (n : Member) × (path_state g p ≡ Some n) × (option_map settled (chosen left n) ≡ Some m) = then_some (λ n. option_map settled (chosen left n)) (path_state g p) m e in
     ap (option_and_then (λ n. option_map settled (chosen left n))) (state_more g more p a.0 a.1) ∙ a.2
 state_more g more (sent s r) m e =
-    let a : (n : Member) × (path_state g s ≡ Some n) × (option_and_then (λ b. option_map (λ z. settled z.sender) (members_met n b)) (path_state g r) ≡ Some m) = then_some (λ n. option_and_then (λ b. option_map (λ z. settled z.sender) (members_met n b)) (path_state g r)) (path_state g s) m e in
-    let b : (n : Member) × (path_state g r ≡ Some n) × (option_map (λ z. settled z.sender) (members_met a.0 n) ≡ Some m) = then_some (λ n. option_map (λ z. settled z.sender) (members_met a.0 n)) (path_state g r) m a.2 in
+    let a : (n : Member) × (path_state g s ≡ Some n) × (option_and_then
+    (λ b. option_map (λ z. settled z.sender) (members_met n b)) (path_state g r) ≡ Some m) =
+    then_some (λ n. option_and_then (λ b. option_map (λ z. settled z.sender) (members_met n b)) (path_state g r))
+    (path_state g s) m e in
+    let b : (n : Member) × (path_state g r ≡ Some n) × (option_map (λ z. settled z.sender)
+    (members_met a.0 n) ≡ Some m) = then_some (λ n. option_map (λ z. settled z.sender) (members_met a.0 n))
+    (path_state g r) m a.2 in
     let sa : path_state (g ++ more) s ≡ Some a.0 = state_more g more s a.0 a.1 in
     let rb : path_state (g ++ more) r ≡ Some b.0 = state_more g more r b.0 b.1 in
     rw (sa, rb) b.2
 state_more g more (got s r) m e =
-    let a : (n : Member) × (path_state g s ≡ Some n) × (option_and_then (λ b. option_map (λ z. settled z.receiver) (members_met n b)) (path_state g r) ≡ Some m) = then_some (λ n. option_and_then (λ b. option_map (λ z. settled z.receiver) (members_met n b)) (path_state g r)) (path_state g s) m e in
-    let b : (n : Member) × (path_state g r ≡ Some n) × (option_map (λ z. settled z.receiver) (members_met a.0 n) ≡ Some m) = then_some (λ n. option_map (λ z. settled z.receiver) (members_met a.0 n)) (path_state g r) m a.2 in
+    let a : (n : Member) × (path_state g s ≡ Some n) × (option_and_then
+    (λ b. option_map (λ z. settled z.receiver) (members_met n b)) (path_state g r) ≡ Some m) =
+    then_some (λ n. option_and_then (λ b. option_map (λ z. settled z.receiver) (members_met n b))
+    (path_state g r)) (path_state g s) m e in
+    let b : (n : Member) × (path_state g r ≡ Some n) × (option_map (λ z. settled z.receiver)
+    (members_met a.0 n) ≡ Some m) = then_some (λ n. option_map (λ z. settled z.receiver) (members_met a.0 n))
+    (path_state g r) m a.2 in
     let sa : path_state (g ++ more) s ≡ Some a.0 = state_more g more s a.0 a.1 in
     let rb : path_state (g ++ more) r ≡ Some b.0 = state_more g more r b.0 b.1 in
     rw (sa, rb) b.2
@@ -115,7 +129,8 @@ not_before ps zero x rise e = refl
 not_before [] (suc i) x rise e = cc
 not_before (p ∷ ps) (suc i) x rise e = go (not_before ps i x (rest_rises p.thread ps rise) e) (higher p.thread ps i x rise e) (nat_eq p.thread x.thread) refl
   where
-    go : member_of x.thread (as_group (take i ps)) ≡ None → p.thread < x.thread → (o : Bool) → nat_eq p.thread x.thread ≡ o → cond o (Some (as_member p)) (member_of x.thread (as_group (take i ps))) ≡ None
+    go : member_of x.thread (as_group (take i ps)) ≡ None → p.thread < x.thread → (o : Bool)
+        → nat_eq p.thread x.thread ≡ o → cond o (Some (as_member p)) (member_of x.thread (as_group (take i ps))) ≡ None
     go ih less true w = absurd (omega (arith, less, eqb-true p.thread x.thread w))
     go ih less false w = ih
 

@@ -1,5 +1,8 @@
 -- Lines of paths.
-use Rattle.std.proofs.Common.{◌≡◌, ◌⊎◌, ◌≤◌, ◌<◌, inl, inr, ℕ, zero, suc, ◌+◌, List, [], ◌∷◌, ◌++◌, length, Bool, true, false, cond, ltb, ◌||◌, ◌&&◌, Option, Some, None, option_map, IsTrue, refl, ap, ap₂, sym, ◌∙◌, subst, arith, rules, nat_eq, le_refl, le_of_lt, eq-or-lt_of_le, eqb-true, eq-eqb, ltb-true, ltb-false, append_assoc, append-nil, length-append, true≢false}
+use Rattle.std.proofs.Common.{◌≡◌, ◌⊎◌, ◌≤◌, ◌<◌, inl, inr, ℕ, zero, suc, ◌+◌, List, [], ◌∷◌, ◌++◌, length, Bool, true}
+use Rattle.std.proofs.Common.{false, cond, ltb, ◌||◌, ◌&&◌, Option, Some, None, option_map, IsTrue, refl, ap, ap₂, sym}
+use Rattle.std.proofs.Common.{◌∙◌, subst, arith, rules, nat_eq, le_refl, le_of_lt, eq-or-lt_of_le, eqb-true, eq-eqb}
+use Rattle.std.proofs.Common.{ltb-true, ltb-false, append_assoc, append-nil, length-append, true≢false}
 use Rattle.te_trail.specs.Paths.{Path, planted, branched, sent, got, thread_of, depth_of, own_labels, IsAbove, OnOneLine, move_of, RestsOn}
 use Rattle.te_trail.specs.Clocks.{deeper, clock_of, Passes, Agree, IsSound}
 use Rattle.te_trail.specs.States.{chosen, members_met, MovedEnds, path_state, HasState}
@@ -76,7 +79,9 @@ line_depth x y (inr b) d = let e : y ≡ x = above_same y x b (omega (arith, abo
 split : (d n : ℕ) → d ≤ suc n → (d ≡ suc n) ⊎ (d ≤ n)
 split d n h = elim (eq-or-lt_of_le h) [ inl e ↦ inl e | inr less ↦ inr (omega (arith, less)) ]
 
-under : (y p : Path) (d : ℕ) → depth_of y ≡ suc (depth_of p) → IsAbove y y → ((x : Path) → IsAbove x p → IsAbove x y) → (d ≤ depth_of p → (x : Path) × IsAbove x p × (depth_of x ≡ d)) → ((d ≡ suc (depth_of p)) ⊎ (d ≤ depth_of p)) → (x : Path) × IsAbove x y × (depth_of x ≡ d)
+under : (y p : Path) (d : ℕ) → depth_of y ≡ suc (depth_of p) → IsAbove y y → ((x : Path) → IsAbove x p → IsAbove x y)
+    → (d ≤ depth_of p → (x : Path) × IsAbove x p × (depth_of x ≡ d)) → ((d ≡ suc (depth_of p)) ⊎ (d ≤ depth_of p))
+    → (x : Path) × IsAbove x y × (depth_of x ≡ d)
 under y p d e self wide ih (inl same) = (y, self, e ∙ sym same)
 under y p d e self wide ih (inr less) = let a : (x : Path) × IsAbove x p × (depth_of x ≡ d) = ih less in (a.0, wide a.0 a.1, a.2)
 

@@ -4,14 +4,15 @@ use Rattle.std.specs.Option.{option_map, option_and_then}
 use Rattle.te_terms.specs.declared.value.Atom.{Atom}
 use Rattle.te_terms.specs.Terms.{Term}
 use Rattle.te_terms.specs.Steps.{Member, at_term, giving, quiet_step, with_head}
-use Rattle.te_terms.specs.Joint.{Label, choice, meeting, Action, quiet, labelled, Message, after_choice, sending, receiving, member_of, with_member, with_term, handed, meeting_of, joint_step, after, labels}
+use Rattle.te_terms.specs.Joint.{Label, choice, meeting, Action, quiet, labelled, Message, after_choice, sending}
+use Rattle.te_terms.specs.Joint.{receiving, member_of, with_member, with_term, handed, meeting_of, joint_step, after}
+use Rattle.te_terms.specs.Joint.{labels}
 use Rattle.te_terms.specs.Settling.{Quietly, here, after_one, settled}
 use Rattle.te_terms.proofs.Settles.{settled_is_reached, quietly_thread, settled_thread}
 use Rattle.te_trail.specs.States.{chosen, MovedEnds, members_met_by, members_met}
 use Rattle.te_trail.specs.Views.{Chain, touches, view_of}
 use Rattle.te_trail.proofs.ClockLaws.{eq_apart}
-use Rattle.te_terms.proofs.Lists.{eq_same}
-use Rattle.te_terms.proofs.Lists.{some_map}
+use Rattle.te_terms.proofs.Lists.{eq_same, some_map}
 
 -- ---- finding
 
@@ -27,7 +28,9 @@ pub found_new : (n m : Member) (g : List Member) → member_of n.thread g ≡ So
 found_new n m [] e = cc
 found_new n m (x ∷ g) e = go (found_new n m g) (nat_eq x.thread n.thread) refl e
   where
-    go : (member_of n.thread g ≡ Some m → member_of n.thread (with_member n g) ≡ Some n) → (o : Bool) → nat_eq x.thread n.thread ≡ o → cond o (Some x) (member_of n.thread g) ≡ Some m → member_of n.thread (cond o (n ∷ g) (x ∷ with_member n g)) ≡ Some n
+    go : (member_of n.thread g ≡ Some m → member_of n.thread (with_member n g) ≡ Some n) → (o : Bool)
+        → nat_eq x.thread n.thread ≡ o → cond o (Some x) (member_of n.thread g) ≡ Some m
+        → member_of n.thread (cond o (n ∷ g) (x ∷ with_member n g)) ≡ Some n
     go ih true w e = rw (eq_same n.thread) refl
     go ih false w e = rw w (ih e)
 
@@ -35,8 +38,10 @@ pub found_other : (t : ℕ) (n : Member) (g : List Member) → nat_eq t n.thread
 found_other t n [] ne = refl
 found_other t n (x ∷ g) ne = go (found_other t n g ne) (nat_eq x.thread n.thread) refl
   where
-    go : member_of t (with_member n g) ≡ member_of t g → (o : Bool) → nat_eq x.thread n.thread ≡ o → member_of t (cond o (n ∷ g) (x ∷ with_member n g)) ≡ cond (nat_eq x.thread t) (Some x) (member_of t g)
-    go ih true w = let one : nat_eq n.thread t ≡ false = eq_apart t n.thread ne in let two : nat_eq x.thread t ≡ false = subst (λ k. nat_eq k t ≡ false) (sym (eqb-true x.thread n.thread w)) one in rw (one, two) refl
+    go : member_of t (with_member n g) ≡ member_of t g → (o : Bool) → nat_eq x.thread n.thread ≡ o
+        → member_of t (cond o (n ∷ g) (x ∷ with_member n g)) ≡ cond (nat_eq x.thread t) (Some x) (member_of t g)
+    go ih true w = let one : nat_eq n.thread t ≡ false = eq_apart t n.thread ne in let two : nat_eq x.thread t ≡ false =
+        subst (λ k. nat_eq k t ≡ false) (sym (eqb-true x.thread n.thread w)) one in rw (one, two) refl
     go ih false w = ap (λ r. cond (nat_eq x.thread t) (Some x) r) ih
 
 -- ---- chains
@@ -142,29 +147,44 @@ handing a b ends e = go (sending a.term) refl (receiving b.term) refl e
     go (Some m) w None x e = cc
     go (Some m) w (Some c) x e = fit (nat_eq m.channel c) refl e
       where
-        fit : (o : Bool) → nat_eq m.channel c ≡ o → cond o (Some (record { sender = at_term a (with_head (giving []) a.term); receiver = at_term b (with_head (giving m.value) b.term) })) None ≡ Some ends → Handing a b ends
+        fit : (o : Bool) → nat_eq m.channel c ≡ o → cond o (Some
+            (record {
+              sender = at_term a (with_head (giving []) a.term);
+              receiver =
+                  at_term b (with_head (giving m.value) b.term);
+            })) None ≡ Some ends → Handing a b ends
         fit false s e = cc
         fit true s e =
             let is : record { sender = at_term a (with_head (giving []) a.term); receiver = at_term b (with_head (giving m.value) b.term) } ≡ ends = cc in
             record { message = m; channel = c; sends = w; receives = x; same = s; sender = ap (λ z. z.sender) (sym is); receiver = ap (λ z. z.receiver) (sym is) }
 
-pub meets : (g : List Member) (i j : ℕ) (a b : Member) (ends : MovedEnds) → nat_eq i j ≡ false → member_of i g ≡ Some a → member_of j g ≡ Some b → members_met a b ≡ Some ends → Meets g i j (settled ends.sender) (settled ends.receiver)
+pub meets : (g : List Member) (i j : ℕ) (a b : Member) (ends : MovedEnds) → nat_eq i j ≡ false → member_of i g ≡ Some a
+    → member_of j g ≡ Some b → members_met a b ≡ Some ends → Meets g i j (settled ends.sender) (settled ends.receiver)
 meets g i j a b ends ne e f m =
     let h : Handing a b ends = handing a b ends m in
     let u : Member = ends.sender in
     let v : Member = ends.receiver in
     let ui : ends.sender.thread ≡ i = ap (λ n. n.thread) h.sender ∙ found_thread i g a e in
     let vj : ends.receiver.thread ≡ j = ap (λ n. n.thread) h.receiver ∙ found_thread j g b f in
-    let step : joint_step (labelled (meeting i j)) g ≡ Some (with_member ends.receiver (with_member ends.sender g)) = rw (ne, e, f, h.sends, h.receives, h.same) refl ∙ ap₂ (λ x y. Some (with_member y (with_member x g))) (sym h.sender) (sym h.receiver) in
+    let step : joint_step (labelled (meeting i j)) g ≡ Some (with_member ends.receiver (with_member ends.sender g)) =
+    rw (ne, e, f, h.sends, h.receives, h.same) refl ∙ ap₂ (λ x y. Some (with_member y (with_member x g)))
+    (sym h.sender) (sym h.receiver) in
     let mid : member_of j (with_member ends.sender g) ≡ Some b = found_other j ends.sender g (ap (nat_eq j) ui ∙ eq_apart i j ne) ∙ f in
-    let first : member_of i (with_member ends.sender g) ≡ Some ends.sender = subst (λ k. member_of k (with_member ends.sender g) ≡ Some ends.sender) ui (found_new ends.sender a g (ap (λ k. member_of k g) ui ∙ e)) in
+    let first : member_of i (with_member ends.sender g) ≡ Some ends.sender =
+    subst (λ k. member_of k (with_member ends.sender g) ≡ Some ends.sender) ui
+    (found_new ends.sender a g (ap (λ k. member_of k g) ui ∙ e)) in
     let there : member_of i (with_member ends.receiver (with_member ends.sender g)) ≡ Some ends.sender = found_other i ends.receiver (with_member ends.sender g) (ap (nat_eq i) vj ∙ ne) ∙ first in
     let one : Moves (with_member ends.receiver (with_member ends.sender g)) [] i (settled ends.sender) = settles_there (with_member ends.receiver (with_member ends.sender g)) i ends.sender there in
-    let second : member_of j (with_member ends.receiver (with_member ends.sender g)) ≡ Some ends.receiver = subst (λ k. member_of k (with_member ends.receiver (with_member ends.sender g)) ≡ Some ends.receiver) vj (found_new ends.receiver b (with_member ends.sender g) (ap (λ k. member_of k (with_member ends.sender g)) vj ∙ mid)) in
+    let second : member_of j (with_member ends.receiver (with_member ends.sender g)) ≡ Some ends.receiver =
+    subst (λ k. member_of k (with_member ends.receiver (with_member ends.sender g)) ≡ Some ends.receiver) vj
+    (found_new ends.receiver b (with_member ends.sender g)
+    (ap (λ k. member_of k (with_member ends.sender g)) vj ∙ mid)) in
     let now : member_of j one.chain.end ≡ Some ends.receiver = one.others j (eq_apart i j ne) ∙ second in
     let two : Moves one.chain.end [] j (settled ends.receiver) = settles_there one.chain.end j ends.receiver now in
     record {
-      chain = chain_on g (meeting i j ∷ []) [] (one_step g (with_member ends.receiver (with_member ends.sender g)) (labelled (meeting i j)) step) (chain_on (with_member ends.receiver (with_member ends.sender g)) [] [] one.chain two.chain);
+      chain = chain_on g (meeting i j ∷ []) [] (one_step g (with_member ends.receiver (with_member ends.sender g))
+          (labelled (meeting i j)) step) (chain_on (with_member ends.receiver (with_member ends.sender g)) [] [] one.chain
+          two.chain);
       sender = two.others i ne ∙ one.here;
       receiver = two.here;
       others = λ k ni nj. two.others k nj ∙ one.others k ni ∙ found_other k ends.receiver (with_member ends.sender g) (ap (nat_eq k) vj ∙ nj) ∙ found_other k ends.sender g (ap (nat_eq k) ui ∙ ni);

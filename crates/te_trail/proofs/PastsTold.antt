@@ -1,5 +1,7 @@
 -- Which moves are in a past, and the trail that they make.
-use Rattle.std.proofs.Common.{◌≡◌, ◌⊎◌, ◌<◌, ◌≤◌, ◌↔◌, ◌+◌, inl, inr, ℕ, zero, suc, List, [], ◌∷◌, ◌++◌, Bool, true, false, cond, map, Option, Some, None, IsTrue, slice_get, take, length, get_or, refl, ap, ap₂, sym, ◌∙◌, subst, arith, append-nil, append_assoc}
+use Rattle.std.proofs.Common.{◌≡◌, ◌⊎◌, ◌<◌, ◌≤◌, ◌↔◌, ◌+◌, inl, inr, ℕ, zero, suc, List, [], ◌∷◌, ◌++◌, Bool, true}
+use Rattle.std.proofs.Common.{false, cond, map, Option, Some, None, IsTrue, slice_get, take, length, get_or, refl, ap}
+use Rattle.std.proofs.Common.{ap₂, sym, ◌∙◌, subst, arith, append-nil, append_assoc}
 use Rattle.std.proofs.lemmas.List.{map-append}
 use Rattle.te_terms.specs.Steps.{Member}
 use Rattle.te_terms.specs.Joint.{Label, choice, meeting}
@@ -19,11 +21,8 @@ use Rattle.te_trail.proofs.Lines.{rests_move, above_rests}
 use Rattle.te_trail.proofs.ClockLaws.{clock_in, clock_top}
 use Rattle.te_trail.proofs.PastsChain.{rests_true, true_rests}
 use Rattle.te_trail.proofs.RecordsRead.{length_paths}
-use Rattle.te_terms.proofs.Lists.{get_low}
-use Rattle.te_terms.proofs.Lists.{found_here}
-use Rattle.te_terms.proofs.Lists.{get_some}
+use Rattle.te_terms.proofs.Lists.{get_low, found_here, get_some, one_item}
 use Rattle.te_trail.proofs.StoresHold.{held}
-use Rattle.te_terms.proofs.Lists.{one_item}
 
 -- ---- whether a path rests on a move
 
@@ -33,7 +32,9 @@ clock_low paths p t c h is = go (get_some paths p h)
     go : (x : Path) × (slice_get paths p ≡ Some x) → c < length paths
     go (x, e) = let at : (z : Path) × (slice_get paths c ≡ Some z) × (clock_of x t ≡ Some z) = is x e in get_low paths at.0 c at.1
 
-pub rests_by_clock : (paths : List Path) → ((k : ℕ) (x : Path) → slice_get paths k ≡ Some x → IsSound x) → (p i t c : ℕ) (answer : Bool) → IsPathThread paths i t → IsClock paths p t (Some c) → TellsWhether paths i c IsAbove answer → TellsWhether paths p i IsInPast answer
+pub rests_by_clock : (paths : List Path) → ((k : ℕ) (x : Path) → slice_get paths k ≡ Some x → IsSound x)
+    → (p i t c : ℕ) (answer : Bool) → IsPathThread paths i t → IsClock paths p t (Some c)
+    → TellsWhether paths i c IsAbove answer → TellsWhether paths p i IsInPast answer
 rests_by_clock paths sound p i t c answer thread is tells x y ex ey = go (is x ex)
   where
     go : (z : Path) × (slice_get paths c ≡ Some z) × (clock_of x t ≡ Some z) → IsTrue answer ↔ IsInPast x y
@@ -42,7 +43,8 @@ rests_by_clock paths sound p i t c answer thread is tells x y ex ey = go (is x e
         back : (d : Path) × (clock_of x (thread_of y) ≡ Some d) × IsAbove y d → IsAbove y z
         back (d, kd, up) = subst (IsAbove y) (one_item (clock_of x t) d z (ap (clock_of x) (sym (thread y ey)) ∙ kd) k) up
 
-pub rests_not : (paths : List Path) → ((k : ℕ) (x : Path) → slice_get paths k ≡ Some x → IsSound x) → (p i t : ℕ) → IsPathThread paths i t → IsClock paths p t None → TellsWhether paths p i IsInPast false
+pub rests_not : (paths : List Path) → ((k : ℕ) (x : Path) → slice_get paths k ≡ Some x → IsSound x) → (p i t : ℕ)
+    → IsPathThread paths i t → IsClock paths p t None → TellsWhether paths p i IsInPast false
 rests_not paths sound p i t thread is x y ex ey = ((λ a. absurd (not_true a)), (λ r. absurd (none (clock_top x (sound p x ex) y r))))
   where
     not_true : IsTrue false → ⊥
@@ -53,7 +55,10 @@ rests_not paths sound p i t thread is x y ex ey = ((λ a. absurd (not_true a)), 
 
 -- ---- what a move is labelled with
 
-pub move_told : (records : List PathRecord) (ticks : List Tick) (paths : List Path) → FitsAll records ticks → paths_of records ≡ paths → (i : ℕ) (n : PathRecord) → slice_get records i ≡ Some n → (told : Option Move) → ((y : Path) → slice_get (paths_of records) i ≡ Some y → IsMadeBy n.last y → thread_of y ≡ n.thread → labels_told told ≡ labels_of_move y) → TellsMove paths i told
+pub move_told : (records : List PathRecord) (ticks : List Tick) (paths : List Path) → FitsAll records ticks
+    → paths_of records ≡ paths → (i : ℕ) (n : PathRecord) → slice_get records i ≡ Some n → (told : Option Move)
+    → ((y : Path) → slice_get (paths_of records) i ≡ Some y → IsMadeBy n.last y → thread_of y ≡ n.thread
+    → labels_told told ≡ labels_of_move y) → TellsMove paths i told
 move_told records ticks paths fit view i n en told by y ey =
     let there : slice_get (paths_of records) i ≡ Some y = ap (λ ps. slice_get ps i) view ∙ ey in
     let f : Fits (paths_of records) ticks i n y = fit.fits i n y en there in
@@ -88,7 +93,10 @@ pub record Mate (records : List PathRecord) (i : ℕ) : Type 0 where
   pub low : suc i < length records
   pub tells : (y : Path) (m : PathRecord) (t : ℕ) → slice_get (paths_of records) i ≡ Some y → slice_get records (suc i) ≡ Some m → thread_of y ≡ t → meeting t m.thread ∷ [] ≡ labels_of_move y
 
-pub mate_there : (records : List PathRecord) (ticks : List Tick) → FitsAll records ticks → ((i : ℕ) (s r : Path) → slice_get (paths_of records) i ≡ Some (sent s r) → slice_get (paths_of records) (suc i) ≡ Some (got s r)) → (i : ℕ) (n : PathRecord) → slice_get records i ≡ Some n → n.last ≡ Sender → Mate records i
+pub mate_there : (records : List PathRecord) (ticks : List Tick) → FitsAll records ticks
+    → ((i : ℕ) (s r : Path) → slice_get (paths_of records) i ≡ Some (sent s r)
+    → slice_get (paths_of records) (suc i) ≡ Some (got s r)) → (i : ℕ) (n : PathRecord) → slice_get records i ≡ Some n
+    → n.last ≡ Sender → Mate records i
 mate_there records ticks fit pairs i n en e = go (get_some (paths_of records) i (omega (arith, get_low records n i en, length_paths records)))
   where
     kind : (y : Path) → slice_get (paths_of records) i ≡ Some y → (s : Path) × (r : Path) × (y ≡ sent s r)
@@ -100,7 +108,9 @@ mate_there records ticks fit pairs i n en e = go (get_some (paths_of records) i 
         low : (s : Path) × (r : Path) × (y ≡ sent s r) → suc i < length records
         low (s, r, is) = omega (arith, get_low (paths_of records) (got s r) (suc i) (pairs i s r (ey ∙ ap Some is)), length_paths records)
 
-        told : (z : Path) (m : PathRecord) (t : ℕ) → (s : Path) × (r : Path) × (z ≡ sent s r) → slice_get (paths_of records) i ≡ Some z → slice_get records (suc i) ≡ Some m → thread_of z ≡ t → meeting t m.thread ∷ [] ≡ labels_of_move z
+        told : (z : Path) (m : PathRecord) (t : ℕ) → (s : Path) × (r : Path) × (z ≡ sent s r)
+            → slice_get (paths_of records) i ≡ Some z → slice_get records (suc i) ≡ Some m → thread_of z ≡ t
+            → meeting t m.thread ∷ [] ≡ labels_of_move z
         told z m t (s, r, is) ez em same =
             let other : Fits (paths_of records) ticks (suc i) m (got s r) = fit.fits (suc i) m (got s r) em (pairs i s r (ez ∙ ap Some is)) in
             ap₂ (λ a b. meeting a b ∷ []) (sym same ∙ ap thread_of is) (sym other.thread) ∙ sym (ap labels_of_move is)
@@ -144,7 +154,8 @@ TrailSo paths p i made = (x : Path) → slice_get paths p ≡ Some x → map lab
 
 pub labels_append : (has : Path → Bool) (xs ys : List Path) → labels_of has (xs ++ ys) ≡ labels_of has xs ++ labels_of has ys
 labels_append has [] ys = refl
-labels_append has (x ∷ xs) ys = ap (λ r. cond (has x) (labels_of_move x) [] ++ r) (labels_append has xs ys) ∙ sym (append_assoc (cond (has x) (labels_of_move x) []) (labels_of has xs) (labels_of has ys))
+labels_append has (x ∷ xs) ys = ap (λ r. cond (has x) (labels_of_move x) [] ++ r) (labels_append has xs ys) ∙ sym
+    (append_assoc (cond (has x) (labels_of_move x) []) (labels_of has xs) (labels_of has ys))
 
 take_next : (paths : List Path) (i : ℕ) (y : Path) → slice_get paths i ≡ Some y → take (i + 1) paths ≡ take i paths ++ (y ∷ [])
 take_next paths i y e = ap (λ n. take n paths) (let n : i + 1 ≡ suc i = omega arith in n) ∙ go paths i e
@@ -154,11 +165,15 @@ take_next paths i y e = ap (λ n. take n paths) (let n : i + 1 ≡ suc i = omega
     go (x ∷ xs) zero e = let one : x ≡ y = cc in ap (λ z. z ∷ []) one
     go (x ∷ xs) (suc i) e = ap (λ r. x ∷ r) (go xs i e)
 
-pub trail_step : (paths : List Path) (p i : ℕ) (made more : List Move) (told : Option Move) → i < length paths → TrailSo paths p i made → TellsPastMove paths p i told → map label_of more ≡ map label_of made ++ labels_told told → TrailSo paths p (i + 1) more
+pub trail_step : (paths : List Path) (p i : ℕ) (made more : List Move) (told : Option Move) → i < length paths
+    → TrailSo paths p i made → TellsPastMove paths p i told → map label_of more ≡ map label_of made ++ labels_told told
+    → TrailSo paths p (i + 1) more
 trail_step paths p i made more told h so tells e x ex = go (get_some paths i h)
   where
     go : (y : Path) × (slice_get paths i ≡ Some y) → map label_of more ≡ labels_of (rests_on x) (take (i + 1) paths)
-    go (y, ey) = e ∙ ap₂ (λ a b. a ++ b) (so x ex) (tells x y ex ey ∙ sym (append-nil (cond (rests_on x y) (labels_of_move y) []))) ∙ sym (labels_append (rests_on x) (take i paths) (y ∷ [])) ∙ sym (ap (labels_of (rests_on x)) (take_next paths i y ey))
+    go (y, ey) = e ∙ ap₂ (λ a b. a ++ b) (so x ex) (tells x y ex ey ∙ sym
+        (append-nil (cond (rests_on x y) (labels_of_move y) []))) ∙ sym
+        (labels_append (rests_on x) (take i paths) (y ∷ [])) ∙ sym (ap (labels_of (rests_on x)) (take_next paths i y ey))
 
 pub trail_end : (paths : List Path) (p i : ℕ) (made : List Move) → take i paths ≡ paths → TrailSo paths p i made → IsTrail paths p made
 trail_end paths p i made e so x ex = so x ex ∙ ap (labels_of (rests_on x)) e

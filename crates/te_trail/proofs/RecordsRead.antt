@@ -1,5 +1,8 @@
 -- Lists, and the paths of a list of records.
-use Rattle.std.proofs.Common.{◌≡◌, ◌⊎◌, ◌≤◌, ◌<◌, ◌↔◌, inl, inr, ℕ, zero, suc, ◌+◌, ◌-◌, Bool, true, false, ◌&&◌, not, MatchBool, List, [], ◌∷◌, ◌++◌, length, map, get_or, take, drop, slice_get, Option, Some, None, cond, ltb, nat_eq, IsTrue, refl, ap, ap₂, sym, ◌∙◌, subst, arith, append_assoc, append-nil, length-append, eqb-true, eq-eqb, true≢false, eq-or-lt_of_le}
+use Rattle.std.proofs.Common.{◌≡◌, ◌⊎◌, ◌≤◌, ◌<◌, ◌↔◌, inl, inr, ℕ, zero, suc, ◌+◌, ◌-◌, Bool, true, false, ◌&&◌, not}
+use Rattle.std.proofs.Common.{MatchBool, List, [], ◌∷◌, ◌++◌, length, map, get_or, take, drop, slice_get, Option, Some}
+use Rattle.std.proofs.Common.{None, cond, ltb, nat_eq, IsTrue, refl, ap, ap₂, sym, ◌∙◌, subst, arith, append_assoc}
+use Rattle.std.proofs.Common.{append-nil, length-append, eqb-true, eq-eqb, true≢false, eq-or-lt_of_le}
 use Rattle.te_path.specs.declared.spot.Spot.{Spot}
 use Rattle.te_trail.specs.declared.ticks.Tick.{Tick}
 use Rattle.te_trail.specs.declared.ticks.Stretch.{Stretch}
@@ -13,14 +16,17 @@ use Rattle.te_trail.specs.Ticks.{named, between, ticks_of, StretchIsWithin, AreB
 use Rattle.te_trail.specs.Trails.{TellsWhether, IsPathThread, ClockAt, IsClock}
 use Rattle.te_trail.specs.Walks.{TellsParent, FitAt, AllFit, FittingFor, Misfit, TicksAreLow, TellsFit}
 use Rattle.te_trail.specs.Records.{path_at, last_of, other_end, path_by, mate_of, paths_from, paths_of, is_sender, EndsAfter, EndsWhole, parent_number, HasParent, Fits, FitsAll}
-use Rattle.te_trail.proofs.Lines.{above_self, above_depth, above_thread, above_trans, above_same, above_both, above_line, line_flip, line_depth, ancestor, rests_move, rests_trans, above_rests, rests_made}
-use Rattle.te_trail.proofs.ClockLaws.{eq_apart, differ, deeper_left, deeper_right, deeper_either, clock_thread, clock_in, clock_self, Agrees, agrees_by, agree_by, made_planted, made_branched, made_met, clock_top, past_line, agree_line}
-use Rattle.te_terms.proofs.Lists.{eq_same}
-use Rattle.te_trail.proofs.TicksMerge.{between_step, between_done, between_more, length_between, merged_nil, next_right, next_left, next_lower, next_higher, next_both, IsJoining, joining_start, joining_step, joining_end, IsRaising, raising_start, raising_step, raising_room, raising_end, named_skip, named_here}
-use Rattle.te_terms.proofs.Lists.{get_some}
-use Rattle.te_terms.proofs.Lists.{found_here}
-use Rattle.te_terms.proofs.Lists.{get_low}
-use Rattle.te_terms.proofs.Lists.{get_taken}
+use Rattle.te_trail.proofs.Lines.{above_self, above_depth, above_thread, above_trans, above_same, above_both}
+use Rattle.te_trail.proofs.Lines.{above_line, line_flip, line_depth, ancestor, rests_move, rests_trans, above_rests}
+use Rattle.te_trail.proofs.Lines.{rests_made}
+use Rattle.te_trail.proofs.ClockLaws.{eq_apart, differ, deeper_left, deeper_right, deeper_either, clock_thread}
+use Rattle.te_trail.proofs.ClockLaws.{clock_in, clock_self, Agrees, agrees_by, agree_by, made_planted, made_branched}
+use Rattle.te_trail.proofs.ClockLaws.{made_met, clock_top, past_line, agree_line}
+use Rattle.te_terms.proofs.Lists.{eq_same, get_some, found_here, get_low, get_taken}
+use Rattle.te_trail.proofs.TicksMerge.{between_step, between_done, between_more, length_between, merged_nil, next_right}
+use Rattle.te_trail.proofs.TicksMerge.{next_left, next_lower, next_higher, next_both, IsJoining, joining_start}
+use Rattle.te_trail.proofs.TicksMerge.{joining_step, joining_end, IsRaising, raising_start, raising_step, raising_room}
+use Rattle.te_trail.proofs.TicksMerge.{raising_end, named_skip, named_here}
 
 pub get_old : {A : Type 0} (xs ys : List A) (y : A) (k : ℕ) → slice_get xs k ≡ Some y → slice_get (xs ++ ys) k ≡ Some y
 get_old [] ys y k e = cc

@@ -20,9 +20,7 @@ use Rattle.te_trail.specs.Paths.{Path, branched}
 use Rattle.te_trail.specs.States.{chosen, MovedEnds, members_met, path_state}
 use Rattle.te_trail.specs.Trails.{FaceEachOther}
 use Rattle.te_trail.specs.Records.{origin_at, SpotSpells, BothMet}
-use Rattle.te_terms.proofs.Lists.{eq_same}
-use Rattle.te_terms.proofs.Lists.{get_low}
-use Rattle.te_terms.proofs.Lists.{one_item}
+use Rattle.te_terms.proofs.Lists.{eq_same, get_low, one_item}
 
 -- of the event there
 pub record SpellsAt (e : Planned) (c : Cells) (s : Spot) (m : Member) : Type 0 where
@@ -43,7 +41,8 @@ spells_stands events c i s m sp = subst (λ z. StandsAt z.term s.stop) sp.spells
 pub choice_stop : (events : List Planned) (c : Cells) (i : ℕ) (s : Spot) (m : Member) → SpotSpells events c i s m → IsChoice m.term → s.stop ≡ stops.Choice
 choice_stop events c i s m sp is = same_stop m.term s.stop stops.Choice (spells_stands events c i s m sp) is
 
-pub send_stop : (events : List Planned) (c : Cells) (i : ℕ) (s : Spot) (m : Member) (message : Message) → SpotSpells events c i s m → sending m.term ≡ Some message → s.stop ≡ stops.Send message.channel message.value
+pub send_stop : (events : List Planned) (c : Cells) (i : ℕ) (s : Spot) (m : Member) (message : Message)
+    → SpotSpells events c i s m → sending m.term ≡ Some message → s.stop ≡ stops.Send message.channel message.value
 send_stop events c i s m message sp is = same_stop m.term s.stop (stops.Send message.channel message.value) (spells_stands events c i s m sp) is
 
 -- ---- choices
@@ -78,7 +77,10 @@ pub record Handed (e f : Planned) (c0 c1 c2 : Cells) (s s2 r r2 : Spot) (v : Lis
   pub receiver : IsSpot (origin_at f) c2 r2
   pub receives : StepsTo (spelled (origin_at f) c1 r) (after_receiving v (spelled (origin_at f) c1 r).term) (spelled (origin_at f) c2 r2)
 
-pub both_met : (events : List Planned) (e f : Planned) (c0 c1 c2 : Cells) (i j : ℕ) (s s2 r r2 : Spot) (k : ℕ) (v : List Atom) (a b : Member) → slice_get events i ≡ Some e → slice_get events j ≡ Some f → SpotSpells events c0 i s a → SpotSpells events c0 j r b → (face : FaceEachOther a b) → s.stop ≡ stops.Send k v → Handed e f c0 c1 c2 s s2 r r2 v → BothMet events c2 i s2 j r2 a b
+pub both_met : (events : List Planned) (e f : Planned) (c0 c1 c2 : Cells) (i j : ℕ) (s s2 r r2 : Spot) (k : ℕ)
+    (v : List Atom) (a b : Member) → slice_get events i ≡ Some e → slice_get events j ≡ Some f
+    → SpotSpells events c0 i s a → SpotSpells events c0 j r b → (face : FaceEachOther a b) → s.stop ≡ stops.Send k v
+    → Handed e f c0 c1 c2 s s2 r r2 v → BothMet events c2 i s2 j r2 a b
 both_met events e f c0 c1 c2 i j s s2 r r2 k v a b ae af sa sb face stop h = record {
   ends = record { sender = at_term a (with_head (giving []) a.term); receiver = at_term b (with_head (giving face.message.value) b.term) };
   meeting = rw (face.sends, face.receives, eq_same face.message.channel) refl;
@@ -102,17 +104,23 @@ both_met events e f c0 c1 c2 i j s s2 r r2 k v a b ae af sa sb face stop h = rec
     in_between = spelled_grown (origin_at f) c0 c1 r h.first at_r.is_spot ∙ at_r.spells
 
     second : settled (at_term b (with_head (giving face.message.value) b.term)) ≡ spelled (origin_at f) c2 r2
-    second = ap (λ w. settled (at_term b (with_head (giving w) b.term))) (sym value) ∙ got_end b (spelled (origin_at f) c2 r2) v face.message.channel face.receives (subst (λ z. StepsTo z (after_receiving v z.term) (spelled (origin_at f) c2 r2)) in_between h.receives)
+    second = ap (λ w. settled (at_term b (with_head (giving w) b.term))) (sym value) ∙ got_end b
+        (spelled (origin_at f) c2 r2) v face.message.channel face.receives
+        (subst (λ z. StepsTo z (after_receiving v z.term) (spelled (origin_at f) c2 r2)) in_between h.receives)
 
 -- ---- what a spot needs to move
 
 some_is : {A : Type 0} (o : Option A) (x : A) → o ≡ Some x → IsSome o
 some_is o x e = subst IsSome (sym e) refl
 
-pub can_send : (events : List Planned) (e : Planned) (c : Cells) (i : ℕ) (s : Spot) (a : Member) (message : Message) → slice_get events i ≡ Some e → SpotSpells events c i s a → sending a.term ≡ Some message → IsSome (sending (spelled (origin_at e) c s).term)
+pub can_send : (events : List Planned) (e : Planned) (c : Cells) (i : ℕ) (s : Spot) (a : Member) (message : Message)
+    → slice_get events i ≡ Some e → SpotSpells events c i s a → sending a.term ≡ Some message
+    → IsSome (sending (spelled (origin_at e) c s).term)
 can_send events e c i s a message ae sp sends = some_is (sending (spelled (origin_at e) c s).term) message (ap (λ m. sending m.term) (spells_at events c i s a e sp ae).spells ∙ sends)
 
-pub can_receive : (events : List Planned) (e : Planned) (c c2 : Cells) (i : ℕ) (s : Spot) (b : Member) (channel : ℕ) → Grows c c2 → slice_get events i ≡ Some e → SpotSpells events c i s b → receiving b.term ≡ Some channel → IsSome (receiving (spelled (origin_at e) c2 s).term)
+pub can_receive : (events : List Planned) (e : Planned) (c c2 : Cells) (i : ℕ) (s : Spot) (b : Member) (channel : ℕ)
+    → Grows c c2 → slice_get events i ≡ Some e → SpotSpells events c i s b → receiving b.term ≡ Some channel
+    → IsSome (receiving (spelled (origin_at e) c2 s).term)
 can_receive events e c c2 i s b channel grows ae sp receives =
     let there : SpellsAt e c s b = spells_at events c i s b e sp ae in
     some_is (receiving (spelled (origin_at e) c2 s).term) channel (ap (λ m. receiving m.term) (spelled_grown (origin_at e) c c2 s grows there.is_spot ∙ there.spells) ∙ receives)

@@ -1,5 +1,7 @@
 -- What a kept store tells of its paths.
-use Rattle.std.proofs.Common.{◌≡◌, ◌⊎◌, ◌<◌, ◌↔◌, inl, inr, ℕ, zero, suc, List, [], ◌∷◌, ◌++◌, Bool, true, false, Option, Some, None, IsTrue, slice_get, refl, ap, sym, ◌∙◌, subst, nat_eq, eqb-true, length, arith}
+use Rattle.std.proofs.Common.{◌≡◌, ◌⊎◌, ◌<◌, ◌↔◌, inl, inr, ℕ, zero, suc, List, [], ◌∷◌, ◌++◌, Bool, true, false}
+use Rattle.std.proofs.Common.{Option, Some, None, IsTrue, slice_get, refl, ap, sym, ◌∙◌, subst, nat_eq, eqb-true}
+use Rattle.std.proofs.Common.{length, arith}
 use Rattle.te_terms.specs.Steps.{Member, IsSettled}
 use Rattle.te_terms.specs.Joint.{member_of}
 use Rattle.te_path.specs.declared.cells.Cells.{Cells}
@@ -20,8 +22,7 @@ use Rattle.te_trail.proofs.ClockLaws.{Agrees, agrees_by, agree_by, differ}
 use Rattle.te_trail.proofs.PastsChain.{grown_has}
 use Rattle.te_trail.proofs.AgreeIsExact.{agree_together, together_agree, path_played}
 use Rattle.te_trail.proofs.RecordsRead.{length_paths}
-use Rattle.te_terms.proofs.Lists.{get_low}
-use Rattle.te_terms.proofs.Lists.{get_some}
+use Rattle.te_terms.proofs.Lists.{get_low, get_some}
 use Rattle.te_trail.proofs.Ancestors.{node_at}
 
 pub held : (xs : List Path) (k : ℕ) (x : Path) → slice_get xs k ≡ Some x → Holds xs x
@@ -85,7 +86,9 @@ pub record Standing (events : List Planned) (records : List PathRecord) (p : ℕ
   pub left : (x : Path) → slice_get (paths_of records) p ≡ Some x → (m : Member) × IsLeft (members_of events) (paths_of records) x m × StandsAt m.term n.spot.stop
   pub only : (x : Path) (m : Member) (stop : Stop) → slice_get (paths_of records) p ≡ Some x → path_state (members_of events) x ≡ Some m → StandsAt m.term stop → n.spot.stop ≡ stop
 
-pub standing : (events : List Planned) (cells : Cells) (records : List PathRecord) (ticks : List Tick) → RecordsAreKept events cells records ticks → (p : ℕ) (n : PathRecord) → slice_get records p ≡ Some n → Standing events records p n
+pub standing : (events : List Planned) (cells : Cells) (records : List PathRecord) (ticks : List Tick)
+    → RecordsAreKept events cells records ticks → (p : ℕ) (n : PathRecord) → slice_get records p ≡ Some n
+    → Standing events records p n
 standing events cells records ticks kept p n en = record {
   path = x.0;
   is_path = x.1;
@@ -100,18 +103,31 @@ standing events cells records ticks kept p n en = record {
     stands y s = subst (λ m. StandsAt m.term n.spot.stop) s.spot.spells s.spot.is_spot.stands
 
     leaves : (y : Path) → RecordStands events cells n y → slice_get (paths_of records) p ≡ Some y → (m : Member) × IsLeft (members_of events) (paths_of records) y m × StandsAt m.term n.spot.stop
-    leaves y s ey = (s.member, is_left (members_of events) (paths_of records) (is_store events cells records ticks kept) p y s.member ey s.state (subst IsSettled s.spot.spells s.spot.is_spot.settled), stands y s)
+    leaves y s ey = (
+      s.member,
+      is_left (members_of events) (paths_of records)
+          (is_store events cells records ticks kept) p y s.member ey s.state
+          (subst IsSettled s.spot.spells s.spot.is_spot.settled),
+      stands y s,
+    )
 
     one : (y : Path) (m : Member) (stop : Stop) (s : RecordStands events cells n y) → path_state (members_of events) y ≡ Some m → StandsAt m.term stop → n.spot.stop ≡ stop
     one y m stop s sm st = same_stop s.member.term n.spot.stop stop (stands y s) (subst (λ z. StandsAt z.term stop) (one_state (members_of events) y m s.member sm s.state) st)
 
-pub stop_told : (events : List Planned) (records : List PathRecord) (store : Trail) (p : ℕ) (n : PathRecord) (stop : Stop) → Standing events records p n → members_of events ≡ store.events → paths_of records ≡ store.paths → stop ≡ n.spot.stop → IsStop store p stop
+pub stop_told : (events : List Planned) (records : List PathRecord) (store : Trail) (p : ℕ) (n : PathRecord)
+    (stop : Stop) → Standing events records p n → members_of events ≡ store.events → paths_of records ≡ store.paths
+    → stop ≡ n.spot.stop → IsStop store p stop
 stop_told events records store p n stop s eg ep es x ex =
     let l : (m : Member) × IsLeft (members_of events) (paths_of records) x m × StandsAt m.term n.spot.stop = s.left x (ap (λ ps. slice_get ps p) ep ∙ ex) in
     (l.0, subst (λ g. IsLeft g store.paths x l.0) eg (subst (λ ps. IsLeft (members_of events) ps x l.0) ep l.1), subst (StandsAt l.0.term) (sym es) l.2)
 
-pub stop_only : (events : List Planned) (records : List PathRecord) (store : Trail) (p : ℕ) (n : PathRecord) (stop : Stop) → Standing events records p n → members_of events ≡ store.events → paths_of records ≡ store.paths → stop ≡ n.spot.stop → (x : Path) (m : Member) (other : Stop) → slice_get store.paths p ≡ Some x → path_state store.events x ≡ Some m → StandsAt m.term other → stop ≡ other
+pub stop_only : (events : List Planned) (records : List PathRecord) (store : Trail) (p : ℕ) (n : PathRecord)
+    (stop : Stop) → Standing events records p n → members_of events ≡ store.events → paths_of records ≡ store.paths
+    → stop ≡ n.spot.stop → (x : Path) (m : Member) (other : Stop) → slice_get store.paths p ≡ Some x
+    → path_state store.events x ≡ Some m → StandsAt m.term other → stop ≡ other
 stop_only events records store p n stop s eg ep es x m other ex sm st = es ∙ s.only x m other (ap (λ ps. slice_get ps p) ep ∙ ex) (ap (λ g. path_state g x) eg ∙ sm) st
 
-pub sounds : (events : List Planned) (cells : Cells) (records : List PathRecord) (ticks : List Tick) (paths : List Path) → RecordsAreKept events cells records ticks → paths_of records ≡ paths → (k : ℕ) (x : Path) → slice_get paths k ≡ Some x → IsSound x
+pub sounds : (events : List Planned) (cells : Cells) (records : List PathRecord) (ticks : List Tick) (paths : List Path)
+    → RecordsAreKept events cells records ticks → paths_of records ≡ paths → (k : ℕ) (x : Path)
+    → slice_get paths k ≡ Some x → IsSound x
 sounds events cells records ticks paths kept view k x e = (is_store events cells records ticks kept).sound x (held (paths_of records) k x (ap (λ ps. slice_get ps k) view ∙ e))

@@ -1,5 +1,7 @@
 -- What keeps a store: more cells, more events, more paths, a mark and a cut.
-use Rattle.std.proofs.Common.{◌≡◌, ◌⊎◌, ◌≤◌, ◌<◌, inl, inr, ℕ, zero, suc, ◌+◌, List, [], ◌∷◌, ◌++◌, Bool, true, false, Option, Some, None, slice_get, take, length, map, refl, ap, ap₂, sym, ◌∙◌, subst, arith, length-append, append-nil}
+use Rattle.std.proofs.Common.{◌≡◌, ◌⊎◌, ◌≤◌, ◌<◌, inl, inr, ℕ, zero, suc, ◌+◌, List, [], ◌∷◌, ◌++◌, Bool, true, false}
+use Rattle.std.proofs.Common.{Option, Some, None, slice_get, take, length, map, refl, ap, ap₂, sym, ◌∙◌, subst, arith}
+use Rattle.std.proofs.Common.{length-append, append-nil}
 use Rattle.std.proofs.lemmas.List.{take-append-le, length-map}
 use Rattle.te_terms.specs.Steps.{Member}
 use Rattle.te_terms.specs.Joint.{member_of}
@@ -17,9 +19,7 @@ use Rattle.te_trail.specs.States.{path_state}
 use Rattle.te_trail.specs.Stores.{Holds, IsNext, with_move, with_moves, AreMade}
 use Rattle.te_trail.specs.Records.{origin_at, member_of_event, members_of, ArePlannedEvents, paths_of, FitsAll, SpotSpells, RecordStands, RecordsAreKept, IsMarked, IsEarlier, StoreIsWhole}
 use Rattle.te_trail.proofs.RecordsRead.{get_old, get_new, get_which, take_low, take_all, length_paths}
-use Rattle.te_terms.proofs.Lists.{get_taken}
-use Rattle.te_terms.proofs.Lists.{get_low}
-use Rattle.te_terms.proofs.Lists.{get_some}
+use Rattle.te_terms.proofs.Lists.{get_taken, get_low, get_some}
 use Rattle.te_trail.proofs.RecordsPut.{AreNew, kept_push}
 use Rattle.te_trail.proofs.EventsFound.{events_put, members_put, state_more}
 
@@ -50,7 +50,8 @@ kept_grown events c c2 records ticks grows k = record {
 cut_grown : (c c2 : Cells) (m : CellMark) → Grows c c2 → IsMarkOf (cut_to m c) m → Grows (cut_to m c) c → cut_to m c2 ≡ cut_to m c
 cut_grown c c2 m grows of back = cells_back (cut_to m c) c2 m of (grows_on (cut_to m c) c c2 back grows)
 
-marked_grown : (events : List Planned) (c c2 : Cells) (records : List PathRecord) (ticks : List Tick) (m : StoreMark) → Grows c c2 → IsMarked events c records ticks m → IsMarked events c2 records ticks m
+marked_grown : (events : List Planned) (c c2 : Cells) (records : List PathRecord) (ticks : List Tick) (m : StoreMark)
+    → Grows c c2 → IsMarked events c records ticks m → IsMarked events c2 records ticks m
 marked_grown events c c2 records ticks m grows k =
     let same : cut_to m.cells c2 ≡ cut_to m.cells c = cut_grown c c2 m.cells grows k.of_cells k.grown in
     record {
@@ -63,7 +64,9 @@ marked_grown events c c2 records ticks m grows k =
       seen = k.seen;
     }
 
-pub whole_grown : (events : List Planned) (c c2 : Cells) (records : List PathRecord) (ticks : List Tick) (marks : List StoreMark) → Grows c c2 → StoreIsWhole events c records ticks marks → StoreIsWhole events c2 records ticks marks
+pub whole_grown : (events : List Planned) (c c2 : Cells) (records : List PathRecord) (ticks : List Tick)
+    (marks : List StoreMark) → Grows c c2 → StoreIsWhole events c records ticks marks
+    → StoreIsWhole events c2 records ticks marks
 whole_grown events c c2 records ticks marks grows w = record {
   kept = kept_grown events c c2 records ticks grows w.kept;
   few = w.few;
@@ -76,7 +79,8 @@ whole_grown events c c2 records ticks marks grows w = record {
       events = r.events;
       paths = r.paths;
       ticks = r.ticks;
-      of_cells = subst (λ z. Grows z (cut_to l.cells c2)) (sym (cut_grown c c2 m.cells grows a.of_cells a.grown)) (subst (Grows (cut_to m.cells c)) (sym (cut_grown c c2 l.cells grows b.of_cells b.grown)) r.of_cells);
+      of_cells = subst (λ z. Grows z (cut_to l.cells c2)) (sym (cut_grown c c2 m.cells grows a.of_cells a.grown))
+          (subst (Grows (cut_to m.cells c)) (sym (cut_grown c c2 l.cells grows b.of_cells b.grown)) r.of_cells);
     }
 
 -- ---- more events
@@ -88,7 +92,9 @@ stands_put events new c n x st = record {
   spot = record { event = st.spot.event; is_event = get_old events (new ∷ []) st.spot.event n.event st.spot.is_event; is_spot = st.spot.is_spot; spells = st.spot.spells };
 }
 
-pub whole_put : (events : List Planned) (new : Planned) (c : Cells) (records : List PathRecord) (ticks : List Tick) (marks : List StoreMark) → new.root < length new.code.value → member_of new.thread (members_of events) ≡ None → StoreIsWhole events c records ticks marks → StoreIsWhole (events ++ (new ∷ [])) c records ticks marks
+pub whole_put : (events : List Planned) (new : Planned) (c : Cells) (records : List PathRecord) (ticks : List Tick)
+    (marks : List StoreMark) → new.root < length new.code.value → member_of new.thread (members_of events) ≡ None
+    → StoreIsWhole events c records ticks marks → StoreIsWhole (events ++ (new ∷ [])) c records ticks marks
 whole_put events new c records ticks marks low none w = record {
   kept = record {
     fit = w.kept.fit;
@@ -120,14 +126,19 @@ made_append : (moves xs ys : List Path) → AreMade moves xs → AreMade (with_m
 made_append moves [] ys a b = b
 made_append moves (x ∷ xs) ys a b = (a.0, made_append (with_move moves x) xs ys a.1 b)
 
-marked_pushed : (events : List Planned) (c : Cells) (records : List PathRecord) (ticks : List Tick) (ns : List PathRecord) (xs : List Path) (out : List Tick) (m : StoreMark) → paths_of (records ++ ns) ≡ paths_of records ++ xs → IsMarked events c records ticks m → IsMarked events c (records ++ ns) (ticks ++ out) m
+marked_pushed : (events : List Planned) (c : Cells) (records : List PathRecord) (ticks : List Tick)
+    (ns : List PathRecord) (xs : List Path) (out : List Tick) (m : StoreMark)
+    → paths_of (records ++ ns) ≡ paths_of records ++ xs → IsMarked events c records ticks m
+    → IsMarked events c (records ++ ns) (ticks ++ out) m
 marked_pushed events c records ticks ns xs out m whole k = record {
   events_low = k.events_low;
   paths_low = omega (arith, k.paths_low, length-append records ns);
   ticks_low = omega (arith, k.ticks_low, length-append ticks out);
   of_cells = k.of_cells;
   grown = k.grown;
-  kept = subst (λ z. RecordsAreKept (take m.events events) (cut_to m.cells c) z (take m.ticks (ticks ++ out))) (sym same) (subst (RecordsAreKept (take m.events events) (cut_to m.cells c) (take m.paths records)) (sym (take-append-le m.ticks ticks out k.ticks_low)) k.kept);
+  kept = subst (λ z. RecordsAreKept (take m.events events) (cut_to m.cells c) z (take m.ticks (ticks ++ out)))
+      (sym same) (subst (RecordsAreKept (take m.events events) (cut_to m.cells c) (take m.paths records))
+      (sym (take-append-le m.ticks ticks out k.ticks_low)) k.kept);
   seen = ap paths_of same ∙ k.seen ∙ sym (ap (take m.paths) whole ∙ take-append-le m.paths (paths_of records) xs (omega (arith, k.paths_low, length_paths records)));
 }
   where
@@ -142,7 +153,10 @@ pub record AreAdded (events : List Planned) (c : Cells) (records : List PathReco
   pub stands : (k : ℕ) (n : PathRecord) (x : Path) → slice_get ns k ≡ Some n → slice_get xs k ≡ Some x → RecordStands events c n x
   pub few : length records + length ns < 4294967296
 
-pub whole_pushed : (events : List Planned) (c : Cells) (records : List PathRecord) (ticks : List Tick) (marks : List StoreMark) (ns : List PathRecord) (xs : List Path) (out : List Tick) → StoreIsWhole events c records ticks marks → AreAdded events c records ticks ns xs out → (paths_of (records ++ ns) ≡ paths_of records ++ xs) × StoreIsWhole events c (records ++ ns) (ticks ++ out) marks
+pub whole_pushed : (events : List Planned) (c : Cells) (records : List PathRecord) (ticks : List Tick)
+    (marks : List StoreMark) (ns : List PathRecord) (xs : List Path) (out : List Tick)
+    → StoreIsWhole events c records ticks marks → AreAdded events c records ticks ns xs out
+    → (paths_of (records ++ ns) ≡ paths_of records ++ xs) × StoreIsWhole events c (records ++ ns) (ticks ++ out) marks
 whole_pushed events c records ticks marks ns xs out w added = (
   f.0,
   record {
@@ -163,11 +177,18 @@ whole_pushed events c records ticks marks ns xs out w added = (
     f : (paths_of (records ++ ns) ≡ paths_of records ++ xs) × FitsAll (records ++ ns) (ticks ++ out)
     f = kept_push records ticks ns xs out w.kept.fit added.new
 
-    pair : (k : ℕ) (s r : Path) → (slice_get (paths_of records) k ≡ Some (sent s r)) ⊎ ((j : ℕ) × (k ≡ length (paths_of records) + j) × (slice_get xs j ≡ Some (sent s r))) → slice_get (paths_of records ++ xs) (suc k) ≡ Some (got s r)
+    pair : (k : ℕ) (s r : Path) → (slice_get (paths_of records) k ≡ Some (sent s r))
+        ⊎ ((j : ℕ) × (k ≡ length (paths_of records) + j) × (slice_get xs j ≡ Some (sent s r)))
+        → slice_get (paths_of records ++ xs) (suc k) ≡ Some (got s r)
     pair k s r (inl a) = get_old (paths_of records) xs (got s r) (suc k) (w.kept.pairs k s r a)
-    pair k s r (inr a) = ap (slice_get (paths_of records ++ xs)) (let e : suc k ≡ length (paths_of records) + suc a.0 = omega (arith, a.1) in e) ∙ get_new (paths_of records) xs (suc a.0) ∙ added.pairs a.0 s r a.2
+    pair k s r (inr a) = ap (slice_get (paths_of records ++ xs))
+        (let e : suc k ≡ length (paths_of records) + suc a.0 = omega (arith, a.1) in e) ∙ get_new (paths_of records) xs
+        (suc a.0) ∙ added.pairs a.0 s r a.2
 
-    stand : (k : ℕ) (n : PathRecord) (x : Path) → (slice_get records k ≡ Some n) ⊎ ((j : ℕ) × (k ≡ length records + j) × (slice_get ns j ≡ Some n)) → (slice_get (paths_of records) k ≡ Some x) ⊎ ((j : ℕ) × (k ≡ length (paths_of records) + j) × (slice_get xs j ≡ Some x)) → RecordStands events c n x
+    stand : (k : ℕ) (n : PathRecord) (x : Path) → (slice_get records k ≡ Some n)
+        ⊎ ((j : ℕ) × (k ≡ length records + j) × (slice_get ns j ≡ Some n))
+        → (slice_get (paths_of records) k ≡ Some x) ⊎ ((j : ℕ) × (k ≡ length (paths_of records) + j)
+        × (slice_get xs j ≡ Some x)) → RecordStands events c n x
     stand k n x (inl a) (inl b) = w.kept.stands k n x a b
     stand k n x (inl a) (inr b) = absurd (omega (arith, get_low records n k a, length_paths records, b.1))
     stand k n x (inr a) (inl b) = absurd (omega (arith, get_low (paths_of records) x k b, length_paths records, a.1))
@@ -175,7 +196,10 @@ whole_pushed events c records ticks marks ns xs out w added = (
 
 -- ---- marks
 
-pub whole_marked : (events : List Planned) (c : Cells) (records : List PathRecord) (ticks : List Tick) (marks : List StoreMark) (m : StoreMark) → StoreIsWhole events c records ticks marks → m.events ≡ length events → IsMarkOf c m.cells → m.paths ≡ length records → m.ticks ≡ length ticks → StoreIsWhole events c records ticks (marks ++ (m ∷ []))
+pub whole_marked : (events : List Planned) (c : Cells) (records : List PathRecord) (ticks : List Tick)
+    (marks : List StoreMark) (m : StoreMark) → StoreIsWhole events c records ticks marks → m.events ≡ length events
+    → IsMarkOf c m.cells → m.paths ≡ length records → m.ticks ≡ length ticks
+    → StoreIsWhole events c records ticks (marks ++ (m ∷ []))
 whole_marked events c records ticks marks m w ee ec ep et = record {
   kept = w.kept;
   few = w.few;
@@ -200,11 +224,18 @@ whole_marked events c records ticks marks m w ee ec ep et = record {
       ticks_low = omega (arith, et);
       of_cells = subst (λ z. IsMarkOf z m.cells) (sym cells) ec;
       grown = subst (λ z. Grows z c) (sym cells) (grows_none c w.kept.linked);
-      kept = subst (λ z. RecordsAreKept z (cut_to m.cells c) (take m.paths records) (take m.ticks ticks)) (sym (ap (λ n. take n events) ee ∙ take_all events)) (subst (λ z. RecordsAreKept events z (take m.paths records) (take m.ticks ticks)) (sym cells) (subst (λ z. RecordsAreKept events c z (take m.ticks ticks)) (sym all) (subst (RecordsAreKept events c records) (sym (ap (λ n. take n ticks) et ∙ take_all ticks)) w.kept)));
+      kept = subst (λ z. RecordsAreKept z (cut_to m.cells c) (take m.paths records) (take m.ticks ticks))
+          (sym (ap (λ n. take n events) ee ∙ take_all events))
+          (subst (λ z. RecordsAreKept events z (take m.paths records) (take m.ticks ticks)) (sym cells)
+          (subst (λ z. RecordsAreKept events c z (take m.ticks ticks)) (sym all)
+          (subst (RecordsAreKept events c records) (sym (ap (λ n. take n ticks) et ∙ take_all ticks)) w.kept)));
       seen = ap paths_of all ∙ sym (ap (λ n. take n (paths_of records)) (ep ∙ sym (length_paths records)) ∙ take_all (paths_of records));
     }
 
-    rise : (i j : ℕ) (k l : StoreMark) → i ≤ j → (slice_get marks i ≡ Some k) ⊎ ((n : ℕ) × (i ≡ length marks + n) × (slice_get (m ∷ []) n ≡ Some k)) → (slice_get marks j ≡ Some l) ⊎ ((n : ℕ) × (j ≡ length marks + n) × (slice_get (m ∷ []) n ≡ Some l)) → IsEarlier c k l
+    rise : (i j : ℕ) (k l : StoreMark) → i ≤ j → (slice_get marks i ≡ Some k)
+        ⊎ ((n : ℕ) × (i ≡ length marks + n) × (slice_get (m ∷ []) n ≡ Some k))
+        → (slice_get marks j ≡ Some l) ⊎ ((n : ℕ) × (j ≡ length marks + n) × (slice_get (m ∷ []) n ≡ Some l))
+        → IsEarlier c k l
     rise i j k l h (inl a) (inl b) = w.rising i j k l a b h
     rise i j k l h (inl a) (inr b) = let g : IsMarked events c records ticks k = w.marked i k a in subst (IsEarlier c k) (last b.0 l b.2) (record {
       events = omega (arith, g.events_low, ee);
@@ -231,7 +262,10 @@ not_longer xs zero = omega arith
 not_longer [] (suc n) = omega arith
 not_longer (x ∷ xs) (suc n) = omega (arith, not_longer xs n)
 
-pub whole_cut : (events : List Planned) (c : Cells) (records : List PathRecord) (ticks : List Tick) (marks : List StoreMark) (i : ℕ) (m : StoreMark) → StoreIsWhole events c records ticks marks → slice_get marks i ≡ Some m → StoreIsWhole (take m.events events) (cut_to m.cells c) (take m.paths records) (take m.ticks ticks) (take i marks) × (paths_of (take m.paths records) ≡ take m.paths (paths_of records))
+pub whole_cut : (events : List Planned) (c : Cells) (records : List PathRecord) (ticks : List Tick)
+    (marks : List StoreMark) (i : ℕ) (m : StoreMark) → StoreIsWhole events c records ticks marks
+    → slice_get marks i ≡ Some m → StoreIsWhole (take m.events events) (cut_to m.cells c) (take m.paths records)
+    (take m.ticks ticks) (take i marks) × (paths_of (take m.paths records) ≡ take m.paths (paths_of records))
 whole_cut events c records ticks marks i m w e = (
   record {
     kept = at.kept;
@@ -273,6 +307,12 @@ whole_cut events c records ticks marks i m w e = (
           ticks_low = shorter ticks l.ticks m.ticks r.ticks g.ticks_low;
           of_cells = subst (λ z. IsMarkOf z l.cells) (sym cs) g.of_cells;
           grown = subst (λ z. Grows z (cut_to m.cells c)) (sym cs) r.of_cells;
-          kept = subst (λ z. RecordsAreKept z (cut_to l.cells (cut_to m.cells c)) (take l.paths (take m.paths records)) (take l.ticks (take m.ticks ticks))) (sym ev) (subst (λ z. RecordsAreKept (take l.events events) z (take l.paths (take m.paths records)) (take l.ticks (take m.ticks ticks))) (sym cs) (subst (λ z. RecordsAreKept (take l.events events) (cut_to l.cells c) z (take l.ticks (take m.ticks ticks))) (sym rs) (subst (RecordsAreKept (take l.events events) (cut_to l.cells c) (take l.paths records)) (sym ts) g.kept)));
+          kept = subst (λ z. RecordsAreKept z (cut_to l.cells (cut_to m.cells c)) (take l.paths (take m.paths records))
+              (take l.ticks (take m.ticks ticks))) (sym ev) (subst
+              (λ z. RecordsAreKept (take l.events events) z (take l.paths (take m.paths records))
+              (take l.ticks (take m.ticks ticks))) (sym cs) (subst
+              (λ z. RecordsAreKept (take l.events events) (cut_to l.cells c) z (take l.ticks (take m.ticks ticks)))
+              (sym rs) (subst (RecordsAreKept (take l.events events) (cut_to l.cells c) (take l.paths records))
+              (sym ts) g.kept)));
           seen = ap paths_of rs ∙ g.seen ∙ sym (ap (take l.paths) at.seen ∙ take_low (paths_of records) l.paths m.paths r.paths);
         }

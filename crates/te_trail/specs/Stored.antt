@@ -49,4 +49,6 @@ abbrev pub coded_mark : Coded Mark
 coded_mark = code_by (ℕ × ℕ) (coded× coded_ℕ coded_ℕ) (λ m. (m.events, m.paths)) (λ p. record { events = p.0; paths = p.1 }) (λ _. refl)
 
 abbrev pub coded_trail : Coded Trail
-coded_trail = code_by (List Member × (List Path × List Mark)) (coded× (coded_list coded_member) (coded× (coded_list coded_path) (coded_list coded_mark))) (λ t. (t.events, (t.paths, t.marks))) (λ p. record { events = p.0; paths = p.1.0; marks = p.1.1 }) (λ _. refl)
+coded_trail = code_by (List Member × (List Path × List Mark))
+    (coded× (coded_list coded_member) (coded× (coded_list coded_path) (coded_list coded_mark)))
+    (λ t. (t.events, (t.paths, t.marks))) (λ p. record { events = p.0; paths = p.1.0; marks = p.1.1 }) (λ _. refl)

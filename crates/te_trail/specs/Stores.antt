@@ -34,7 +34,8 @@ abbrev pub AreMade : List Path → List Path → Type 0
 AreMade moves [] = Unit {0}
 AreMade moves (x ∷ rest) = IsNext moves x × AreMade (with_move moves x) rest
 
--- paths of these events, the oldest first: each is made of earlier ones and stands at a member, each meeting is of agreeing paths and makes both of its ends one after the other, and no path comes twice
+-- paths of these events, the oldest first: each is made of earlier ones and stands at a member, each meeting is of
+-- agreeing paths and makes both of its ends one after the other, and no path comes twice
 pub record IsStore (g : List Member) (paths : List Path) : Type 0 where
   pub made : AreMade [] paths
   pub sound : (x : Path) → Holds paths x → IsSound x

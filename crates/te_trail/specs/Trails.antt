@@ -96,7 +96,9 @@ pub record FaceEachOther (a b : Member) : Type 0 where
   pub receives : receiving b.term ≡ Some message.channel
 
 abbrev pub AreMeetingEnds : Trail → ℕ → ℕ → Type 0
-AreMeetingEnds store p q = (x y : Path) (a b : Member) → slice_get store.paths p ≡ Some x → slice_get store.paths q ≡ Some y → path_state store.events x ≡ Some a → path_state store.events y ≡ Some b → FaceEachOther a b
+AreMeetingEnds store p q = (x y : Path) (a b : Member) → slice_get store.paths p ≡ Some x
+    → slice_get store.paths q ≡ Some y → path_state store.events x ≡ Some a → path_state store.events y ≡ Some b
+    → FaceEachOther a b
 
 abbrev pub AreAgreeing : Trail → ℕ → ℕ → Type 0
 AreAgreeing store p q = (x y : Path) → slice_get store.paths p ≡ Some x → slice_get store.paths q ≡ Some y → Agree x y

@@ -27,7 +27,11 @@ pub fn clocks_name_the_deepest()
 /// past, so no two paths of a store have one name; the name of a path is that of its trail.
 #[doc(hidden)]
 pub fn paths_have_names()
-    ensures own { (g : List Member) (paths : List Path) (p q : Path) (word : List Label) → IsStore g paths → Holds paths p → Holds paths q → HasPast p word → HasPast q word → thread_of p ≡ thread_of q → own_labels p ≡ own_labels q → p ≡ q }
-    ensures name { (g : List Member) (paths : List Path) (p : Path) (m : Member) → IsStore g paths → Holds paths p → member_of (thread_of p) g ≡ Some m → IsPathName g (path_name_of g (thread_of p) (trail_of paths p)) }
-    ensures apart { (g : List Member) (paths : List Path) (p q : Path) → IsStore g paths → Holds paths p → Holds paths q → path_name_of g (thread_of p) (trail_of paths p) ≡ path_name_of g (thread_of q) (trail_of paths q) → p ≡ q }
+    ensures own { (g : List Member) (paths : List Path) (p q : Path) (word : List Label) → IsStore g paths
+        → Holds paths p → Holds paths q → HasPast p word → HasPast q word → thread_of p ≡ thread_of q
+        → own_labels p ≡ own_labels q → p ≡ q }
+    ensures name { (g : List Member) (paths : List Path) (p : Path) (m : Member) → IsStore g paths → Holds paths p
+        → member_of (thread_of p) g ≡ Some m → IsPathName g (path_name_of g (thread_of p) (trail_of paths p)) }
+    ensures apart { (g : List Member) (paths : List Path) (p q : Path) → IsStore g paths → Holds paths p → Holds paths q
+        → path_name_of g (thread_of p) (trail_of paths p) ≡ path_name_of g (thread_of q) (trail_of paths q) → p ≡ q }
 {}

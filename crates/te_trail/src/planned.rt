@@ -52,7 +52,9 @@ impl Planned {
         requires choice { spot.old.stop ≡ Choice }
         ensures grows { Grows cells.old cells.new }
         ensures spot { OnOk result (IsSpot (origin_at self.now) cells.new spot.new) }
-        ensures step { OnOk result (StepsTo (spelled (origin_at self.now) cells.old spot.old) (after_choice left (spelled (origin_at self.now) cells.old spot.old).term) (spelled (origin_at self.now) cells.new spot.new)) }
+        ensures step { OnOk result (StepsTo (spelled (origin_at self.now) cells.old spot.old)
+            (after_choice left (spelled (origin_at self.now) cells.old spot.old).term)
+            (spelled (origin_at self.now) cells.new spot.new)) }
     {
         let posted = Posted {
             code: &self.code,
@@ -69,7 +71,9 @@ impl Planned {
         requires send { IsSome (sending (spelled (origin_at self.now) cells.old spot.old).term) }
         ensures grows { Grows cells.old cells.new }
         ensures spot { OnOk result (IsSpot (origin_at self.now) cells.new spot.new) }
-        ensures step { OnOk result (StepsTo (spelled (origin_at self.now) cells.old spot.old) (after_sending (spelled (origin_at self.now) cells.old spot.old).term) (spelled (origin_at self.now) cells.new spot.new)) }
+        ensures step { OnOk result (StepsTo (spelled (origin_at self.now) cells.old spot.old)
+            (after_sending (spelled (origin_at self.now) cells.old spot.old).term)
+            (spelled (origin_at self.now) cells.new spot.new)) }
     {
         let posted = Posted {
             code: &self.code,
@@ -91,7 +95,9 @@ impl Planned {
         requires receive { IsSome (receiving (spelled (origin_at self.now) cells.old spot.old).term) }
         ensures grows { Grows cells.old cells.new }
         ensures spot { OnOk result (IsSpot (origin_at self.now) cells.new spot.new) }
-        ensures step { OnOk result (StepsTo (spelled (origin_at self.now) cells.old spot.old) (after_receiving value (spelled (origin_at self.now) cells.old spot.old).term) (spelled (origin_at self.now) cells.new spot.new)) }
+        ensures step { OnOk result (StepsTo (spelled (origin_at self.now) cells.old spot.old)
+            (after_receiving value (spelled (origin_at self.now) cells.old spot.old).term)
+            (spelled (origin_at self.now) cells.new spot.new)) }
     {
         let posted = Posted {
             code: &self.code,

@@ -101,14 +101,18 @@ module _ (c0 c1 c2 c3 : Command) (mode budget number : Arg) (none : args_of c0 �
     budget_placed = record {
       within = rw list (omega arith);
       is = λ d. ap (λ l. slice_index_or l 1 d) list;
-      alone = λ j e lt h. alone_second first.arg second.arg third.arg named j e (subst (λ (l : List Arg). j < length l) list lt) (subst (λ (l : List Arg). bytes_eq (slice_index_or l j e).id.now second.arg.id.now ≡ true) list h);
+      alone = λ j e lt h. alone_second first.arg second.arg third.arg named j e
+          (subst (λ (l : List Arg). j < length l) list lt) (subst
+          (λ (l : List Arg). bytes_eq (slice_index_or l j e).id.now second.arg.id.now ≡ true) list h);
       named = λ e. (let bad : codes "budget" ≡ [] = sym named.budget ∙ e in cc);
       own = not_budget_auto second.arg named.budget;
     };
     number_placed = record {
       within = rw list (omega arith);
       is = λ d. ap (λ l. slice_index_or l 2 d) list;
-      alone = λ j e lt h. alone_third first.arg second.arg third.arg named j e (subst (λ (l : List Arg). j < length l) list lt) (subst (λ (l : List Arg). bytes_eq (slice_index_or l j e).id.now third.arg.id.now ≡ true) list h);
+      alone = λ j e lt h. alone_third first.arg second.arg third.arg named j e
+          (subst (λ (l : List Arg). j < length l) list lt) (subst
+          (λ (l : List Arg). bytes_eq (slice_index_or l j e).id.now third.arg.id.now ≡ true) list h);
       named = λ e. (let bad : codes "number" ≡ [] = sym named.number ∙ e in cc);
       own = not_number_auto third.arg named.number;
     };

@@ -28,8 +28,11 @@ abbrev BehindTwo : List Entry → Type 0
 BehindTwo (first ∷ second ∷ rest) = FirstRound first second rest
 BehindTwo _ = Unit {0}
 
-opened : {first second : Entry} {rest : List Entry} (openings : List Entry) (blocks : List (List Entry)) (closing later : List Entry) → OpensFrom 0 (idle ∷ idle ∷ []) openings → AllByRecursion IsBlock blocks
-    → ¬ CanCommit (parked_list (state 2 (openings ++ joined blocks))) → ClosesSo (state 2 (openings ++ joined blocks)) closing → ((openings ++ joined blocks) ++ closing) ++ later ≡ first ∷ second ∷ rest
+opened : {first second : Entry} {rest : List Entry} (openings : List Entry) (blocks : List (List Entry))
+    (closing later : List Entry) → OpensFrom 0 (idle ∷ idle ∷ []) openings → AllByRecursion IsBlock blocks
+    → ¬ CanCommit (parked_list (state 2 (openings ++ joined blocks)))
+    → ClosesSo (state 2 (openings ++ joined blocks)) closing
+    → ((openings ++ joined blocks) ++ closing) ++ later ≡ first ∷ second ∷ rest
     → FirstRound first second rest
 opened [] blocks closing later opens are none closes e = absurd opens
 opened (x ∷ []) blocks closing later opens are none closes e = absurd opens.1
@@ -86,7 +89,8 @@ block_apart b bs closing later = ap (λ xs. xs ++ later) (append_assoc b (joined
 pub some_block : {first second : Entry} {rest : List Entry} → CanCommit (parked_list (state 2 (first ∷ second ∷ []))) → FirstRound first second rest
     → (block : List Entry) × (more : List Entry) × IsBlock block × (block ++ more ≡ rest)
 some_block {first} {second} {rest} can r = among r.blocks r.closing r.later r.are_blocks r.none_left r.parts where
-  among : (blocks : List (List Entry)) (closing later : List Entry) → AllByRecursion IsBlock blocks → ¬ CanCommit (parked_list (state 2 (first ∷ second ∷ joined blocks))) → (joined blocks ++ closing) ++ later ≡ rest
+  among : (blocks : List (List Entry)) (closing later : List Entry) → AllByRecursion IsBlock blocks
+      → ¬ CanCommit (parked_list (state 2 (first ∷ second ∷ joined blocks))) → (joined blocks ++ closing) ++ later ≡ rest
       → (block : List Entry) × (more : List Entry) × IsBlock block × (block ++ more ≡ rest)
   among [] closing later are none e = absurd (none can)
   among (b ∷ bs) closing later are none e =

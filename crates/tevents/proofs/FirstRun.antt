@@ -52,7 +52,9 @@ pub record IsLeft (threads : List Thread) (board : BoardLog) (cores : List At) :
   pub each : AllByRecursion MayAppend board.entries
   pub texts : texts_of cores ≡ threads
 
-pub left : (threads : List Thread) (old : BoardLog) (before : List At) (new : BoardLog) (after : List At) → old ≡ record { callers = length threads; entries = [] } → before ≡ fresh_cores threads → Continues old before new after → IsLeft threads new after
+pub left : (threads : List Thread) (old : BoardLog) (before : List At) (new : BoardLog) (after : List At)
+    → old ≡ record { callers = length threads; entries = [] } → before ≡ fresh_cores threads
+    → Continues old before new after → IsLeft threads new after
 left threads old before new after is fresh c =
     let texts : texts_of after ≡ threads = c.texts ∙ ap texts_of fresh ∙ texts_are threads in
     let entries_are : new.entries ≡ c.entries = ap (λ b. b.entries) c.grows ∙ ap (λ (b : BoardLog). b.entries ++ c.entries) is in
@@ -76,7 +78,8 @@ tight_of (entries.End by how ∷ es) h = (tt, tight_of es h.1)
 
 -- ---- how a run has ended
 
-module _ (budget : ℕ) (script : Program) (board : BoardLog) (cores : List At) (is : IsLeft script.threads board cores) (legal : IsLegal board.callers board.entries) (few : length board.entries ≤ 200000) where
+module _ (budget : ℕ) (script : Program) (board : BoardLog) (cores : List At) (is : IsLeft script.threads board cores)
+    (legal : IsLegal board.callers board.entries) (few : length board.entries ≤ 200000) where
   legal_so : IsLegal (length script.threads) board.entries
   legal_so = subst (λ (n : ℕ). IsLegal n board.entries) is.callers legal
 
@@ -94,7 +97,14 @@ module _ (budget : ℕ) (script : Program) (board : BoardLog) (cores : List At) 
   }
 
   pub fills : LacksRoom board (texts_of cores) → RunEndsSo budget script board.entries endings.Full
-  fills lacks = (stopped, subst (λ (ts : List Thread). LacksRoom (record { callers = length script.threads; entries = board.entries }) ts) is.texts (subst (λ (n : ℕ). LacksRoom (record { callers = n; entries = board.entries }) (texts_of cores)) is.callers lacks))
+  fills lacks = (
+    stopped,
+    subst (λ (ts : List Thread). LacksRoom
+        (record { callers = length script.threads; entries = board.entries }) ts) is.texts
+        (subst (λ (n : ℕ). LacksRoom (record { callers = n; entries = board.entries }) (texts_of cores)) is.callers lacks),
+  )
 
-  pub spends : (front paths groups : ℕ) → front ≡ length board.entries → IsUsedUp (parked_list (state board.callers board.entries)) budget paths groups → RunEndsSo budget script board.entries (endings.Spent front paths groups)
+  pub spends : (front paths groups : ℕ) → front ≡ length board.entries
+      → IsUsedUp (parked_list (state board.callers board.entries)) budget paths groups
+      → RunEndsSo budget script board.entries (endings.Spent front paths groups)
   spends front paths groups at used = (stopped, at, subst (λ (n : ℕ). IsUsedUp (parked_list (state n board.entries)) budget paths groups) is.callers used)

@@ -18,7 +18,8 @@ all_each P f (suc n) p = AllByRecursion-append P (each f n) (f n) (all_each P f 
 
 pub none_generated : (number : ℕ) → HasNoRepeats (generated number)
 none_generated number = all_each HasNoRepeat (generated_thread (rounds_of number)) (3 * rings_of number)
-    (λ t. AllByRecursion-append IsNoRepeat (each (λ round. sync 0 (event_of t round)) (rounds_of number)) _ (all_each IsNoRepeat (λ round. sync 0 (event_of t round)) (rounds_of number) (λ round. tt)) tt)
+    (λ t. AllByRecursion-append IsNoRepeat (each (λ round. sync 0 (event_of t round)) (rounds_of number)) _
+    (all_each IsNoRepeat (λ round. sync 0 (event_of t round)) (rounds_of number) (λ round. tt)) tt)
 
 -- ---- the summary of a run
 

@@ -32,7 +32,9 @@ found_in id (e ∷ es) (zero, lt, same) = go (bytes_eq e.0.now id) (same e)
     go false h = cc
 found_in id (e ∷ es) (suc i, lt, same) = go (found_in id es (i, omega (lt, arith), same)) (bytes_eq e.0.now id)
   where
-    go : (x : MatchedArg) × (option_map (λ (y : Entry). y.1) (find (λ y. bytes_eq y.0.now id) es) ≡ Some x) → (o : Bool) → (x : MatchedArg) × (option_map (λ (y : Entry). y.1) (cond o (Some e) (find (λ y. bytes_eq y.0.now id) es)) ≡ Some x)
+    go : (x : MatchedArg) × (option_map (λ (y : Entry). y.1) (find (λ y. bytes_eq y.0.now id) es) ≡ Some x) → (o : Bool)
+        → (x : MatchedArg) × (option_map (λ (y : Entry). y.1) (cond o (Some e) (find (λ y. bytes_eq y.0.now id) es))
+        ≡ Some x)
     go later true = (e.1, refl)
     go later false = later
 
@@ -77,7 +79,8 @@ module _ (old : Command) (m : ArgMatches) (p : IsParsedFrom old m) (parsed : IsP
       let wants2 : WantsDefault (slice_index_or (args_of p.built) k a) = (kept.1.ifs ∙ wants.0, rw (kept.1.defaults wants.1) wants.1) in
       subst (λ (i : List ℕ). HasId (found_of m) i) (ap (λ i. i.now) (kept.1.id ∙ ap (λ (b : Arg). b.id) old_is)) (parsed.defaults k a kept.0 wants2)
 
-  one_text_is : (x : MatchedArg) → matched_of (found_of m) a.id.now ≡ Some x → x.reading ≡ readings.AsWritten → (v : Bor (List ℕ)) → slice_get x.vals.items 0 ≡ Some v → one_text (found_of m) a.id.now ≡ Some v.now
+  one_text_is : (x : MatchedArg) → matched_of (found_of m) a.id.now ≡ Some x → x.reading ≡ readings.AsWritten
+      → (v : Bor (List ℕ)) → slice_get x.vals.items 0 ≡ Some v → one_text (found_of m) a.id.now ≡ Some v.now
   one_text_is x found is v first =
       ap (option_and_then (λ (y : MatchedArg). option_map (λ (s : Bor (List ℕ)). read_as y.reading s.now) (slice_get y.vals.items 0))) found
       ∙ ap (option_map (λ (s : Bor (List ℕ)). read_as x.reading s.now)) first ∙ ap (λ (r : Reading). Some (read_as r v.now)) is
@@ -113,8 +116,12 @@ module _ (old : Command) (m : ArgMatches) (p : IsParsedFrom old m) (parsed : IsP
         | inl g ↦ absurd (no_group g)
         | inr h ↦ reads e.1.reading (subst (λ (w : List ℕ). HasReading p.built w e.1.reading) key h)
       ] in
-      let head : (v : Bor (List ℕ)) × (slice_get e.1.vals.items 0 ≡ Some v) × PassesArg p.built a.id.now v.now = head_of (λ v. PassesArg p.built a.id.now v.now) e.1.vals.items filled all in
-      (head.0.now, one_text_is x found (subst (λ (y : MatchedArg). y.reading ≡ readings.AsWritten) same is) head.0 (subst (λ (y : MatchedArg). slice_get y.vals.items 0 ≡ Some head.0) same head.1), accepts head.0.now head.2)
+      let head : (v : Bor (List ℕ)) × (slice_get e.1.vals.items 0 ≡ Some v) × PassesArg p.built a.id.now v.now = head_of (λ v. PassesArg p.built a.id.now v.now) e.1.vals.items filled all in (
+        head.0.now,
+        one_text_is x found (subst (λ (y : MatchedArg). y.reading ≡ readings.AsWritten) same is) head.0
+            (subst (λ (y : MatchedArg). slice_get y.vals.items 0 ≡ Some head.0) same head.1),
+        accepts head.0.now head.2,
+      )
 
   pub number_given : (t : List ℕ) × (one_text (found_of m) a.id.now ≡ Some t) × IsUnsignedIn low high t
   number_given =

@@ -1,5 +1,7 @@
 -- A board has room for every post of a script without repeats: a thread posts at most once for each of its syncs.
-use Rattle.std.proofs.Common.{◌≡◌, ◌≢◌, ◌⊎◌, ◌∙◌, ◌<◌, ◌≤◌, ◌+◌, ◌*◌, ℕ, zero, suc, Bool, true, false, List, [], ◌∷◌, ◌++◌, length, Some, None, Option, Result, Ok, Err, refl, ap, sym, subst, inl, inr, arith, nat_eq, eq-eqb, cond}
+use Rattle.std.proofs.Common.{◌≡◌, ◌≢◌, ◌⊎◌, ◌∙◌, ◌<◌, ◌≤◌, ◌+◌, ◌*◌, ℕ, zero, suc, Bool, true, false, List, [], ◌∷◌}
+use Rattle.std.proofs.Common.{◌++◌, length, Some, None, Option, Result, Ok, Err, refl, ap, sym, subst, inl, inr, arith}
+use Rattle.std.proofs.Common.{nat_eq, eq-eqb, cond}
 use Rattle.std.specs.Prelude.{slice_get, slice_set}
 use Rattle.std.specs.List.{AllByRecursion}
 use Rattle.std.proofs.lemmas.Bool.{cases_lt, ne_eqb}
@@ -37,7 +39,8 @@ syncs_in [] = 0
 syncs_in (syncing at r t ∷ ss) = suc (syncs_in ss)
 syncs_in (emitting at e ∷ ss) = syncs_in ss
 
-reached_within : (by : Variable → Variable) (emitted : List (List Atom)) (ss : List Step) (outs : List Outcome) (at : _) (t : Term) → (reached_by by emitted ss outs).does ≡ synchronises at t → length outs < syncs_in ss
+reached_within : (by : Variable → Variable) (emitted : List (List Atom)) (ss : List Step) (outs : List Outcome) (at : _)
+    (t : Term) → (reached_by by emitted ss outs).does ≡ synchronises at t → length outs < syncs_in ss
 reached_within by emitted [] outs at t e = cc
 reached_within by emitted (emitting place x ∷ rest) outs at t e = go (value_of (in_expression by x)) (λ more h. reached_within by more rest outs at t h) e
   where
@@ -87,15 +90,22 @@ pub sum_post : (n by ticket : ℕ) (event : Term) (h : List Entry) → by < n �
 sum_post zero by ticket event h lt = absurd (omega (arith, lt))
 sum_post (suc n) by ticket event h lt = go (cases_lt by n) (λ low. sum_post n by ticket event h low)
   where
-    go : (by < n) ⊎ (n ≤ by) → (by < n → sum_posts n (h ++ entries.Post by ticket event ∷ []) ≡ suc (sum_posts n h)) → sum_posts n (h ++ entries.Post by ticket event ∷ []) + posts_by n (h ++ entries.Post by ticket event ∷ []) ≡ suc (sum_posts n h + posts_by n h)
+    go : (by < n) ⊎ (n ≤ by) → (by < n → sum_posts n (h ++ entries.Post by ticket event ∷ []) ≡ suc (sum_posts n h))
+        → sum_posts n (h ++ entries.Post by ticket event ∷ []) + posts_by n (h ++ entries.Post by ticket event ∷ []) ≡ suc
+        (sum_posts n h + posts_by n h)
     go (inl low) below =
         let later = below low in
-        let here : posts_by n (h ++ entries.Post by ticket event ∷ []) ≡ posts_by n h = posts_by-after n h (entries.Post by ticket event) ∙ rw (not_by n by ticket event (λ e. omega (arith, e, low))) refl in
+        let here : posts_by n (h ++ entries.Post by ticket event ∷ []) ≡ posts_by n h =
+        posts_by-after n h (entries.Post by ticket event)
+        ∙ rw (not_by n by ticket event (λ e. omega (arith, e, low))) refl in
         omega (arith, later, here)
     go (inr high) below =
         let same : by ≡ n = omega (arith, lt, high) in
         let later = sum_other n h (entries.Post by ticket event) (λ t low. not_by t by ticket event (λ e. omega (arith, e, low, same))) in
-        let here : posts_by n (h ++ entries.Post by ticket event ∷ []) ≡ suc (posts_by n h) = posts_by-after n h (entries.Post by ticket event) ∙ subst (λ (b : ℕ). counted (is_post_by n (entries.Post b ticket event)) (posts_by n h) ≡ suc (posts_by n h)) (sym same) (rw (is_by n ticket event) refl) in
+        let here : posts_by n (h ++ entries.Post by ticket event ∷ []) ≡ suc (posts_by n h) =
+        posts_by-after n h (entries.Post by ticket event) ∙ subst
+        (λ (b : ℕ). counted (is_post_by n (entries.Post b ticket event)) (posts_by n h) ≡ suc (posts_by n h))
+        (sym same) (rw (is_by n ticket event) refl) in
         omega (arith, later, here)
 
 sum_few : (most n : ℕ) (h : List Entry) → ((t : ℕ) → t < n → posts_by t h ≤ most) → sum_posts n h ≤ n * most

@@ -15,7 +15,8 @@ unfolding digits
 exchange_report = refl
 
 pub filter_report : report_text second filter.script filter.history endings.Closed
-    ≡ codes "tevents report 2\n1 post r 0 at 1.0\n2 post s 0 at 1.0\n3 post t 0 at 1.0\n4 commit r: r.0[]=(5) t.0[]=(); t>r\n5 take r 0 =(5)\n6 take t 0 =()\n7 end r done (5)\n8 end t done\n9 stuck s\n10 end s stuck\nclosed 10\n"
+    ≡ codes
+    "tevents report 2\n1 post r 0 at 1.0\n2 post s 0 at 1.0\n3 post t 0 at 1.0\n4 commit r: r.0[]=(5) t.0[]=(); t>r\n5 take r 0 =(5)\n6 take t 0 =()\n7 end r done (5)\n8 end t done\n9 stuck s\n10 end s stuck\nclosed 10\n"
 unfolding digits
 filter_report = refl
 

@@ -32,9 +32,8 @@ use Rattle.te_report.specs.declared.ending.Ending.TheVariants as endings
 use Rattle.tevents.specs.SerialRuns.{IsStopped, RunEndsSo}
 use Rattle.tevents.specs.Repeats.{HasNoRepeat, HasNoRepeats}
 use Rattle.tevents.proofs.PostsCounted.{syncs_in, wish_within, syncs_within, sum_posts, sum_other, sum_post, sum_fewer, not_by, is_by, same_or_apart}
-use Rattle.te_terms.proofs.Lists.{eq_same}
+use Rattle.te_terms.proofs.Lists.{eq_same, all_at}
 use Rattle.te_board.proofs.Reserving.{idle_room}
-use Rattle.te_terms.proofs.Lists.{all_at}
 use Rattle.te_history.proofs.GivenOnce.{all_idle}
 
 -- how often a caller has posted, and how many outcomes it has taken, by where it stands
@@ -55,7 +54,8 @@ pub record IsCounted (callers : ℕ) (threads : List Thread) (h : List Entry) : 
 abbrev IsSameOrGiven : State → ℕ → Standing → Type 0
 IsSameOrGiven s t x = Stands s t x ⊎ ((ticket : ℕ) × (outcome : Outcome) × (k : ℕ) × (event : Term) × (x ≡ given ticket outcome) × Stands s t (parked k event))
 
-given_stands : (s : State) (ms : List Member) (gs : List steps.Member) (os : List Outcome) (t : ℕ) (x : Standing) → ThreadsRise ms → AreEvents s ms gs → Stands (with_given ms os s) t x → IsSameOrGiven s t x
+given_stands : (s : State) (ms : List Member) (gs : List steps.Member) (os : List Outcome) (t : ℕ) (x : Standing)
+    → ThreadsRise ms → AreEvents s ms gs → Stands (with_given ms os s) t x → IsSameOrGiven s t x
 given_stands s [] gs os t x rise events st = inl st
 given_stands s (m ∷ ms) gs [] t x rise events st = inl st
 given_stands s (m ∷ ms) [] (o ∷ os) t x rise events st = absurd events
@@ -89,7 +89,9 @@ module _ (callers : ℕ) (threads : List Thread) (h : List Entry) (c : IsCounted
   s = state callers h
 
   -- an entry that is no post and no take of this caller
-  still : (t : ℕ) (x : Standing) (e : Entry) → is_post_by t e ≡ false → taken_from t e [] ≡ [] → PostsAs x (posts_by t h) (length (taken t h)) → PostsAs x (posts_by t (h ++ e ∷ [])) (length (taken t (h ++ e ∷ [])))
+  still : (t : ℕ) (x : Standing) (e : Entry) → is_post_by t e ≡ false → taken_from t e [] ≡ []
+      → PostsAs x (posts_by t h) (length (taken t h)) → PostsAs x (posts_by t (h ++ e ∷ []))
+      (length (taken t (h ++ e ∷ [])))
   still t x e a b p =
       let posts : posts_by t (h ++ e ∷ []) ≡ posts_by t h = posts_by-after t h e ∙ rw a refl in
       subst (λ (n : ℕ). PostsAs x n (length (taken t (h ++ e ∷ [])))) (sym posts) (subst (λ (o : List Outcome). PostsAs x (posts_by t h) (length o)) (sym (taken_same t h e b)) p)
@@ -108,7 +110,8 @@ module _ (callers : ℕ) (threads : List Thread) (h : List Entry) (c : IsCounted
 
   -- ---- a post
 
-  module _ (by ticket : ℕ) (event : Term) (follows : LooselyFollows callers h (entries.Post by ticket event)) (text : Thread) (has : slice_get threads by ≡ Some text) (wished : wish text (taken by h) ≡ syncs event) where
+  module _ (by ticket : ℕ) (event : Term) (follows : LooselyFollows callers h (entries.Post by ticket event))
+      (text : Thread) (has : slice_get threads by ≡ Some text) (wished : wish text (taken by h) ≡ syncs event) where
     abbrev the_post : Entry
     the_post = entries.Post by ticket event
 
@@ -127,10 +130,15 @@ module _ (callers : ℕ) (threads : List Thread) (h : List Entry) (c : IsCounted
         go : (by ≡ t) ⊎ (by ≡ t → ⊥) → PostsAs x (posts_by t (h ++ the_post ∷ [])) (length (taken t (h ++ the_post ∷ [])))
         go (inl same) =
             let at : slice_get (slice_set s.callers by (parked ticket event)) by ≡ Some (parked ticket event) = get_set_same s.callers by idle (parked ticket event) follows.1 in
-            let is : x ≡ parked ticket event = some_is x (parked ticket event) (sym here ∙ subst (λ (u : ℕ). slice_get (slice_set s.callers by (parked ticket event)) u ≡ Some (parked ticket event)) same at) in
+            let is : x ≡ parked ticket event = some_is x (parked ticket event)
+            (sym here ∙ subst (λ (u : ℕ). slice_get (slice_set s.callers by (parked ticket event)) u ≡ Some
+            (parked ticket event)) same at) in
             let takes : taken by (h ++ the_post ∷ []) ≡ taken by h = taken_same by h the_post refl in
             let counts : posts_by by (h ++ the_post ∷ []) ≡ suc (length (taken by (h ++ the_post ∷ []))) = posts_more ∙ ap suc posts_are ∙ ap (λ (o : List Outcome). suc (length o)) (sym takes) in
-            subst (λ (y : Standing). PostsAs y (posts_by t (h ++ the_post ∷ [])) (length (taken t (h ++ the_post ∷ [])))) (sym is) (subst (λ (u : ℕ). posts_by u (h ++ the_post ∷ []) ≡ suc (length (taken u (h ++ the_post ∷ [])))) same counts)
+            subst (λ (y : Standing). PostsAs y (posts_by t (h ++ the_post ∷ []))
+            (length (taken t (h ++ the_post ∷ [])))) (sym is)
+            (subst (λ (u : ℕ). posts_by u (h ++ the_post ∷ []) ≡ suc (length (taken u (h ++ the_post ∷ [])))) same
+            counts)
           where
             some_is : (a b : Standing) → Some a ≡ Some b → a ≡ b
             some_is a b q = cc
@@ -141,14 +149,18 @@ module _ (callers : ℕ) (threads : List Thread) (h : List Entry) (c : IsCounted
       where
         go : (by ≡ t) ⊎ (by ≡ t → ⊥) → posts_by t (h ++ the_post ∷ []) ≤ syncs_in (flat other)
         go (inl same) =
-            let here : posts_by t (h ++ the_post ∷ []) ≡ suc (length (taken by h)) = subst (λ (u : ℕ). posts_by u (h ++ the_post ∷ []) ≡ suc (length (taken by h))) same (posts_more ∙ ap suc posts_are) in
+            let here : posts_by t (h ++ the_post ∷ []) ≡ suc (length (taken by h)) =
+            subst (λ (u : ℕ). posts_by u (h ++ the_post ∷ []) ≡ suc (length (taken by h))) same
+            (posts_more ∙ ap suc posts_are) in
             let texts : text ≡ other = some_is text other (sym has ∙ subst (λ (u : ℕ). slice_get threads u ≡ Some other) (sym same) is) in
             let within : length (taken by h) < syncs_in (flat other) = subst (λ (y : Thread). length (taken by h) < syncs_in (flat y)) texts (wish_within text (taken by h) event wished) in
             omega (arith, here, within)
           where
             some_is : (a b : Thread) → Some a ≡ Some b → a ≡ b
             some_is a b q = cc
-        go (inr apart) = let posts : posts_by t (h ++ the_post ∷ []) ≡ posts_by t h = posts_by-after t h the_post ∙ rw (not_by t by ticket event apart) refl in let old = c.few t other is in omega (arith, posts, old)
+        go (inr apart) = let posts : posts_by t (h ++ the_post ∷ []) ≡ posts_by t h =
+            posts_by-after t h the_post ∙ rw (not_by t by ticket event apart) refl in let old = c.few t other is in
+            omega (arith, posts, old)
 
     by_within : by < callers
     by_within = within (cases_lt by callers)
@@ -195,7 +207,9 @@ module _ (callers : ℕ) (threads : List Thread) (h : List Entry) (c : IsCounted
             let takes : taken by (h ++ the_take ∷ []) ≡ taken by h ++ (outcome ∷ []) = taken_more by h the_take ∙ ap (λ (os : List Outcome). taken by h ++ os) (mine by) in
             let more : length (taken by (h ++ the_take ∷ [])) ≡ length (taken by h) + 1 = ap length takes ∙ length-append (taken by h) (outcome ∷ []) in
             let counts : posts_by by (h ++ the_take ∷ []) ≡ length (taken by (h ++ the_take ∷ [])) = omega (arith, posts, was, more) in
-            subst (λ (y : Standing). PostsAs y (posts_by t (h ++ the_take ∷ [])) (length (taken t (h ++ the_take ∷ [])))) (sym is) (subst (λ (u : ℕ). posts_by u (h ++ the_take ∷ []) ≡ length (taken u (h ++ the_take ∷ []))) same counts)
+            subst (λ (y : Standing). PostsAs y (posts_by t (h ++ the_take ∷ []))
+            (length (taken t (h ++ the_take ∷ [])))) (sym is)
+            (subst (λ (u : ℕ). posts_by u (h ++ the_take ∷ []) ≡ length (taken u (h ++ the_take ∷ []))) same counts)
           where
             some_is : (a b : Standing) → Some a ≡ Some b → a ≡ b
             some_is a b q = cc
@@ -228,7 +242,9 @@ module _ (callers : ℕ) (threads : List Thread) (h : List Entry) (c : IsCounted
             set_either (w ∷ ws) zero y z q = cc
             set_either (w ∷ ws) (suc i) y z q = set_either ws i y z q
 
-            ends_so : (z : Standing) → slice_get (slice_set s.callers by ended) by ≡ Some z → ((z : Standing) → slice_get (slice_set s.callers by ended) by ≡ Some z → z ≡ ended) → PostsAs z (posts_by t (h ++ the_end ∷ [])) (length (taken t (h ++ the_end ∷ [])))
+            ends_so : (z : Standing) → slice_get (slice_set s.callers by ended) by ≡ Some z
+                → ((z : Standing) → slice_get (slice_set s.callers by ended) by ≡ Some z → z ≡ ended)
+                → PostsAs z (posts_by t (h ++ the_end ∷ [])) (length (taken t (h ++ the_end ∷ [])))
             ends_so z q f = subst (λ (y : Standing). PostsAs y (posts_by t (h ++ the_end ∷ [])) (length (taken t (h ++ the_end ∷ [])))) (sym (f z q)) tt
         go (inr apart) = still t x the_end refl refl (c.each t x (sym (get_set_other s.callers by t ended apart) ∙ here))
 
@@ -237,7 +253,9 @@ module _ (callers : ℕ) (threads : List Thread) (h : List Entry) (c : IsCounted
 
   -- ---- an entry after which all stand as they did
 
-  stood : (e : Entry) → ((t : ℕ) → is_post_by t e ≡ false) → ((t : ℕ) → taken_from t e [] ≡ []) → ((by ticket : ℕ) (event : Term) → e ≢ entries.Post by ticket event) → (changed s e).callers ≡ s.callers → LooselyFollows callers h e → IsCounted callers threads (h ++ e ∷ [])
+  stood : (e : Entry) → ((t : ℕ) → is_post_by t e ≡ false) → ((t : ℕ) → taken_from t e [] ≡ [])
+      → ((by ticket : ℕ) (event : Term) → e ≢ entries.Post by ticket event) → (changed s e).callers ≡ s.callers
+      → LooselyFollows callers h e → IsCounted callers threads (h ++ e ∷ [])
   stood e none takes other same follows = record {
     each = λ t x st. still t x e (none t) (takes t) (c.each t x (subst (λ (cs : List Standing). slice_get cs t ≡ Some x) same (subst (λ (z : State). Stands z t x) (state-after callers h e) st)));
     few = few_still e none;
@@ -265,11 +283,15 @@ module _ (callers : ℕ) (threads : List Thread) (h : List Entry) (c : IsCounted
 -- ---- every history
 
 -- a post has the event of the wish of its thread's text
-posts_wish : (o : Option Thread) (outs : List Outcome) (by ticket : ℕ) (event : Term) → WishedBy o outs (entries.Post by ticket event) → (text : Thread) × (o ≡ Some text) × (wish text outs ≡ syncs event)
+posts_wish : (o : Option Thread) (outs : List Outcome) (by ticket : ℕ) (event : Term)
+    → WishedBy o outs (entries.Post by ticket event) → (text : Thread) × (o ≡ Some text)
+    × (wish text outs ≡ syncs event)
 posts_wish (Some text) outs by ticket event w = (text, refl, w)
 posts_wish None outs by ticket event w = absurd w
 
-step : (callers : ℕ) (threads : List Thread) (h : List Entry) (e : Entry) → LooselyFollows callers h e → WishedBy (slice_get threads (caller_of e)) (taken (caller_of e) h) e → MayAppend e → IsCounted callers threads h → IsCounted callers threads (h ++ e ∷ [])
+step : (callers : ℕ) (threads : List Thread) (h : List Entry) (e : Entry) → LooselyFollows callers h e
+    → WishedBy (slice_get threads (caller_of e)) (taken (caller_of e) h) e → MayAppend e → IsCounted callers threads h
+    → IsCounted callers threads (h ++ e ∷ [])
 step callers threads h (entries.Post by ticket event) follows wished may c =
     let w = posts_wish (slice_get threads by) (taken by h) by ticket event wished in posted callers threads h c by ticket event follows w.0 w.1 w.2
 step callers threads h (entries.Commit by cert outcomes) follows wished may c = committed callers threads h c by cert outcomes follows
@@ -290,7 +312,8 @@ at_first callers threads = record {
   room = let all = idle_room callers in omega (arith, all);
 }
 
-pub counted_all : (callers : ℕ) (threads : List Thread) (history : List Entry) → IsLoose callers history → WishedFrom threads [] history → AllByRecursion MayAppend history → IsCounted callers threads history
+pub counted_all : (callers : ℕ) (threads : List Thread) (history : List Entry) → IsLoose callers history
+    → WishedFrom threads [] history → AllByRecursion MayAppend history → IsCounted callers threads history
 counted_all callers threads history loose wished may =
     grows_wished callers threads (λ h. AllByRecursion MayAppend h → IsCounted callers threads h)
     (λ h the_commit follows w ih all. (let parts = front_of MayAppend h the_commit all in step callers threads h the_commit follows w parts.1 (ih parts.0)))

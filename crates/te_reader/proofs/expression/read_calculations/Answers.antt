@@ -36,7 +36,9 @@ pub loop-i-preserved : goal.loop-i-preserved
 loop-i-preserved c =
     let at : c.loop-i.i < length c.loop-i.list = omega (arith, c.loop-i.invariant.2) in (
       (rw (stored c.loop-i.list c.loop-i.i c.in_ok-calculation.calculation at)
-          (more_calculations 4 c.loop-i.i _ _ _ _ c.loop-i-test.true c.loop-i.invariant.0 _ _ c.in_ok-calculation.ensures.0 _ c.if-take_sign.ensures.0 (rw c.if-take_sign.ensures.1 at c.if-not-take_sign.ensures.0))),
+          (more_calculations 4 c.loop-i.i _ _ _ _ c.loop-i-test.true c.loop-i.invariant.0 _ _
+          c.in_ok-calculation.ensures.0 _ c.if-take_sign.ensures.0
+          (rw c.if-take_sign.ensures.1 at c.if-not-take_sign.ensures.0))),
       c.if-not-take_sign.ensures.1 ∙ ap (λ s. s.whole) c.if-take_sign.ensures.1 ∙ c.in_ok-calculation.ensures.1 ∙ c.loop-i.invariant.1,
       length-set c.loop-i.list c.loop-i.i (c.in_ok-calculation.calculation) ∙ c.loop-i.invariant.2,
     )

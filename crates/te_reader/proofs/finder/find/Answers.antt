@@ -21,7 +21,8 @@ returns-in_default-2 c =
     let picked : IsPickedAs None c.pop.new.self c.next_form.new.wanted (pick c.in-Some.part (lexeme_head here.lexeme) here.dotted) =
     subst (λ (o : Option declared.Form). IsPickedAs o c.pop.new.self c.next_form.new.wanted (pick c.in-Some.part (lexeme_head here.lexeme) here.dotted)) c.in_default-2.is c.in_ok-form.ensures in
     ap (λ k. Some (found k here.left)) c.misfit-in_default-2.ensures
-    ∙ sym (no_form c.tokens.context (lexeme_head here.lexeme) here.dotted here.left c.in-Some.part c.pop.new.self c.next_form.new.wanted c.tokens.wanted c.tokens.scanner some c.look-here.ensures picked) ∙ c.tokens.invariant
+    ∙ sym (no_form c.tokens.context (lexeme_head here.lexeme) here.dotted here.left c.in-Some.part c.pop.new.self
+    c.next_form.new.wanted c.tokens.wanted c.tokens.scanner some c.look-here.ensures picked) ∙ c.tokens.invariant
 
 pub returns-in-Some-fault : goal.returns-in-Some-fault
 returns-in-Some-fault c =
@@ -31,7 +32,9 @@ returns-in-Some-fault c =
     let picked : IsPickedAs (Some form) c.pop.new.self c.next_form.new.wanted (pick c.in-Some.part (lexeme_head here.lexeme) here.dotted) =
     subst (λ (o : Option declared.Form). IsPickedAs o c.pop.new.self c.next_form.new.wanted (pick c.in-Some.part (lexeme_head here.lexeme) here.dotted)) c.in-Some-2.is c.in_ok-form.ensures in
     let broken : first_broken (rules_of form.role c.tokens.context (lexeme_head here.lexeme)) ≡ Some c.in-Some-fault.cause = sym c.fault.ensures ∙ c.in-Some-fault.is in
-    sym (broken_rule c.tokens.context (lexeme_head here.lexeme) here.dotted here.left c.in-Some.part form c.pop.new.self c.next_form.new.wanted c.tokens.wanted c.tokens.scanner c.in-Some-fault.cause some c.look-here.ensures picked broken) ∙ c.tokens.invariant
+    sym (broken_rule c.tokens.context (lexeme_head here.lexeme) here.dotted here.left c.in-Some.part form c.pop.new.self
+    c.next_form.new.wanted c.tokens.wanted c.tokens.scanner c.in-Some-fault.cause some c.look-here.ensures picked
+    broken) ∙ c.tokens.invariant
 
 pub returns-then-is_end : goal.returns-then-is_end
 returns-then-is_end c =
@@ -42,7 +45,9 @@ returns-then-is_end c =
     subst (λ (o : Option declared.Form). IsPickedAs o c.pop.new.self c.next_form.new.wanted (pick c.in-Some.part (lexeme_head here.lexeme) here.dotted)) c.in-Some-2.is c.in_ok-form.ensures in
     let kept : first_broken (rules_of form.role c.tokens.context (lexeme_head here.lexeme)) ≡ None = sym c.fault.ensures ∙ c.in_default-fault.is in
     let last : is_end (lexeme_head here.lexeme) ≡ true = sym c.is_end.ensures ∙ c.if-is_end.true in
-    sym (ended_there c.tokens.context (lexeme_head here.lexeme) here.dotted here.left c.in-Some.part form c.pop.new.self c.next_form.new.wanted c.tokens.wanted c.tokens.scanner some c.look-here.ensures picked kept last) ∙ c.tokens.invariant
+    sym (ended_there c.tokens.context (lexeme_head here.lexeme) here.dotted here.left c.in-Some.part form c.pop.new.self
+    c.next_form.new.wanted c.tokens.wanted c.tokens.scanner some c.look-here.ensures picked kept last)
+    ∙ c.tokens.invariant
 
 pub tokens-preserved : goal.tokens-preserved
 tokens-preserved c =
@@ -53,5 +58,7 @@ tokens-preserved c =
     subst (λ (o : Option declared.Form). IsPickedAs o c.pop.new.self c.next_form.new.wanted (pick c.in-Some.part (lexeme_head here.lexeme) here.dotted)) c.in-Some-2.is c.in_ok-form.ensures in
     let kept : first_broken (rules_of form.role c.tokens.context (lexeme_head here.lexeme)) ≡ None = sym c.fault.ensures ∙ c.in_default-fault.is in
     let more : is_end (lexeme_head here.lexeme) ≡ false = sym c.is_end.ensures ∙ c.if-is_end.false in
-    sym (went_on c.tokens.context (lexeme_head here.lexeme) here.dotted here.left c.in-Some.part form c.pop.new.self c.next_form.new.wanted c.tokens.wanted c.want.new.wanted c.tokens.scanner c.advance.new.self c.pass.new.self some c.look-here.ensures picked kept more
+    sym (went_on c.tokens.context (lexeme_head here.lexeme) here.dotted here.left c.in-Some.part form c.pop.new.self
+    c.next_form.new.wanted c.tokens.wanted c.want.new.wanted c.tokens.scanner c.advance.new.self c.pass.new.self some
+    c.look-here.ensures picked kept more
     c.in_ok-pass.ensures c.in_ok-want.ensures c.advance.ensures) ∙ c.tokens.invariant

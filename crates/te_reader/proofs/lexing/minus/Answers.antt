@@ -27,5 +27,13 @@ returns-clause-tokens c =
 pub overflow_add-len : goal.overflow_add-len
 overflow_add-len c =
     let text = c.args.text.now in
-    let within : 1 + c.digits_len-len.result ≤ length text = omega (arith, c.digits_len-len.ensures, ap (λ bs. prefix_len is_ascii_digit bs) c.behind.ensures, prefix_len-le-length is_ascii_digit (drop 1 text), length-drop 1 text, c.if-len-eq0.false) in
+    let within : 1 + c.digits_len-len.result ≤ length text =
+    omega (
+      arith,
+      c.digits_len-len.ensures,
+      ap (λ bs. prefix_len is_ascii_digit bs) c.behind.ensures,
+      prefix_len-le-length is_ascii_digit (drop 1 text),
+      length-drop 1 text,
+      c.if-len-eq0.false,
+    ) in
     omega (arith, within)

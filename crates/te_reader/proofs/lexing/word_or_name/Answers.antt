@@ -9,10 +9,14 @@ split_at-requires c = omega (arith, c.word_len.ensures, prefix_len-le-length is_
 
 pub returns-in-Some-clause-tokens : goal.returns-in-Some-clause-tokens
 returns-in-Some-clause-tokens c =
-    let f = word_first c.args.text.now c.word_len.result c.requires c.word_len.ensures in
-    (rw (f.0, ← c.split_at.ensures.front, ← c.split_at.ensures.back, ← c.reserved_word.ensures, c.in-Some.is) refl, rw (f.1, ← c.split_at.ensures.front, ← c.split_at.ensures.back, ← c.reserved_word.ensures, c.in-Some.is) refl)
+    let f = word_first c.args.text.now c.word_len.result c.requires c.word_len.ensures in (
+      rw (f.0, ← c.split_at.ensures.front, ← c.split_at.ensures.back, ← c.reserved_word.ensures, c.in-Some.is) refl,
+      rw (f.1, ← c.split_at.ensures.front, ← c.split_at.ensures.back, ← c.reserved_word.ensures, c.in-Some.is) refl,
+    )
 
 pub returns-in-None-clause-tokens : goal.returns-in-None-clause-tokens
 returns-in-None-clause-tokens c =
-    let f = word_first c.args.text.now c.word_len.result c.requires c.word_len.ensures in
-    (rw (f.0, ← c.split_at.ensures.front, ← c.split_at.ensures.back, ← c.reserved_word.ensures, c.in-None.is) refl, rw (f.1, ← c.split_at.ensures.front, ← c.split_at.ensures.back, ← c.reserved_word.ensures, c.in-None.is) refl)
+    let f = word_first c.args.text.now c.word_len.result c.requires c.word_len.ensures in (
+      rw (f.0, ← c.split_at.ensures.front, ← c.split_at.ensures.back, ← c.reserved_word.ensures, c.in-None.is) refl,
+      rw (f.1, ← c.split_at.ensures.front, ← c.split_at.ensures.back, ← c.reserved_word.ensures, c.in-None.is) refl,
+    )

@@ -11,8 +11,19 @@ use Rattle.te_reader.proofs.printing.+print.Goals as goal
 pub put_event-put_then-requires : goal.put_event-put_then-requires
 put_event-put_then-requires t c =
     let here = sym c.in-Some.ensures.value ∙ ap (λ v. Some (node_seen v)) c.in-Then.is in
-    let earlier = parts_earlier c.args.code.now c.args.root c.in-Then.a c.in-Then.b (nodes.Then c.in-Then.a c.in-Then.b) c.in-Some.ensures.forest refl here in
-    (omega (arith, c.decreases, earlier), (omega (arith, earlier, c.requires.root), (omega (arith, earlier, c.requires.root), (omega (arith, earlier, c.requires.low), omega (arith, earlier, c.requires.low)))))
+    let earlier = parts_earlier c.args.code.now c.args.root c.in-Then.a c.in-Then.b (nodes.Then c.in-Then.a c.in-Then.b) c.in-Some.ensures.forest refl here in (
+      omega (arith, c.decreases, earlier),
+      (
+        omega (arith, earlier, c.requires.root),
+        (
+          omega (arith, earlier, c.requires.root),
+          (
+            omega (arith, earlier, c.requires.low),
+            omega (arith, earlier, c.requires.low),
+          ),
+        ),
+      ),
+    )
 
 pub put_event-returns-in-Then : goal.put_event-returns-in-Then
 put_event-returns-in-Then t c =
@@ -23,8 +34,19 @@ put_event-returns-in-Then t c =
 pub put_event-put_choose-requires : goal.put_event-put_choose-requires
 put_event-put_choose-requires t c =
     let here = sym c.in-Some.ensures.value ∙ ap (λ v. Some (node_seen v)) c.in-Choose.is in
-    let earlier = parts_earlier c.args.code.now c.args.root c.in-Choose.a c.in-Choose.b (nodes.Choose c.in-Choose.a c.in-Choose.b) c.in-Some.ensures.forest refl here in
-    (omega (arith, c.decreases, earlier), (omega (arith, earlier, c.requires.root), (omega (arith, earlier, c.requires.root), (omega (arith, earlier, c.requires.low), omega (arith, earlier, c.requires.low)))))
+    let earlier = parts_earlier c.args.code.now c.args.root c.in-Choose.a c.in-Choose.b (nodes.Choose c.in-Choose.a c.in-Choose.b) c.in-Some.ensures.forest refl here in (
+      omega (arith, c.decreases, earlier),
+      (
+        omega (arith, earlier, c.requires.root),
+        (
+          omega (arith, earlier, c.requires.root),
+          (
+            omega (arith, earlier, c.requires.low),
+            omega (arith, earlier, c.requires.low),
+          ),
+        ),
+      ),
+    )
 
 pub put_event-returns-in-Choose : goal.put_event-returns-in-Choose
 put_event-returns-in-Choose t c =
@@ -35,8 +57,19 @@ put_event-returns-in-Choose t c =
 pub put_event-put_catch-requires : goal.put_event-put_catch-requires
 put_event-put_catch-requires t c =
     let here = sym c.in-Some.ensures.value ∙ ap (λ v. Some (node_seen v)) c.in-Catch.is in
-    let earlier = parts_earlier c.args.code.now c.args.root c.in-Catch.a c.in-Catch.b (nodes.Catch c.in-Catch.a c.in-Catch.b) c.in-Some.ensures.forest refl here in
-    (omega (arith, c.decreases, earlier), (omega (arith, earlier, c.requires.root), (omega (arith, earlier, c.requires.root), (omega (arith, earlier, c.requires.low), omega (arith, earlier, c.requires.low)))))
+    let earlier = parts_earlier c.args.code.now c.args.root c.in-Catch.a c.in-Catch.b (nodes.Catch c.in-Catch.a c.in-Catch.b) c.in-Some.ensures.forest refl here in (
+      omega (arith, c.decreases, earlier),
+      (
+        omega (arith, earlier, c.requires.root),
+        (
+          omega (arith, earlier, c.requires.root),
+          (
+            omega (arith, earlier, c.requires.low),
+            omega (arith, earlier, c.requires.low),
+          ),
+        ),
+      ),
+    )
 
 pub put_event-returns-in-Catch : goal.put_event-returns-in-Catch
 put_event-returns-in-Catch t c =
@@ -47,8 +80,19 @@ put_event-returns-in-Catch t c =
 pub put_event-put_if-requires : goal.put_event-put_if-requires
 put_event-put_if-requires t c =
     let here = sym c.in-Some.ensures.value ∙ ap (λ v. Some (node_seen v)) c.in-If.is in
-    let earlier = parts_earlier c.args.code.now c.args.root c.in-If.a c.in-If.b (nodes.If c.in-If.c c.in-If.a c.in-If.b) c.in-Some.ensures.forest refl here in
-    (omega (arith, c.decreases, earlier), (omega (arith, earlier, c.requires.root), (omega (arith, earlier, c.requires.root), (omega (arith, earlier, c.requires.low), omega (arith, earlier, c.requires.low)))))
+    let earlier = parts_earlier c.args.code.now c.args.root c.in-If.a c.in-If.b (nodes.If c.in-If.c c.in-If.a c.in-If.b) c.in-Some.ensures.forest refl here in (
+      omega (arith, c.decreases, earlier),
+      (
+        omega (arith, earlier, c.requires.root),
+        (
+          omega (arith, earlier, c.requires.root),
+          (
+            omega (arith, earlier, c.requires.low),
+            omega (arith, earlier, c.requires.low),
+          ),
+        ),
+      ),
+    )
 
 pub put_event-returns-in-If : goal.put_event-returns-in-If
 put_event-returns-in-If t c =

@@ -6,4 +6,6 @@ use Rattle.te_reader.proofs.printing.put_further.Given as goal
 
 -- with the calculations that are left it is the whole
 abbrev pub invariant-loop-calc : goal.invariant-loop-calc
-invariant-loop-calc l = l.out.items ++ further_text (spelling_of_names l.names) (map calculation_of (drop l.calc-index l.calcs)) ≡ l.fn.out.items ++ further_text (spelling_of_names l.names) (map calculation_of l.calcs)
+invariant-loop-calc l = l.out.items ++ further_text (spelling_of_names l.names)
+    (map calculation_of (drop l.calc-index l.calcs)) ≡ l.fn.out.items ++ further_text (spelling_of_names l.names)
+    (map calculation_of l.calcs)

@@ -21,7 +21,8 @@ drafts-preserved c =
     ap (map (draft_of code)) pushed ∙ map-append (draft_of code) old (draft ∷ []) ∙ ap (λ xs. xs ++ draft_of code draft ∷ []) same in
     let here = rw c.copy-ahead.ensures at read.0 in
     record {
-      written = rw listed (written_push c.args.channels.now c.args.registers.now _ _ c.args.cursor.now.tokens _ _ (map (draft_of c.drafts.code) old) (draft_of code draft) c.drafts.invariant.written here);
+      written = rw listed (written_push c.args.channels.now c.args.registers.now _ _ c.args.cursor.now.tokens _ _
+          (map (draft_of c.drafts.code) old) (draft_of code draft) c.drafts.invariant.written here);
       some = omega (arith, long);
       within = omega (arith, long, c.len.ensures, c.drafts-test.true);
       whole = read.1 ∙ ap (λ s. s.whole) c.copy-ahead.ensures ∙ c.drafts.invariant.whole;

@@ -35,7 +35,8 @@ returns-in_err-read_more c =
     let p = err_from_is_err_and c.from_residual.result c.from_residual.ensures.1 in
     let lt : length c.stmts.stmts.items < 1024 = omega (arith, c.len.ensures, c.if-len-ge-MOST_STATEMENTS.false) in
     rw (p.1, p.2)
-    (body_refused _ _ (more_behind (length c.stmts.stmts.items) c.args.channels.now c.stmts.regs c.take_sign.new.self.tokens) (λ t. t) c.args.cursor.now c.read_more.new.cursor _ c.in_err-read_more.ensures.read
+    (body_refused _ _ (more_behind (length c.stmts.stmts.items) c.args.channels.now c.stmts.regs
+    c.take_sign.new.self.tokens) (λ t. t) c.args.cursor.now c.read_more.new.cursor _ c.in_err-read_more.ensures.read
     (λ none. named_refused c.args.name _ (none_more 1024 (length c.stmts.stmts.items) _ _ _ _ _ c.stmts.invariant.read c.stmts-test.ensures.0 lt (rw c.stmts-test.ensures.1 at none))))
 
 pub invariant_of-result : goal.invariant_of-result

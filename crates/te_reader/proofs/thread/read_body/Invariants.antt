@@ -7,7 +7,9 @@ use Rattle.te_reader.proofs.thread.read_body.Given as goal
 
 abbrev pub invariant-stmts : goal.invariant-stmts
 invariant-stmts l = record {
-  read : behind_body (map statement_of l.stmts.items) (read_body (1024 - length l.stmts.items) l.channels false l.regs l.cursor.tokens) ≡ behind_body [] (read_body 1024 l.channels false [] l.initial.cursor.tokens);
+  read : behind_body (map statement_of l.stmts.items) (read_body
+      (1024 - length l.stmts.items) l.channels false l.regs l.cursor.tokens) ≡ behind_body []
+      (read_body 1024 l.channels false [] l.initial.cursor.tokens);
   whole : l.cursor.whole ≡ l.initial.cursor.whole;
   few : length l.regs ≤ 8;
   most : length l.stmts.items ≤ 1024;

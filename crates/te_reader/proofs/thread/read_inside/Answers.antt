@@ -25,7 +25,9 @@ returns-then-take_sign-clause-read c =
       read =
           rw (long, read.appended)
           (first_all c.args.room _ _ _ _ _
-          (last_of_them c.args.channels.now c.args.room _ _ _ (length old) (map statement_of old) _ _ read.first read.others _ c.syncs.invariant.0 read.written (omega (arith, long, read.within)) c.if-take_sign.ensures.0));
+          (last_of_them c.args.channels.now c.args.room _ _ _ (length old)
+          (map statement_of old) _ _ read.first read.others _ c.syncs.invariant.0 read.written
+          (omega (arith, long, read.within)) c.if-take_sign.ensures.0));
     }
 
 pub syncs-smaller : goal.syncs-smaller
@@ -40,7 +42,9 @@ syncs-preserved c =
     let read = c.in_ok-read_syncs.ensures.read in
     let long = syncs_longer c.args.channels.now c.args.room _ _ _ _ old c.read_syncs.new.stmts.items read in (
       rw (long, read.appended, c.if-take_sign.ensures.1)
-          (more_of_them c.args.channels.now c.args.room _ _ _ (length old) (map statement_of old) _ _ read.first read.others c.syncs.invariant.0 read.written (omega (arith, long, read.within)) c.if-take_sign.ensures.0),
+          (more_of_them c.args.channels.now c.args.room _ _ _ (length old)
+          (map statement_of old) _ _ read.first read.others c.syncs.invariant.0 read.written
+          (omega (arith, long, read.within)) c.if-take_sign.ensures.0),
       ap (λ s. s.whole) c.if-take_sign.ensures.1 ∙ c.in_ok-read_syncs.ensures.whole ∙ c.syncs.invariant.1,
       c.in_ok-read_syncs.ensures.few,
       c.in_ok-read_syncs.ensures.roots c.syncs.invariant.3,

@@ -7,7 +7,9 @@ use Rattle.te_reader.proofs.thread.read_inside.Given as goal
 
 abbrev pub invariant-syncs : goal.invariant-syncs
 invariant-syncs l =
-    (behind_syncs (map statement_of l.syncs.items) (read_body (l.room - length l.syncs.items) l.channels true l.registers l.cursor.tokens) ≡ behind_syncs [] (read_body (l.room - 0) l.channels true l.initial.registers l.initial.cursor.tokens))
+    (behind_syncs (map statement_of l.syncs.items) (read_body
+    (l.room - length l.syncs.items) l.channels true l.registers l.cursor.tokens) ≡ behind_syncs []
+    (read_body (l.room - 0) l.channels true l.initial.registers l.initial.cursor.tokens))
     × (l.cursor.whole ≡ l.initial.cursor.whole)
     × (length l.registers ≤ 8)
     × AllByRecursion RootIsNode l.syncs.items

@@ -19,5 +19,7 @@ returns-clause-read c =
       more = omega (arith, long);
       added = repeat c.in_ok-times.times (length (map statement_of k)) ∷ map statement_of k;
       appended = repeat_listed old k c.append.new.self.items c.in_ok-times.times c.len-count.result new size;
-      read = repeat_is_read _ _ _ (length old) (1023 - c.len.result) _ (length k) _ _ _ _ (map statement_of k) c.in_ok-times.ensures.0 (omega (arith, c.len.ensures)) (omega (arith, long, map_length k, c.len.ensures)) read.read;
+      read = repeat_is_read _ _ _ (length old) (1023 - c.len.result) _ (length k) _ _ _ _
+          (map statement_of k) c.in_ok-times.ensures.0 (omega (arith, c.len.ensures))
+          (omega (arith, long, map_length k, c.len.ensures)) read.read;
     }

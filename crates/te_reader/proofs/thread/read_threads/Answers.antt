@@ -15,7 +15,8 @@ pub returns-in_err-thread : goal.returns-in_err-thread
 returns-in_err-thread c =
     let p = err_from_is_err_and c.from_residual.result c.from_residual.ensures.1 in
     rw (p.1, p.2)
-    (passed_on _ (λ a. (a.value, c.read_new_thread.new.names)) _ c.take_word.new.self c.read_new_thread.new.cursor _ _ (read_new_thread c.args.channels.now c.threads.names c.take_word.new.self.tokens) _ c.in_err-thread.ensures
+    (passed_on _ (λ a. (a.value, c.read_new_thread.new.names)) _ c.take_word.new.self c.read_new_thread.new.cursor _ _
+    (read_new_thread c.args.channels.now c.threads.names c.take_word.new.self.tokens) _ c.in_err-thread.ensures
     (no_thread 64 (length c.threads.threads) _ _ _ _ _ c.threads.invariant.read _ c.threads-test.ensures.0 (omega (arith, c.len.ensures, c.if-len-ge-MOST_THREADS.false))))
 
 pub threads-preserved : goal.threads-preserved
@@ -25,13 +26,15 @@ threads-preserved c =
     record {
       read =
           rw (long, pushed, map-append (λ a. a.value) c.threads.threads (c.in_ok-thread.thread ∷ []))
-          (more_threads 64 (length c.threads.threads) _ _ _ _ _ c.threads.invariant.read _ c.threads-test.ensures.0 (omega (arith, c.len.ensures, c.if-len-ge-MOST_THREADS.false)) _ _ _ c.in_ok-thread.ensures.0);
+          (more_threads 64 (length c.threads.threads) _ _ _ _ _ c.threads.invariant.read _ c.threads-test.ensures.0
+          (omega (arith, c.len.ensures, c.if-len-ge-MOST_THREADS.false)) _ _ _ c.in_ok-thread.ensures.0);
       whole = c.in_ok-thread.ensures.1 ∙ c.threads-test.ensures.1 ∙ c.threads.invariant.whole;
       most = omega (arith, long, c.len.ensures, c.if-len-ge-MOST_THREADS.false);
     }
 
 pub returns : goal.returns
 returns c = (
-  threads_ended 64 (length c.threads.threads) _ _ _ _ _ c.threads.invariant.read c.threads-test.ensures.0 ∙ ap (λ s. Some (map (λ a. a.value) c.threads.threads, s.tokens)) (sym c.threads-test.ensures.1),
+  threads_ended 64 (length c.threads.threads) _ _ _ _ _ c.threads.invariant.read c.threads-test.ensures.0
+      ∙ ap (λ s. Some (map (λ a. a.value) c.threads.threads, s.tokens)) (sym c.threads-test.ensures.1),
   ap (λ s. s.whole) c.threads-test.ensures.1 ∙ c.threads.invariant.whole,
 )

@@ -12,6 +12,11 @@ returns-in-None-clause-refused c =
     let few : length c.args.hist.now.entries < 2 ^ 64 = omega (arith, c.requires.within) in
     let line : c.len-count.result + 2 ≡ suc (suc (length c.args.hist.now.entries)) = omega (arith, c.len-count.ensures.value) in
     inl (
-      inl (begins, none_last c.args.hist.now c.args.rest.now few (λ more e. none more (e ∙ ap (λ (n : ℕ). last_line n (said_ending (up_to 10 c.args.rest.now)) ++ more) (sym c.len-count.ensures.value)))),
+      inl (
+        begins,
+        none_last c.args.hist.now c.args.rest.now few
+            (λ more e. none more (e ∙ ap (λ (n : ℕ). last_line n (said_ending (up_to 10 c.args.rest.now)) ++ more)
+            (sym c.len-count.ensures.value))),
+      ),
       line,
     )

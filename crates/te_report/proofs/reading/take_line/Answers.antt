@@ -36,7 +36,9 @@ returns-in_err-take_said-in-Some-clause-refused c =
     let by_number = rw c.in-Some.is at c.in_ok-found.ensures.split in
     let split = by_number ∙ ap (λ (n : ℕ). numbered n (said_text c.args.script.now c.in-Some.line.said) ++ c.in-Some.line.rest.now) number in
     let within : suc (length c.args.hist.now.entries) ≤ most_reported_entries = omega (arith, c.if-count-ge-MOST_ENTRIES.false, c.len-count.ensures.value) in
-    told c.from_residual-in_err-take_said-in-Some.result c.in_err-take_said-in-Some.field-0.0 (λ (fault : ReportFault). NextFails (version_of c.args.sites) c.args.script.now c.args.hist.now c.args.rest.now fault)
+    told c.from_residual-in_err-take_said-in-Some.result c.in_err-take_said-in-Some.field-0.0
+    (λ (fault : ReportFault). NextFails (version_of c.args.sites) c.args.script.now c.args.hist.now c.args.rest.now
+    fault)
     c.from_residual-in_err-take_said-in-Some.ensures.1
     (failed_next c.args.sites c.args.script.now c.requires.script c.args.hist.now c.args.rest.now c.in-Some.line.said c.in-Some.line.rest.now is_said split within
     (c.len-count.result + 2) line c.in_err-take_said-in-Some.field-0.0 c.in_err-take_said-in-Some.ensures.refused)

@@ -1,7 +1,6 @@
 use Rattle.std.proofs.Common.{arith, ◌<◌, ◌∙◌, ap, Some, None, length}
 use Rattle.te_search.proofs.Trying.{final_not, finals_more, finals_without}
-use Rattle.te_terms.proofs.Lists.{get_low}
-use Rattle.te_terms.proofs.Lists.{get_at}
+use Rattle.te_terms.proofs.Lists.{get_low, get_at}
 use Rattle.te_search.proofs.assembly.open_place.Goals as goal
 
 pub returns-then-not-is_final : goal.returns-then-not-is_final

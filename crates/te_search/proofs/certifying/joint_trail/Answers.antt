@@ -1,6 +1,5 @@
 use Rattle.std.proofs.Common.{arith, ◌≡◌, ◌≤◌, ◌<◌, ◌+◌, ◌∷◌, [], ◌∙◌, ap, sym, None, Some, length, length-append}
-use Rattle.te_terms.proofs.Lists.{get_at}
-use Rattle.te_terms.proofs.Lists.{get_some}
+use Rattle.te_terms.proofs.Lists.{get_at, get_some}
 use Rattle.te_search.proofs.PastsJoined.{trail_untold, trail_without, trail_with, none_at, as_long}
 use Rattle.te_search.proofs.certifying.joint_trail.Goals as goal
 

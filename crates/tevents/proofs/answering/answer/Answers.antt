@@ -11,7 +11,8 @@ use Rattle.tevents.proofs.AnswersTold.{fault_is_answer}
 use Rattle.tevents.proofs.answering.answer.Goals as goal
 
 -- a text of a script is read, where there is memory
-no_text : (bytes : List ℕ) (r : Result Program ScriptFault) (told : ScriptFault) → r ≡ Err told → (told ≡ Memory → ⊥) → ((p : Program) → Text bytes p → (r ≡ Ok p) ⊎ (r ≡ Err Memory)) → IsScriptText bytes → ⊥
+no_text : (bytes : List ℕ) (r : Result Program ScriptFault) (told : ScriptFault) → r ≡ Err told → (told ≡ Memory → ⊥)
+    → ((p : Program) → Text bytes p → (r ≡ Ok p) ⊎ (r ≡ Err Memory)) → IsScriptText bytes → ⊥
 no_text bytes r told is unlike text t = by (text t.0 t.1) where
   by : (r ≡ Ok t.0) ⊎ (r ≡ Err Memory) → ⊥
   by (inl e) = cc

@@ -7,7 +7,9 @@ use Rattle.tevents.specs.Causes.{Tells}
 use Rattle.tevents.proofs.answering.tell.Goals as goal
 
 -- what the task at hand tells
-told_so : {W E : Type 0} (text : W → List ℕ) (status : W → ℕ) (r : Result W E) (task other : Task) (script : Program) → task ≡ other → IfOk r (λ told. Tells other script (text told) (status told)) → IfOk r (λ told. Tells task script (text told) (status told))
+told_so : {W E : Type 0} (text : W → List ℕ) (status : W → ℕ) (r : Result W E) (task other : Task) (script : Program)
+    → task ≡ other → IfOk r (λ told. Tells other script (text told) (status told))
+    → IfOk r (λ told. Tells task script (text told) (status told))
 told_so text status r task other script is h = subst (λ (t : Task). IfOk r (λ told. Tells t script (text told) (status told))) (sym is) h
 
 pub returns-in-Run : goal.returns-in-Run

@@ -31,7 +31,9 @@ returns-in-Ok-answer-clause-statuses g c =
 pub returns-in-Ok-answer-clause-told : goal.returns-in-Ok-answer-clause-told
 returns-in-Ok-answer-clause-told g c = λ told read left.
     let answered = rw c.as_slice.ensures at c.in-Ok-answer.ensures in
-    let answer = answer_to_all read c.in-Ok.bytes (c.in-Ok.ensures.first read left).0 (λ few. (c.in-Ok.ensures.whole few read left).0) c.args.task c.in-Ok-answer.told.text c.in-Ok-answer.told.status answered in
+    let answer = answer_to_all read c.in-Ok.bytes (c.in-Ok.ensures.first read left).0
+    (λ few. (c.in-Ok.ensures.whole few read left).0) c.args.task c.in-Ok-answer.told.text
+    c.in-Ok-answer.told.status answered in
     let whole = c.write.ensures.whole (told_apart c.write.result told).0 in
     (c.in-Ok-answer.told.text, subst (λ (s : ℕ). IsAnswer c.args.task read c.in-Ok-answer.told.text s) (sym whole.0) answer, whole.1)
 
@@ -64,5 +66,12 @@ returns-in-Ok-answer-clause-sink_failed g c = λ four.
 pub returns-in-Ok-answer-clause-cut_short : goal.returns-in-Ok-answer-clause-cut_short
 returns-in-Ok-answer-clause-cut_short g c = λ four read left.
     let answered = rw c.as_slice.ensures at c.in-Ok-answer.ensures in
-    let answer = answer_to_all read c.in-Ok.bytes (c.in-Ok.ensures.first read left).0 (λ few. (c.in-Ok.ensures.whole few read left).0) c.args.task c.in-Ok-answer.told.text c.in-Ok-answer.told.status answered in
-    elim (c.write.ensures.failed four) [ inl status ↦ absurd ((told_apart c.in-Ok-answer.told.status (told_of_answer _ _ _ _ c.in-Ok-answer.ensures)).0 status) | inr failed ↦ (c.in-Ok-answer.told.text, c.in-Ok-answer.told.status, answer, failed.1) ]
+    let answer = answer_to_all read c.in-Ok.bytes (c.in-Ok.ensures.first read left).0
+    (λ few. (c.in-Ok.ensures.whole few read left).0) c.args.task c.in-Ok-answer.told.text
+    c.in-Ok-answer.told.status answered in
+    elim (c.write.ensures.failed four) [
+      | inl status ↦ absurd
+          ((told_apart c.in-Ok-answer.told.status (told_of_answer _ _ _ _ c.in-Ok-answer.ensures)).0 status)
+      | inr failed ↦
+          (c.in-Ok-answer.told.text, c.in-Ok-answer.told.status, answer, failed.1)
+    ]

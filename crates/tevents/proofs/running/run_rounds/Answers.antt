@@ -25,7 +25,17 @@ returns-clause-ends c =
     let is : IsLeft script.threads board after = left script.threads c.in_ok-board.board c.in_ok-cores.cores board after first c.in_ok-cores.ensures c.finish.ensures.continues in
     let few : length board.entries ≤ 200000 = omega (arith, c.len-whole.ensures.fits) in
     elim c.match-finish.branch [
-      | in-Ok w ↦ subst (λ (e : Ending). RunEndsSo c.args.budget script board.entries e) (sym w.ending-is) (closes c.args.budget script board after is c.len-whole.ensures.legal few w.in-Ok.ensures.whole (w.in-Ok.ensures.rounds (ap (λ (b : BoardLog). b.entries) first)))
-      | in-Err-Full w ↦ subst (λ (e : Ending). RunEndsSo c.args.budget script board.entries e) (sym w.ending-is) (fills c.args.budget script board after is c.len-whole.ensures.legal few (subst (λ (f : FinishFault). HasCause board after c.args.budget f) w.in-Err-Full.field-0-is w.in-Err-Full.ensures.cause))
-      | in-Err-Spent w ↦ subst (λ (e : Ending). RunEndsSo c.args.budget script board.entries e) (sym w.ending-is) (spends c.args.budget script board after is c.len-whole.ensures.legal few w.in-Err-Spent.front w.in-Err-Spent.paths w.in-Err-Spent.groups (subst (λ (f : FinishFault). HasCause board after c.args.budget f) w.in-Err-Spent.field-0-is w.in-Err-Spent.ensures.cause).0 (subst (λ (f : FinishFault). HasCause board after c.args.budget f) w.in-Err-Spent.field-0-is w.in-Err-Spent.ensures.cause).1)
+      | in-Ok w ↦ subst (λ (e : Ending). RunEndsSo c.args.budget script board.entries e) (sym w.ending-is)
+          (closes c.args.budget script board after is c.len-whole.ensures.legal few w.in-Ok.ensures.whole
+          (w.in-Ok.ensures.rounds (ap (λ (b : BoardLog). b.entries) first)))
+      | in-Err-Full w ↦ subst (λ (e : Ending). RunEndsSo c.args.budget script board.entries e) (sym w.ending-is)
+          (fills c.args.budget script board after is c.len-whole.ensures.legal few
+          (subst (λ (f : FinishFault). HasCause board after c.args.budget f) w.in-Err-Full.field-0-is
+          w.in-Err-Full.ensures.cause))
+      | in-Err-Spent w ↦ subst (λ (e : Ending). RunEndsSo c.args.budget script board.entries e) (sym w.ending-is)
+          (spends c.args.budget script board after is c.len-whole.ensures.legal few w.in-Err-Spent.front
+          w.in-Err-Spent.paths w.in-Err-Spent.groups (subst (λ (f : FinishFault). HasCause board after c.args.budget f)
+          w.in-Err-Spent.field-0-is w.in-Err-Spent.ensures.cause).0
+          (subst (λ (f : FinishFault). HasCause board after c.args.budget f) w.in-Err-Spent.field-0-is
+          w.in-Err-Spent.ensures.cause).1)
     ]

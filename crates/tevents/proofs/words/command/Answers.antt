@@ -22,11 +22,14 @@ returns-clause-budget c = IfOk-weaker c.arg-3.result _ _ (λ r added m p. (
     let is : IsMade r = made c r added in
     let none = added.globals ∙ ap₂ (λ a b. a || b) (c.in_ok-with_budget.ensures.globals ∙ ap₂ (λ a b. a || b) (c.in_ok-with_mode.ensures.globals ∙ ap₂ (λ a b. a || b)
     (ap (λ f. f.has_globals) c.no_binary_name.ensures ∙ c.new.ensures.local) c.mode_argument.ensures.local) c.number_argument.ensures.local) c.number_argument-2.ensures.local in
-    subst (λ (n : List ℕ). IsGiven m n 1 1000000) is.budget_id (number_given r m p (p.parsed (p.from.globals ∙ none)) (p.from.plain is.plain).1 1 is.budget is.budget_placed 1 1000000 is.budget_is))) c.arg-3.ensures
+    subst (λ (n : List ℕ). IsGiven m n 1 1000000) is.budget_id
+    (number_given r m p (p.parsed (p.from.globals ∙ none))
+    (p.from.plain is.plain).1 1 is.budget is.budget_placed 1 1000000 is.budget_is))) c.arg-3.ensures
 
 pub returns-clause-number : goal.returns-clause-number
 returns-clause-number c = IfOk-weaker c.arg-3.result _ _ (λ r added m p. (
     let is : IsMade r = made c r added in
     let none = added.globals ∙ ap₂ (λ a b. a || b) (c.in_ok-with_budget.ensures.globals ∙ ap₂ (λ a b. a || b) (c.in_ok-with_mode.ensures.globals ∙ ap₂ (λ a b. a || b)
     (ap (λ f. f.has_globals) c.no_binary_name.ensures ∙ c.new.ensures.local) c.mode_argument.ensures.local) c.number_argument.ensures.local) c.number_argument-2.ensures.local in
-    subst (λ (n : List ℕ). IsGiven m n 0 999) is.number_id (number_given r m p (p.parsed (p.from.globals ∙ none)) (p.from.plain is.plain).1 2 is.number is.number_placed 0 999 is.number_is))) c.arg-3.ensures
+    subst (λ (n : List ℕ). IsGiven m n 0 999) is.number_id (number_given r m p (p.parsed (p.from.globals ∙ none))
+    (p.from.plain is.plain).1 2 is.number is.number_placed 0 999 is.number_is))) c.arg-3.ensures

@@ -22,7 +22,8 @@ returns-in-Ok-try_get_matches_from-clause-rows c =
 pub returns-in-Ok-try_get_matches_from-clause-taken :
     goal.returns-in-Ok-try_get_matches_from-clause-taken
 returns-in-Ok-try_get_matches_from-clause-taken c =
-    ap (λ (a : App). fault_of a (map string_bytes c.args.words.now)) (sym c.in-Ok.ensures.app) ∙ c.in-Ok-try_get_matches_from.ensures.kinds (ap is_simple_and_free c.in-Ok.ensures.app ∙ simple_and_free)
+    ap (λ (a : App). fault_of a (map string_bytes c.args.words.now)) (sym c.in-Ok.ensures.app)
+    ∙ c.in-Ok-try_get_matches_from.ensures.kinds (ap is_simple_and_free c.in-Ok.ensures.app ∙ simple_and_free)
 
 pub returns : goal.returns
 returns c = record {

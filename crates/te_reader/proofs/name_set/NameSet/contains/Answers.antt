@@ -11,7 +11,8 @@ returns-in-Some-label_at c =
     let at : slice_get c.self.inside.names.items c.in-Some.number.now ≡ Some c.in-Some-label_at.found.now = search rules in
     let is : c.eq.result ≡ bytes_eq c.in-Some-label_at.found.now c.args.name.now = c.eq.ensures ∙ ap (λ x. bytes_eq x c.args.name.now) c.bytes.ensures in
     is
-    ∙ at_number c.self.inside.names.items c.self.inside.numbers c.self.invariant c.args.name.now c.in-Some.number.now (sym c.get.ensures.value ∙ (rw c.in-Some.is refl)) (bytes_eq c.in-Some-label_at.found.now c.args.name.now)
+    ∙ at_number c.self.inside.names.items c.self.inside.numbers c.self.invariant c.args.name.now c.in-Some.number.now
+    (sym c.get.ensures.value ∙ (rw c.in-Some.is refl)) (bytes_eq c.in-Some-label_at.found.now c.args.name.now)
     (λ e. at ∙ ap Some ((bytes_eq-Decides c.in-Some-label_at.found.now c.args.name.now).0 e))
     (λ h. another c.in-Some-label_at.found.now c.args.name.now (sym at ∙ h))
     ∙ ap (is_among c.args.name.now) c.self.view_is

@@ -17,10 +17,14 @@ invariant_of-self-in_err-push c =
     elim c.if-not-contains.branch [
       | then-not-contains+in_ok-insert w ↦
           let new : is_among c.args.name.now names ≡ false = search rules in
-          moved names c.push.new.self.items w.insert.new.self c.if-not-contains.self-inside.numbers (c.in_err-push.ensures.items ∙ ap (λ x. x.names.items) w.self-inside-is) (ap (λ x. x.numbers) w.self-inside-is)
+          moved names c.push.new.self.items w.insert.new.self c.if-not-contains.self-inside.numbers
+          (c.in_err-push.ensures.items ∙ ap (λ x. x.names.items) w.self-inside-is)
+          (ap (λ x. x.numbers) w.self-inside-is)
           (still_found names c.args.name.now c.self.inside.numbers c.self.invariant w.insert.new.self w.len-number.result (search rules) w.in_ok-insert.ensures.updates new)
       | else-not-contains w ↦
-          moved names c.push.new.self.items c.self.inside.numbers c.if-not-contains.self-inside.numbers (c.in_err-push.ensures.items ∙ ap (λ x. x.names.items) w.self-inside-is) (ap (λ x. x.numbers) w.self-inside-is) c.self.invariant
+          moved names c.push.new.self.items c.self.inside.numbers c.if-not-contains.self-inside.numbers
+          (c.in_err-push.ensures.items ∙ ap (λ x. x.names.items) w.self-inside-is)
+          (ap (λ x. x.numbers) w.self-inside-is) c.self.invariant
     ]
 
 pub invariant_of-self-2 : goal.invariant_of-self-2

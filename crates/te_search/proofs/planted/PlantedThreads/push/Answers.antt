@@ -9,4 +9,6 @@ invariant_of-self-then-at-lt-TABLED c = subst (λ l. IsTabled l (slice_set c.sel
 
 pub invariant_of-self-else-at-lt-TABLED : goal.invariant_of-self-else-at-lt-TABLED
 invariant_of-self-else-at-lt-TABLED c = subst (λ l. IsTabled l c.self.inside.table) (sym c.in_ok-push.ensures.items)
-    (tabled_beyond c.self.inside.threads.items c.self.inside.table c.args.thread c.self.invariant (ap (λ l. has_number l c.args.thread) c.self.view_is ∙ c.requires) (λ l. omega (arith, c.if-at-lt-TABLED.false, l)))
+    (tabled_beyond c.self.inside.threads.items c.self.inside.table c.args.thread c.self.invariant
+    (ap (λ l. has_number l c.args.thread) c.self.view_is ∙ c.requires)
+    (λ l. omega (arith, c.if-at-lt-TABLED.false, l)))

@@ -1,6 +1,5 @@
 use Rattle.std.proofs.Common.{arith, ◌≡◌, refl, length}
-use Rattle.te_terms.proofs.Lists.{get_some}
-use Rattle.te_terms.proofs.Lists.{found_here}
+use Rattle.te_terms.proofs.Lists.{get_some, found_here}
 use Rattle.te_search.proofs.StackLevels.{cut_stack}
 use Rattle.te_search.proofs.stack.Stack.cut.Goals as goal
 

@@ -4,10 +4,8 @@ use Rattle.te_trail.specs.Paths.{branched}
 use Rattle.te_search.specs.declared.assembly.Refused.{Refused}
 use Rattle.te_search.specs.declared.assembly.Refused.TheVariants as refusals
 use Rattle.te_search.specs.Works.{IsSpentAt, IsWork, WorkGrows}
-use Rattle.te_terms.proofs.Lists.{get_low}
-use Rattle.te_terms.proofs.Lists.{get_some}
+use Rattle.te_terms.proofs.Lists.{get_low, get_some, get-longer}
 use Rattle.te_search.proofs.Working.{branch_done, branch_unmade, branch_left, choice_stays, spent_gained, spent_here, on_ok, gains_both}
-use Rattle.te_terms.proofs.Lists.{get-longer}
 use Rattle.te_search.proofs.Ending.{gains_grow}
 use Rattle.te_search.proofs.WorkKept.{keeps_both}
 use Rattle.te_search.proofs.work.Work.branch.Goals as goal

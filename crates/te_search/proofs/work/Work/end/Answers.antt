@@ -2,8 +2,7 @@ use Rattle.std.proofs.Common.{arith, ◌≡◌, ◌+◌, ◌-◌, ◌∷◌, [],
 use Rattle.te_search.specs.Assemblies.{AssemblyStand, NamesPaths, Assembles, joint}
 use Rattle.te_search.specs.Finals.{numbers_of}
 use Rattle.te_search.specs.Works.{StepEndsSo}
-use Rattle.te_terms.proofs.Lists.{if_ok}
-use Rattle.te_terms.proofs.Lists.{get_some}
+use Rattle.te_terms.proofs.Lists.{if_ok, get_some}
 use Rattle.te_search.proofs.Ending.{numbers_one, told_after, ending, end_ends, end_short, end_spent}
 use Rattle.te_search.proofs.WorkKept.{keeps_same, keeps_final}
 use Rattle.te_search.proofs.work.Work.end.Goals as goal

@@ -2,9 +2,8 @@ use Rattle.std.proofs.Common.{arith, rules, ◌≡◌, ◌∙◌, ap, sym, subst
 use Rattle.std.specs.List.{IsDistinct}
 use Rattle.te_search.specs.Works.{IsSpentAt, IsMeeting, others_of}
 use Rattle.te_trail.proofs.StoresHold.{held}
-use Rattle.te_terms.proofs.Lists.{get_some}
+use Rattle.te_terms.proofs.Lists.{get_some, get-longer}
 use Rattle.te_search.proofs.Working.{spent_gained}
-use Rattle.te_terms.proofs.Lists.{get-longer}
 use Rattle.te_search.proofs.Meeting.{meeting_starts, meeting_more, meeting_ready, other_low, listed_at, old_path, old_number}
 use Rattle.te_search.proofs.WorkKept.{keeps_same, keeps_both}
 use Rattle.te_search.proofs.work.Work.meet_all.Goals as goal

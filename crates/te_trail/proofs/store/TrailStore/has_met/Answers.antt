@@ -7,7 +7,9 @@ use Rattle.te_trail.proofs.RecordsRead.{record_there, length_paths}
 use Rattle.te_terms.proofs.Lists.{found_here}
 use Rattle.te_trail.proofs.PastsTold.{Mate, mate_there}
 use Rattle.te_trail.proofs.CallsLeave.{event_there}
-use Rattle.te_trail.proofs.NotMade.{none_more, unplanted_by, unmade_by, unmet_by, Here, here, planting_none, planting_other, branch_none, branch_other, meeting_none, meeting_mate, meeting_other, meeting_apart, event_thread, at_choice, are_ends, agreeing}
+use Rattle.te_trail.proofs.NotMade.{none_more, unplanted_by, unmade_by, unmet_by, Here, here, planting_none}
+use Rattle.te_trail.proofs.NotMade.{planting_other, branch_none, branch_other, meeting_none, meeting_mate}
+use Rattle.te_trail.proofs.NotMade.{meeting_other, meeting_apart, event_thread, at_choice, are_ends, agreeing}
 use Rattle.te_trail.proofs.store.TrailStore.has_met.Goals as goal
 
 pub paths-preserved : goal.paths-preserved

@@ -7,11 +7,21 @@ use Rattle.te_trail.proofs.RecordsRead.{record_there, length_paths}
 use Rattle.te_terms.proofs.Lists.{found_here}
 use Rattle.te_trail.proofs.PastsTold.{Mate, mate_there}
 use Rattle.te_trail.proofs.CallsLeave.{event_there}
-use Rattle.te_trail.proofs.NotMade.{none_more, unplanted_by, unmade_by, unmet_by, Here, here, planting_none, planting_other, branch_none, branch_other, meeting_none, meeting_mate, meeting_other, meeting_apart, event_thread, at_choice, are_ends, agreeing}
+use Rattle.te_trail.proofs.NotMade.{none_more, unplanted_by, unmade_by, unmet_by, Here, here, planting_none}
+use Rattle.te_trail.proofs.NotMade.{planting_other, branch_none, branch_other, meeting_none, meeting_mate}
+use Rattle.te_trail.proofs.NotMade.{meeting_other, meeting_apart, event_thread, at_choice, are_ends, agreeing}
 use Rattle.te_trail.proofs.store.TrailStore.is_planting.Goals as goal
 
 pub returns-in-Root : goal.returns-in-Root
-returns-in-Root c = λ e. planting_none c.args.self.now.paths c.args.k c.args.thread c.index-record.result.now (here c.self.inside.records.items c.self.inside.ticks.items c.args.self.now.paths c.self.invariant.kept.fit (ap (λ (t : Trail). t.paths) c.self.view_is) c.args.k c.index-record.result.now (record_there c.self.inside.records.items c.args.self.now.paths c.args.k c.index-record.result.now (ap (λ (t : Trail). t.paths) c.self.view_is) c.requires c.index-record.ensures)) e
+returns-in-Root c = λ e. planting_none c.args.self.now.paths c.args.k c.args.thread c.index-record.result.now
+    (here c.self.inside.records.items c.self.inside.ticks.items c.args.self.now.paths c.self.invariant.kept.fit
+    (ap (λ (t : Trail). t.paths) c.self.view_is) c.args.k c.index-record.result.now
+    (record_there c.self.inside.records.items c.args.self.now.paths c.args.k c.index-record.result.now
+    (ap (λ (t : Trail). t.paths) c.self.view_is) c.requires c.index-record.ensures)) e
 
 pub returns-in_default : goal.returns-in_default
-returns-in_default c = λ e. planting_other c.args.self.now.paths c.args.k c.args.thread c.index-record.result.now (here c.self.inside.records.items c.self.inside.ticks.items c.args.self.now.paths c.self.invariant.kept.fit (ap (λ (t : Trail). t.paths) c.self.view_is) c.args.k c.index-record.result.now (record_there c.self.inside.records.items c.args.self.now.paths c.args.k c.index-record.result.now (ap (λ (t : Trail). t.paths) c.self.view_is) c.requires c.index-record.ensures)) c.in_default.not-Root
+returns-in_default c = λ e. planting_other c.args.self.now.paths c.args.k c.args.thread c.index-record.result.now
+    (here c.self.inside.records.items c.self.inside.ticks.items c.args.self.now.paths c.self.invariant.kept.fit
+    (ap (λ (t : Trail). t.paths) c.self.view_is) c.args.k c.index-record.result.now
+    (record_there c.self.inside.records.items c.args.self.now.paths c.args.k c.index-record.result.now
+    (ap (λ (t : Trail). t.paths) c.self.view_is) c.requires c.index-record.ensures)) c.in_default.not-Root

@@ -14,7 +14,8 @@ put-requires c =
 pub events-preserved : goal.events-preserved
 events-preserved c =
     let at : slice_get c.args.parked.now c.events.i ≡ Some c.index-parked-i.result = found_here c.args.parked.now c.events.i c.index-parked-i.result c.events-test.true c.index-parked-i.is in (
-      ap (λ (t : Trail). t.events) c.in_ok-put.ensures.ok ∙ ap (λ es. es ++ (as_member c.index-parked-i.result ∷ [])) c.events.invariant.0 ∙ one_more c.args.parked.now c.events.i c.index-parked-i.result at,
+      ap (λ (t : Trail). t.events) c.in_ok-put.ensures.ok ∙ ap (λ es. es ++ (as_member c.index-parked-i.result ∷ []))
+          c.events.invariant.0 ∙ one_more c.args.parked.now c.events.i c.index-parked-i.result at,
       ap (λ (t : Trail). t.paths) c.in_ok-put.ensures.ok ∙ c.events.invariant.1,
       ap (λ (t : Trail). t.marks) c.in_ok-put.ensures.ok ∙ c.events.invariant.2,
     )

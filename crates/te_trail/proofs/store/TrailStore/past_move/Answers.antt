@@ -9,10 +9,11 @@ use Rattle.te_trail.specs.Trails.{Trail, TellsWhether, IsClock, label_of}
 use Rattle.te_trail.specs.Walks.{IsInPast, TellsPastMove, TellsMove}
 use Rattle.te_trail.specs.Records.{paths_of}
 use Rattle.te_trail.proofs.RecordsRead.{record_there, length_paths}
-use Rattle.te_terms.proofs.Lists.{found_here}
+use Rattle.te_terms.proofs.Lists.{found_here, take_all}
 use Rattle.te_trail.proofs.StoresHold.{is_store, held, sounds}
-use Rattle.te_terms.proofs.Lists.{take_all}
-use Rattle.te_trail.proofs.PastsTold.{clock_low, rests_by_clock, rests_not, move_told, no_label_root, no_label_receiver, label_left, label_right, Mate, mate_there, past_told, past_not, TrailSo, trail_step, trail_end}
+use Rattle.te_trail.proofs.PastsTold.{clock_low, rests_by_clock, rests_not, move_told, no_label_root, no_label_receiver}
+use Rattle.te_trail.proofs.PastsTold.{label_left, label_right, Mate, mate_there, past_told, past_not, TrailSo}
+use Rattle.te_trail.proofs.PastsTold.{trail_step, trail_end}
 use Rattle.te_trail.proofs.store.TrailStore.past_move.Goals as goal
 
 pub returns-then-rests : goal.returns-then-rests

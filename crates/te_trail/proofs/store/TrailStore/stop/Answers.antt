@@ -12,10 +12,14 @@ use Rattle.te_trail.proofs.store.TrailStore.stop.Goals as goal
 
 pub returns-clause-told : goal.returns-clause-told
 returns-clause-told c = stop_told c.self.inside.events.items c.self.inside.records.items c.args.self.now c.args.p c.index.result.now c.stop.result
-    (standing c.self.inside.events.items c.self.inside.cells c.self.inside.records.items c.self.inside.ticks.items c.self.invariant.kept c.args.p c.index.result.now (record_there c.self.inside.records.items c.args.self.now.paths c.args.p c.index.result.now (ap (λ t. t.paths) c.self.view_is) c.requires c.index.ensures))
+    (standing c.self.inside.events.items c.self.inside.cells c.self.inside.records.items c.self.inside.ticks.items
+    c.self.invariant.kept c.args.p c.index.result.now (record_there c.self.inside.records.items c.args.self.now.paths
+    c.args.p c.index.result.now (ap (λ t. t.paths) c.self.view_is) c.requires c.index.ensures))
     (ap (λ t. t.events) c.self.view_is) (ap (λ t. t.paths) c.self.view_is) c.stop.ensures
 
 pub returns-clause-only : goal.returns-clause-only
 returns-clause-only c = stop_only c.self.inside.events.items c.self.inside.records.items c.args.self.now c.args.p c.index.result.now c.stop.result
-    (standing c.self.inside.events.items c.self.inside.cells c.self.inside.records.items c.self.inside.ticks.items c.self.invariant.kept c.args.p c.index.result.now (record_there c.self.inside.records.items c.args.self.now.paths c.args.p c.index.result.now (ap (λ t. t.paths) c.self.view_is) c.requires c.index.ensures))
+    (standing c.self.inside.events.items c.self.inside.cells c.self.inside.records.items c.self.inside.ticks.items
+    c.self.invariant.kept c.args.p c.index.result.now (record_there c.self.inside.records.items c.args.self.now.paths
+    c.args.p c.index.result.now (ap (λ t. t.paths) c.self.view_is) c.requires c.index.ensures))
     (ap (λ t. t.events) c.self.view_is) (ap (λ t. t.paths) c.self.view_is) c.stop.ensures
