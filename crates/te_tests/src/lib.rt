@@ -14,7 +14,13 @@ mod io;
 #[cfg(test)]
 mod lock;
 #[cfg(test)]
+mod looking;
+#[cfg(test)]
+mod pair;
+#[cfg(test)]
 mod path;
+#[cfg(test)]
+mod report;
 #[cfg(test)]
 mod script;
 #[cfg(test)]

@@ -1,5 +1,5 @@
 use Rattle.te_trail.proofs.NotMade.{are_ends}
-use Rattle.te_pair.proofs.checked.meet.Goals as goal
+use Rattle.te_tests.proofs.looking.meet.Goals as goal
 
 pub meet-requires-clause-stand : goal.meet-requires-clause-stand
 meet-requires-clause-stand c = are_ends c.args.store.now c.args.p c.args.q c.stop.result c.stop-in-Send.result

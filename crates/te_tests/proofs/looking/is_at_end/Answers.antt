@@ -1,5 +1,5 @@
 use Rattle.te_pair.proofs.EndsTold.{at_send, at_receive}
-use Rattle.te_pair.proofs.checked.is_at_end.Goals as goal
+use Rattle.te_tests.proofs.looking.is_at_end.Goals as goal
 
 pub returns-in-Send : goal.returns-in-Send
 returns-in-Send c = λ e. at_send c.args.store.now c.args.p c.in-Send.field-0 c.in-Send.field-1 c.stop.result c.in-Send.is c.stop.ensures.told

@@ -1,9 +1,15 @@
-use crate::*;
+// Reports that are read and written again, and reports that are refused.
+
 use std::alloc::Global;
 use std::test::Fail;
 use te_cert::CertFault;
 use te_history::{Status, StepFault};
+use te_report::{
+    Cause, Ending, Reading, ReportFault, channels_are_of_the_script, read_declared, read_report,
+    write_report,
+};
 use te_script::{Script, generate};
+use te_terms::Rows;
 
 /// The report of one round of the ring's script.
 const RING: [&[u8]; 12] = [
@@ -192,5 +198,39 @@ fn a_report_of_more_bytes_is_too_long(rt: HostRuntime) -> Result<(), Fail> {
         fault_of(alloc, &script, &text[1..]),
         Some(ReportFault::Head)
     );
+    Ok(())
+}
+
+// The report of what a report tells.
+fn written_again(alloc: Global, script: &Script, text: &[u8]) -> Result<Rows<u8>, Fail> {
+    let Ok((hist, ending)) = read_report(alloc, script, text) else {
+        return Err("a report that is read")?;
+    };
+    if hist.len() > 200_000 {
+        Err("few entries")?;
+    }
+    channels_are_of_the_script();
+    Ok(write_report(alloc, script, &hist, ending)?)
+}
+
+// In the ring's script of 22 rounds thread 1 withdraws once, the board comes to rest, the ring commits, and threads 1 and
+// 0 take; thread 1 posts again.
+#[test]
+fn a_report_tells_withdrawals_rests_and_later_sites(rt: HostRuntime) -> Result<(), Fail> {
+    let script = generate(rt.alloc(), 21)?;
+    let text = b"tevents report 2\n\
+        1 post t0 0 at 1.0\n\
+        2 post t1 0 at 1.0\n\
+        3 withdraw t1 0\n\
+        4 rest t2\n\
+        5 post t2 0 at 1.0\n\
+        6 post t1 1 at 1.0\n\
+        7 commit t2: t0.0[]=(2) t1.1[]=(0) t2.0[]=(1); t0>t1 t1>t2 t2>t0\n\
+        8 take t1 1 =(0)\n\
+        9 take t0 0 =(2)\n\
+        10 post t1 2 at 2.0\n\
+        spent 10 front 10 paths 7 groups 18446744073709551615\n";
+    let written = written_again(rt.alloc(), &script, text)?;
+    assert_eq!(&rt; written.as_slice(), &text[..]);
     Ok(())
 }
