@@ -48,11 +48,14 @@ told_of_answer task read written status answer = by answer.told
 
 -- a told status is no other
 pub told_apart : (status : ℕ) → IsTold status → (status ≡ 4 → ⊥) × (IsSilent status → ⊥)
-told_apart status told = (λ e. apart 4 (λ f. absurd (omega (arith, f))) (λ f. absurd (omega (arith, f))) (λ f. absurd (omega (arith, f))) (λ f. absurd (omega (arith, f))) (λ f. absurd (omega (arith, f))) (λ f. absurd (omega (arith, f))) told e, λ h. elim h [
-  | inl e ↦ apart 2 (λ f. absurd (omega (arith, f))) (λ f. absurd (omega (arith, f))) (λ f. absurd (omega (arith, f))) (λ f. absurd (omega (arith, f))) (λ f. absurd (omega (arith, f))) (λ f. absurd (omega (arith, f))) told e
-  | inr (inl e) ↦ apart 3 (λ f. absurd (omega (arith, f))) (λ f. absurd (omega (arith, f))) (λ f. absurd (omega (arith, f))) (λ f. absurd (omega (arith, f))) (λ f. absurd (omega (arith, f))) (λ f. absurd (omega (arith, f))) told e
-  | inr (inr e) ↦ apart 9 (λ f. absurd (omega (arith, f))) (λ f. absurd (omega (arith, f))) (λ f. absurd (omega (arith, f))) (λ f. absurd (omega (arith, f))) (λ f. absurd (omega (arith, f))) (λ f. absurd (omega (arith, f))) told e
-])
+told_apart status told = (
+  λ e. apart 4 (λ f. absurd (omega (arith, f))) (λ f. absurd (omega (arith, f))) (λ f. absurd (omega (arith, f))) (λ f. absurd (omega (arith, f))) (λ f. absurd (omega (arith, f))) (λ f. absurd (omega (arith, f))) told e,
+  λ h. elim h [
+    | inl e ↦ apart 2 (λ f. absurd (omega (arith, f))) (λ f. absurd (omega (arith, f))) (λ f. absurd (omega (arith, f))) (λ f. absurd (omega (arith, f))) (λ f. absurd (omega (arith, f))) (λ f. absurd (omega (arith, f))) told e
+    | inr (inl e) ↦ apart 3 (λ f. absurd (omega (arith, f))) (λ f. absurd (omega (arith, f))) (λ f. absurd (omega (arith, f))) (λ f. absurd (omega (arith, f))) (λ f. absurd (omega (arith, f))) (λ f. absurd (omega (arith, f))) told e
+    | inr (inr e) ↦ apart 9 (λ f. absurd (omega (arith, f))) (λ f. absurd (omega (arith, f))) (λ f. absurd (omega (arith, f))) (λ f. absurd (omega (arith, f))) (λ f. absurd (omega (arith, f))) (λ f. absurd (omega (arith, f))) told e
+  ],
+)
   where
     apart : (n : ℕ) → (0 ≡ n → ⊥) → (1 ≡ n → ⊥) → (5 ≡ n → ⊥) → (8 ≡ n → ⊥) → (6 ≡ n → ⊥) → (7 ≡ n → ⊥) → IsTold status → status ≡ n → ⊥
     apart n a b c d f g (inl (inl z)) e = a (sym z ∙ e)

@@ -57,9 +57,10 @@ last_need s (End by how) h = tt
 
 legal_from : (n : ℕ) (before es : List Entry) → LooseFrom n before es → ((earlier later : List Entry) (by : ℕ) → before ++ es ≡ earlier ++ Stuck by ∷ later → ¬ CanCommit (parked_list (state n earlier))) → LegalFrom n before es
 legal_from n before [] loose h = tt
-legal_from n before (e ∷ es) loose h =
-    ((loose.0, last_need (state n before) e (λ by is. h before es by (ap (λ (x : Entry). before ++ x ∷ es) is))),
-     legal_from n (before ++ e ∷ []) es loose.1 (λ earlier later by is. h earlier later by (sym (append_assoc before (e ∷ []) es) ∙ is)))
+legal_from n before (e ∷ es) loose h = (
+  (loose.0, last_need (state n before) e (λ by is. h before es by (ap (λ (x : Entry). before ++ x ∷ es) is))),
+  legal_from n (before ++ e ∷ []) es loose.1 (λ earlier later by is. h earlier later by (sym (append_assoc before (e ∷ []) es) ∙ is)),
+)
 
 truly : (n : ℕ) (h : List Entry) → IsLoose n h → ((i : ℕ) (parked : List Parked) → IsDeclared n h i parked → ¬ CanCommit parked) → IsLegal n h
 truly n h loose each = legal_from n [] h loose (λ earlier later by is. each (length earlier) (parked_list (state n earlier)) (record { earlier = earlier; by = by; later = later; whole = is; count = refl; are_parked = refl }))

@@ -65,14 +65,14 @@ checked_of_long budget script xs ys written status more most h = elim h [
   | inl legal ↦ absurd (short legal.legal.read.few)
   | inr (inl undecided) ↦ absurd (short undecided.read.few)
   | inr (inr faulty) ↦ inr (inr (record {
-      none = λ history legal. (let few : length ys ≤ 67108864 = legal.read.few in omega (arith, most, few));
-      because = elim faulty.because [
-        | inl refused ↦ inl (refused_of_long script xs ys written more most refused)
-        | inr (inl ends) ↦ absurd (short ends.read.few)
-        | inr (inr commits) ↦ absurd (short commits.read.few)
-      ];
-      status_is = faulty.status_is;
-    }))
+    none = λ history legal. (let few : length ys ≤ 67108864 = legal.read.few in omega (arith, most, few));
+    because = elim faulty.because [
+      | inl refused ↦ inl (refused_of_long script xs ys written more most refused)
+      | inr (inl ends) ↦ absurd (short ends.read.few)
+      | inr (inr commits) ↦ absurd (short commits.read.few)
+    ];
+    status_is = faulty.status_is;
+  }))
 ]
   where
     short : length xs ≤ 67108864 → ⊥
@@ -82,10 +82,10 @@ lifted_of_long : (script : Program) (xs ys written : List ℕ) (status : ℕ) �
 lifted_of_long script xs ys written status more most h = elim h [
   | inl lifted ↦ absurd (let few : length xs ≤ 67108864 = lifted.read.few in omega (arith, more, few))
   | inr none ↦ inr (record {
-      none = λ history ending read. (let few : length ys ≤ 67108864 = read.few in omega (arith, most, few));
-      refused = refused_of_long script xs ys written more most none.refused;
-      status_is = none.status_is;
-    })
+    none = λ history ending read. (let few : length ys ≤ 67108864 = read.few in omega (arith, most, few));
+    refused = refused_of_long script xs ys written more most none.refused;
+    status_is = none.status_is;
+  })
 ]
 
 -- ---- rules in the first bytes
@@ -114,12 +114,15 @@ module _ (read given : List ℕ) (most : ℕ) (first : given ≡ take (most + 1)
       count = omega (arith, near)
 
       by : IsRuled h.behind lower → (r : List ℕ) × HasRule given before r
-      by (inl is) = (take k lower, record {
-        behind = 45 ∷ 45 ∷ 45 ∷ 10 ∷ take k lower;
-        whole = first ∙ ap (take (most + 1)) (h.whole ∙ ap (λ (xs : List ℕ). before ++ xs) is) ∙ ap (λ n. take n (before ++ 45 ∷ 45 ∷ 45 ∷ 10 ∷ lower)) (sym count) ∙ take-append-add before (45 ∷ 45 ∷ 45 ∷ 10 ∷ lower) (suc (suc (suc (suc k))));
-        starts = h.starts;
-        ruled = inl refl;
-      })
+      by (inl is) = (
+        take k lower,
+        record {
+          behind = 45 ∷ 45 ∷ 45 ∷ 10 ∷ take k lower;
+          whole = first ∙ ap (take (most + 1)) (h.whole ∙ ap (λ (xs : List ℕ). before ++ xs) is) ∙ ap (λ n. take n (before ++ 45 ∷ 45 ∷ 45 ∷ 10 ∷ lower)) (sym count) ∙ take-append-add before (45 ∷ 45 ∷ 45 ∷ 10 ∷ lower) (suc (suc (suc (suc k))));
+          starts = h.starts;
+          ruled = inl refl;
+        },
+      )
       by (inr (is, none)) = absurd (let size : length read ≡ length before + length h.behind = ap length h.whole ∙ length-append before h.behind in let three : length h.behind ≡ 3 = ap length is in omega (arith, near, size, three, all_long))
 
   -- a rule of the first bytes, with its line feed, is one of all
@@ -207,16 +210,16 @@ module _ (read given : List ℕ) where
         told = inr (is_fault_of_long answer.upper all.0 written status far (upper_long read given 68157444 first long answer.upper answer.lower all.0 all.1 (omega arith) parts all.2 far) fault);
       })
       by (inr near) told = (let both : (67108864 < length answer.lower) × AreParts read answer.upper (answer.lower ++ rest read given 68157444 first long) = lower_long read given 68157444 first long answer.upper answer.lower refl parts near in
-        let more : 67108864 < length (answer.lower ++ rest read given 68157444 first long) = (let size : length (answer.lower ++ rest read given 68157444 first long) ≡ length answer.lower + length (rest read given 68157444 first long) = length-append answer.lower (rest read given 68157444 first long) in omega (arith, size, both.0)) in
-        record {
-          upper = answer.upper;
-          lower = answer.lower ++ rest read given 68157444 first long;
-          parts = from_parts read answer.upper (answer.lower ++ rest read given 68157444 first long) both.1;
-          told = elim told [
-            | inl of ↦ inl (record { script = of.script; text = of.text; told = told_of_long task wants answer.lower (answer.lower ++ rest read given 68157444 first long) of.script written status both.0 more of.told })
-            | inr fault ↦ inr fault
-          ];
-        })
+          let more : 67108864 < length (answer.lower ++ rest read given 68157444 first long) = (let size : length (answer.lower ++ rest read given 68157444 first long) ≡ length answer.lower + length (rest read given 68157444 first long) = length-append answer.lower (rest read given 68157444 first long) in omega (arith, size, both.0)) in
+          record {
+            upper = answer.upper;
+            lower = answer.lower ++ rest read given 68157444 first long;
+            parts = from_parts read answer.upper (answer.lower ++ rest read given 68157444 first long) both.1;
+            told = elim told [
+              | inl of ↦ inl (record { script = of.script; text = of.text; told = told_of_long task wants answer.lower (answer.lower ++ rest read given 68157444 first long) of.script written status both.0 more of.told })
+              | inr fault ↦ inr fault
+            ];
+          })
 
   long_answer : (task : Task) (written : List ℕ) (status : ℕ) → given ≡ take (most_of task + 1) read → most_of task < length given → IsAnswer task given written status → IsAnswer task read written status
   long_answer (tasks.Run budget) written status first long answer = alone (tasks.Run budget) written status (λ xs. (refl, refl)) (λ xs upper lower p. p.0) first long answer

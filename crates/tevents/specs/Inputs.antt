@@ -4,6 +4,7 @@ use Rattle.te_script.specs.Scripts.{Program}
 use Rattle.te_reader.specs.Text.{Text}
 use Rattle.te_history.specs.declared.entry.Entry.{Entry}
 use Rattle.te_report.specs.declared.ending.Ending.{Ending}
+use Rattle.te_report.specs.Report.{second, IsReport}
 use Rattle.te_report.specs.Told.{IsReadAs}
 use Rattle.tevents.specs.Parts.{AreParts}
 use Rattle.tevents.specs.ReportLines.{legal_line}
@@ -34,3 +35,10 @@ pub record HasReport (read : List ℕ) : Type 0 where
   pub history : List Entry
   pub ending : Ending
   pub report : IsReadAs script history ending lower
+
+-- the same, and the report in the second version of what was read
+pub record IsLiftedInput (read : List ℕ) (Grew : List ℕ → Type 0) : Type 0 where
+  pub input : HasReport read
+  pub report : List ℕ
+  pub lifted : IsReport second input.script input.history input.ending report
+  pub written : Grew report

@@ -57,12 +57,7 @@ fn parts_for(task: Task, bytes: &[u8]) -> (&[u8], &[u8])
 }
 
 // What a task tells of a script, and of what should be its report.
-fn tell(
-    alloc: Global,
-    task: Task,
-    script: &Script,
-    lower: &[u8],
-) -> Result<Written, NoMemory>
+fn tell(alloc: Global, task: Task, script: &Script, lower: &[u8]) -> Result<Written, NoMemory>
     requires task { IsTask task }
     requires program { IsProgram script.now }
     ensures { IfOk result (λ told. Tells task lower.now script.now told.text told.status) }

@@ -1,7 +1,7 @@
 // What is told of a script and of the bytes that should be its report.
 
 ghost use Rattle.std.specs.Prelude.{◌≡◌, ◌≢◌, ◌×◌, ◌+◌, ◌++◌, ◌≤◌, List, ℕ, length, IfOk, OnOk, Some, None};
-ghost use Rattle.te_script.specs.Scripts.{IsProgram};
+ghost use Rattle.te_script.specs.Scripts.{IsProgram, IsScript};
 ghost use Rattle.te_history.specs.declared.entry.Entry.{Entry as Line};
 ghost use Rattle.te_report.specs.declared.ending.Ending.{Ending as End};
 ghost use Rattle.te_report.specs.declared.ending.Ending.TheVariants as endings;
@@ -15,7 +15,7 @@ use crate::answering::Written;
 use crate::faults::put_number;
 use crate::reporting::report_of;
 use std::alloc::Global;
-use te_report::{Declaration, Ending, Reading, ReportFault, read_declared};
+use te_report::{Declaration, Ending, Reading, ReportFault, read_declared, readings_are_one};
 use te_script::Script;
 use te_search::{Found, SearchFault, find};
 use te_terms::{NoMemory, Rows};
@@ -138,6 +138,13 @@ fn check_reading(
     }
 }
 
+// The script is one that can be spelled.
+fn keeps(script: &Script)
+    ensures { IsScript script.now }
+{
+    let _ = script.threads.len();
+}
+
 /// Whether the bytes are the report of a whole legal run of the script, by a budget for the search of the list on which the
 /// board is declared stuck. The one refusal is want of memory.
 pub(crate) fn check(
@@ -149,6 +156,8 @@ pub(crate) fn check(
     requires { IsBudget budget }
     ensures { IfOk result (λ told. IsChecked budget script.now report.now told.text told.status) }
 {
+    keeps(script);
+    readings_are_one();
     match read_declared(alloc, script, report) {
         Ok(reading) => check_reading(alloc, budget, script, &reading),
         Err(fault) => refused(alloc, fault),
@@ -161,6 +170,8 @@ pub(crate) fn lift(alloc: Global, script: &Script, report: &[u8]) -> Result<Writ
     requires { IsProgram script.now }
     ensures { IfOk result (λ told. IsLifted script.now report.now told.text told.status) }
 {
+    keeps(script);
+    readings_are_one();
     match read_declared(alloc, script, report) {
         Ok(reading) => Ok(Written {
             status: 0,

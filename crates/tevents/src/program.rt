@@ -9,7 +9,7 @@ ghost use Rattle.tevents.specs.Words.{Says, AreRefused};
 ghost use Rattle.tevents.specs.Headline.{IsHeadline};
 ghost use Rattle.tevents.specs.FaultLines.{fault_line};
 ghost use Rattle.tevents.specs.Summaries.{IsSummary};
-ghost use Rattle.tevents.specs.Inputs.{IsCheckedInput, HasLegalReport, HasReport};
+ghost use Rattle.tevents.specs.Inputs.{HasLegalReport, IsCheckedInput, HasReport, IsLiftedInput};
 ghost use Rattle.tevents.specs.Causes.{IsStatus, IsDone, HasStopped, IsTold, IsReadWhole, IsSilent, IsScriptText, Answers};
 
 use crate::generating::gen_run;
@@ -56,10 +56,13 @@ pub fn tevents<S: Source, K: Sink>(
         → (written : List ℕ) × IsHeadline read written result
         × GrewBy (K.bytes_held sink.old) (K.bytes_held sink.new) written }
 
-    // 0 of `check` and of `lift`: the first part is a script, and the other a report of it.
+    // 0 of `check` and `lift`: the first part is a script, and the other a report of it.
     ensures checked { result ≡ 0 → (w : Words) → Says (map string_bytes words.now) w → w.mode ≡ modes.Check
         → (read : List ℕ) → S.bytes_left source.old ≡ Some read
         → IsCheckedInput read (λ written. GrewBy (K.bytes_held sink.old) (K.bytes_held sink.new) written) }
+    ensures lifted { result ≡ 0 → (w : Words) → Says (map string_bytes words.now) w → w.mode ≡ modes.Lift
+        → (read : List ℕ) → S.bytes_left source.old ≡ Some read
+        → IsLiftedInput read (λ written. GrewBy (K.bytes_held sink.old) (K.bytes_held sink.new) written) }
 
     // 0, 1, 5, 6, 7 and 8: what is written is what the mode tells of the bytes that were read.
     ensures told { IsTold result → (w : Words) → Says (map string_bytes words.now) w

@@ -54,7 +54,8 @@ const BRANCHES: &[u8] = b"channels p q m; thread a { x <- sync do { u <- recv p;
 const BRANCHES_REPORT: &[u8] = b"tevents report 1\n1 post a 0\n2 post b 0\n3 post c 0\n\
     4 stuck a\n5 end a stuck\n6 end b stuck\n7 end c stuck\nclosed 7\n";
 
-const TWO_PAIRS: &[u8] = b"channels c d; thread a { x <- sync send c (1); } thread b { x <- sync recv c; } \
+const TWO_PAIRS: &[u8] =
+    b"channels c d; thread a { x <- sync send c (1); } thread b { x <- sync recv c; } \
     thread e { x <- sync send d (2); } thread f { x <- sync recv d; }";
 
 // Words, a script and a report, with the status and what is written.
@@ -114,8 +115,20 @@ const CHECKS: &[(&[&str], &[u8], &[u8], u8, &[u8])] = &[
         0,
         b"legal 10\n",
     ),
-    (&["check"], b"thread a { x <- sync nothing; }", b"", 5, b"script fault 3 at 1:22\n"),
-    (&["lift"], b"thread a { x <- sync nothing; }", b"", 5, b"script fault 3 at 1:22\n"),
+    (
+        &["check"],
+        b"thread a { x <- sync nothing; }",
+        b"",
+        5,
+        b"script fault 3 at 1:22\n",
+    ),
+    (
+        &["lift"],
+        b"thread a { x <- sync nothing; }",
+        b"",
+        5,
+        b"script fault 3 at 1:22\n",
+    ),
     // A report is lifted whatever it ends with, and no declaration is searched.
     (&["lift"], EXCHANGE, EXCHANGE_REPORT, 0, EXCHANGE_REPORT),
     (
@@ -149,7 +162,13 @@ fn a_report_without_a_line_is_refused_there(rt: HostRuntime) -> Result<(), Fail>
         assert_eq!(rt; answered, status);
     }
     for n in 1..10usize {
-        let fault = if n == 1 { 1 } else if n < 8 { 2 } else { 4 };
+        let fault = if n == 1 {
+            1
+        } else if n < 8 {
+            2
+        } else {
+            4
+        };
         let text = without_line(rt.alloc(), n)?;
         let (answered, sink) = call(rt.alloc(), &["check"], EXCHANGE, text.as_slice())?;
         let wanted = format!(in rt.alloc(); "report fault {fault} at line {n}\n")?;
@@ -193,7 +212,9 @@ fn traders(alloc: Global) -> Result<String, Fail> {
     let mut script = String::from_str(alloc, "channels p q r m k u v w;\n")?;
     for (name, first, second) in &TRADERS {
         let round = format!(in alloc; "x <- sync {first}; x <- sync {second};\n")?;
-        script.push_str(&format!(in alloc; "thread {name} {{ {round}{round}{round}{round} emit x; }}\n")?)?;
+        script.push_str(&format!(in alloc;
+            "thread {name} {{ {round}{round}{round}{round} emit x; }}\n"
+        )?)?;
     }
     Ok(script)
 }
