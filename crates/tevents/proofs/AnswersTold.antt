@@ -24,7 +24,7 @@ status_of_run history endings.Closed status told = elim told [ inl stuck ↦ inl
 status_of_run history endings.Full status told = inr (inl told)
 status_of_run history (endings.Spent front paths groups) status told = inr (inr told)
 
-as_told : (status : ℕ) → IsReadWhole status → IsTold status
+pub as_told : (status : ℕ) → IsReadWhole status → IsTold status
 as_told status (inl done) = inl done
 as_told status (inr stopped) = inr (inr stopped)
 

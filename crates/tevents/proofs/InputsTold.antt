@@ -31,9 +31,9 @@ checked_input budget read written status Grew answer zero grew = by answer.told
     by (inr fault) = absurd (omega (arith, zero, fault.status_is))
     by (inl of) = elim of.told [
       | inl legal ↦ record {
-          input = record { upper = answer.upper; lower = answer.lower; parts = answer.parts; script = of.script; text = of.text; history = legal.history; legal = legal.legal };
-          written = subst Grew legal.line grew;
-        }
+        input = record { upper = answer.upper; lower = answer.lower; parts = answer.parts; script = of.script; text = of.text; history = legal.history; legal = legal.legal };
+        written = subst Grew legal.line grew;
+      }
       | inr (inl undecided) ↦ absurd (omega (arith, zero, undecided.status_is))
       | inr (inr faulty) ↦ absurd (omega (arith, zero, faulty.status_is))
     ]
@@ -65,11 +65,11 @@ lifted_input read written status Grew answer zero grew = by answer.told
     by (inr fault) = absurd (omega (arith, zero, fault.status_is))
     by (inl of) = elim of.told [
       | inl lifted ↦ record {
-          input = record { upper = answer.upper; lower = answer.lower; parts = answer.parts; script = of.script; text = of.text; history = lifted.history; ending = lifted.ending; report = lifted.read };
-          report = written;
-          lifted = lifted.lifted;
-          written = grew;
-        }
+        input = record { upper = answer.upper; lower = answer.lower; parts = answer.parts; script = of.script; text = of.text; history = lifted.history; ending = lifted.ending; report = lifted.read };
+        report = written;
+        lifted = lifted.lifted;
+        written = grew;
+      }
       | inr none ↦ absurd (omega (arith, zero, none.status_is))
     ]
 

@@ -1,3 +1,4 @@
+mod budgets;
 mod checks;
 mod modes;
 mod printing;

@@ -48,7 +48,8 @@ fn call(
 }
 
 // a needs c's left branch and b its right one, so none of the three can commit.
-const BRANCHES: &[u8] = b"channels p q m; thread a { x <- sync do { u <- recv p; send m () }; } \
+pub(super) const BRANCHES: &[u8] =
+    b"channels p q m; thread a { x <- sync do { u <- recv p; send m () }; } \
     thread b { x <- sync do { u <- recv q; recv m }; } thread c { x <- sync choose { send p () | send q () }; }";
 
 const BRANCHES_REPORT: &[u8] = b"tevents report 1\n1 post a 0\n2 post b 0\n3 post c 0\n\
@@ -207,11 +208,15 @@ const TRADERS: [(&str, &str, &str); 5] = [
     ),
 ];
 
-// The script of five traders, who each synchronise eight times.
-fn traders(alloc: Global) -> Result<String, Fail> {
+// The script of five traders, who each synchronise eight times; turned, what they do in even rounds comes first.
+pub(super) fn traders(alloc: Global, turned: bool) -> Result<String, Fail> {
     let mut script = String::from_str(alloc, "channels p q r m k u v w;\n")?;
     for (name, first, second) in &TRADERS {
-        let round = format!(in alloc; "x <- sync {first}; x <- sync {second};\n")?;
+        let round = if turned {
+            format!(in alloc; "x <- sync {second}; x <- sync {first};\n")?
+        } else {
+            format!(in alloc; "x <- sync {first}; x <- sync {second};\n")?
+        };
         script.push_str(&format!(in alloc;
             "thread {name} {{ {round}{round}{round}{round} emit x; }}\n"
         )?)?;
@@ -221,7 +226,7 @@ fn traders(alloc: Global) -> Result<String, Fail> {
 
 #[test]
 fn the_traders_run_is_legal(rt: HostRuntime) -> Result<(), Fail> {
-    let script = traders(rt.alloc())?;
+    let script = traders(rt.alloc(), false)?;
     let (status, report) = serial(rt.alloc(), script.as_bytes())?;
     assert!(rt;
         report.bytes().ends_with(
