@@ -12,7 +12,7 @@ use Rattle.te_report.specs.Told.{IsRefusedFor}
 use Rattle.tevents.specs.declared.task.Task.{Task}
 use Rattle.tevents.specs.declared.task.Task.TheVariants as tasks
 use Rattle.tevents.specs.Parts.{HasRule, IsRuled, AreParts}
-use Rattle.tevents.specs.Checks.{IsChecked, IsLifted, IsRefusedReport}
+use Rattle.tevents.specs.Checks.{IsDecided, IsLifted, IsRefusedReport}
 use Rattle.tevents.specs.Causes.{IsOf, ReportsFault, Tells, PartsFor, AnswersParts, IsAnswer, most_of}
 use Rattle.tevents.proofs.RulesFound.{parts_of}
 
@@ -60,7 +60,7 @@ refused_of_long script xs ys written more most h = by h.fault refl
     by faults.Long is = record { fault = h.fault; named = h.named; because = subst (IsRefusedFor script ys) (sym is) most; line = h.line }
     by faults.Memory is = absurd (h.named is)
 
-checked_of_long : (budget : ℕ) (script : Program) (xs ys written : List ℕ) (status : ℕ) → 67108864 < length xs → 67108864 < length ys → IsChecked budget script xs written status → IsChecked budget script ys written status
+checked_of_long : (budget : ℕ) (script : Program) (xs ys written : List ℕ) (status : ℕ) → 67108864 < length xs → 67108864 < length ys → IsDecided budget script xs written status → IsDecided budget script ys written status
 checked_of_long budget script xs ys written status more most h = elim h [
   | inl legal ↦ absurd (short legal.legal.read.few)
   | inr (inl undecided) ↦ absurd (short undecided.read.few)

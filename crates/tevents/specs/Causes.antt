@@ -15,7 +15,7 @@ use Rattle.tevents.specs.Summaries.{IsSummary}
 use Rattle.tevents.specs.FaultLines.{fault_line}
 use Rattle.tevents.specs.SerialRuns.{IsRunReport}
 use Rattle.tevents.specs.Parts.{AreParts}
-use Rattle.tevents.specs.Checks.{IsChecked, IsLifted}
+use Rattle.tevents.specs.Checks.{IsDecided, IsLifted}
 
 -- ---- statuses
 
@@ -96,7 +96,7 @@ PartsFor tasks.Lift read upper lower = AreParts read upper lower
 abbrev pub Tells : Task → List ℕ → Program → List ℕ → ℕ → Type 0
 Tells (tasks.Run budget) lower = IsRunReport budget
 Tells tasks.Print lower = IsPrinted
-Tells (tasks.Check budget) lower = λ script. IsChecked budget script lower
+Tells (tasks.Check budget) lower = λ script. IsDecided budget script lower
 Tells tasks.Lift lower = λ script. IsLifted script lower
 
 -- what a task tells of these parts

@@ -77,8 +77,8 @@ pub record IsFoundFaulty (script : Program) (report written : List ℕ) (status 
   pub because : IsRefusedReport script report written ⊎ (EndsOtherwise script report written ⊎ CanStillCommit script report written)
   pub status_is : status ≡ 8
 
-abbrev pub IsChecked : ℕ → Program → List ℕ → List ℕ → ℕ → Type 0
-IsChecked budget script report written status =
+abbrev pub IsDecided : ℕ → Program → List ℕ → List ℕ → ℕ → Type 0
+IsDecided budget script report written status =
     IsFoundLegal script report written status ⊎ (IsUndecided budget script report written status ⊎ IsFoundFaulty script report written status)
 
 -- ---- what `lift` tells

@@ -9,7 +9,7 @@ ghost use Rattle.te_report.specs.declared.fault.ReportFault.TheVariants as fault
 ghost use Rattle.te_report.specs.Declarations.{IsDeclared, DeclaredIn};
 ghost use Rattle.te_search.specs.Findings.{IsBudget};
 ghost use Rattle.tevents.specs.ReportLines.{report_line, report_fault_line, legal_line, undecided_line};
-ghost use Rattle.tevents.specs.Checks.{IsOnlyReading, IsChecked, IsLifted};
+ghost use Rattle.tevents.specs.Checks.{IsOnlyReading, IsDecided, IsLifted};
 
 use crate::answering::Written;
 use crate::faults::put_number;
@@ -103,7 +103,7 @@ fn check_declared(
     requires declared { IsDeclared (length script.now.threads) reading.now.hist.entries declared.now.before declared.now.parked }
     requires closed { reading.now.ending ≡ endings.Closed }
     ensures { (report : List ℕ) → IsOnlyReading script.now report reading.now.hist.entries reading.now.ending
-        → IfOk result (λ told. IsChecked budget script.now report told.text told.status) }
+        → IfOk result (λ told. IsDecided budget script.now report told.text told.status) }
 {
     match find(alloc, declared.parked.as_slice(), budget) {
         Ok(Found::Blocked) => legal(alloc, reading.hist.len()),
@@ -126,7 +126,7 @@ fn check_reading(
     requires few { length reading.now.hist.entries ≤ 200000 }
     requires declared { DeclaredIn (length script.now.threads) reading.now.hist.entries reading.now.declared }
     ensures { (report : List ℕ) → IsOnlyReading script.now report reading.now.hist.entries reading.now.ending
-        → IfOk result (λ told. IsChecked budget script.now report told.text told.status) }
+        → IfOk result (λ told. IsDecided budget script.now report told.text told.status) }
 {
     match reading.ending {
         Ending::Closed => match &reading.declared {
@@ -154,7 +154,7 @@ pub(crate) fn check(
     report: &[u8],
 ) -> Result<Written, NoMemory>
     requires { IsBudget budget }
-    ensures { IfOk result (λ told. IsChecked budget script.now report.now told.text told.status) }
+    ensures { IfOk result (λ told. IsDecided budget script.now report.now told.text told.status) }
 {
     keeps(script);
     readings_are_one();

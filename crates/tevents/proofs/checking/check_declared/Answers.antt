@@ -3,7 +3,7 @@ use Rattle.std.proofs.Common.{◌≡◌, ◌+◌, ℕ, List, length, sym, subst,
 use Rattle.std.proofs.lemmas.Result.{IfOk-weaker}
 use Rattle.te_terms.specs.declared.event.Parked.{Parked}
 use Rattle.te_terms.specs.Joint.{IsGroup, as_group, CanCommit}
-use Rattle.tevents.specs.Checks.{IsChecked}
+use Rattle.tevents.specs.Checks.{IsDecided}
 use Rattle.tevents.specs.ReportLines.{report_line, legal_line, undecided_line}
 use Rattle.tevents.proofs.ReportsChecked.{declared_rise, blocked, used_up, commits}
 use Rattle.tevents.proofs.checking.check_declared.Goals as goal
