@@ -12,7 +12,7 @@ use Rattle.te_report.specs.Report.{second, IsReport}
 use Rattle.tevents.specs.SerialRuns.{RunEndsSo, IsRunReport, IsStatusAt}
 use Rattle.tevents.specs.Headline.{IsHeadline}
 use Rattle.tevents.specs.Parts.{AreParts, IsRuled}
-use Rattle.tevents.specs.Causes.{Tells, PartsFor, AnswersParts, IsAnswer, most_of, IsDone, IsTold, IsReadWhole, IsSilent, IsScriptText}
+use Rattle.tevents.specs.Causes.{Tells, PartsFor, AnswersParts, IsAnswer, most_of, IsDone, IsTold, IsReadWhole, IsSilent, IsScriptText, IsStatus}
 use Rattle.tevents.specs.FaultLines.{fault_line}
 use Rattle.te_reader.specs.declared.fault.ScriptFault.{ScriptFault}
 use Rattle.te_reader.specs.Places.{HasFault}
@@ -64,6 +64,15 @@ told_apart status told = (
     apart n a b c d f g (inr (inl (inr z))) e = d (sym z ∙ e)
     apart n a b c d f g (inr (inr (inl z))) e = f (sym z ∙ e)
     apart n a b c d f g (inr (inr (inr z))) e = g (sym z ∙ e)
+
+-- where no end failed, the words were right and there was memory, something is told
+pub only_told : (status : ℕ) → IsStatus status → (status ≡ 2 → ⊥) → (status ≡ 3 → ⊥) → (status ≡ 4 → ⊥) → (status ≡ 9 → ⊥)
+    → IsTold status
+only_told status (inl told) two three four nine = told
+only_told status (inr (inl (inl e))) two three four nine = absurd (two e)
+only_told status (inr (inl (inr (inl e)))) two three four nine = absurd (three e)
+only_told status (inr (inl (inr (inr e)))) two three four nine = absurd (nine e)
+only_told status (inr (inr e)) two three four nine = absurd (four e)
 
 whole_is_not_eight : (status : ℕ) → IsReadWhole status → status ≡ 8 → ⊥
 whole_is_not_eight status (inl (inl z)) e = omega (arith, z, e)

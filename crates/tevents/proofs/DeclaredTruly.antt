@@ -85,7 +85,10 @@ needs_of_stuck n before (e ∷ es) legal earlier later by is low = go (λ (far :
         head_of [] [] c d x y e is = cc
         head_of [] (z ∷ b) c d x y e is = absurd cc
         head_of (z ∷ a) [] c d x y e is = absurd cc
-        head_of (z ∷ a) (w ∷ b) c d x y e is = head_of a b c d x y cc cc
+        head_of (z ∷ a) (w ∷ b) c d x y e is =
+            let same : a ≡ b = cc in
+            let rest : a ++ x ∷ c ≡ b ++ y ∷ d = cc in
+            head_of a b c d x y same rest
 
 pub declared_legally : (n : ℕ) (h : List Entry) (i : ℕ) (parked : List Parked) → IsLegal n h → IsDeclared n h i parked → ¬ CanCommit parked
 declared_legally n h i parked legal d = subst (λ (ps : List Parked). ¬ CanCommit ps) (sym d.are_parked) (needs_of_stuck n [] h legal d.earlier d.later d.by d.whole (omega arith))

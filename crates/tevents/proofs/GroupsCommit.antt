@@ -13,26 +13,27 @@ use Rattle.te_cert.specs.Play.{play}
 use Rattle.te_cert.proofs.PlaysReduce.{plays_reduce}
 use Rattle.te_search.specs.Findings.{IsParkedIn, ArePlacedIn, IsGroupOf}
 use Rattle.tevents.proofs.PostsCounted.{same_or_apart}
-use Rattle.te_terms.proofs.Lists.{eq_off}
+use Rattle.std.proofs.lemmas.Bool.{ne_eqb}
 
 -- the threads of the members
-named : List Member → ℕ → Bool
+abbrev named : List Member → ℕ → Bool
 named [] t = false
 named (m ∷ ms) t = nat_eq m.thread t || named ms t
 
-above : ℕ → List Member → Type 0
+abbrev above : ℕ → List Member → Type 0
 above low [] = Unit {0}
 above low (m ∷ ms) = (low < m.thread) × above m.thread ms
 
 -- ---- threads of rising lists
 
 parked_above : (ps : List Parked) (low : ℕ) (m : Member) (e : Term) → RiseFrom low (as_group ps) → IsParkedIn ps m e → low < m.thread
+parked_above [] low m e rise h = absurd h
 parked_above (p ∷ ps) low m e rise (inl (is, ticket, event)) = subst (λ t. low < t) is rise.0
 parked_above (p ∷ ps) low m e rise (inr h) = (let own : low < p.thread = rise.0 in let far : p.thread < m.thread = parked_above ps p.thread m e rise.1 h in omega (arith, own, far))
 
 not_named : (ms : List Member) (low t : ℕ) → above low ms → (t < low) ⊎ (t ≡ low) → named ms t ≡ false
 not_named [] low t h below = refl
-not_named (m ∷ ms) low t h below = ap (λ (b : Bool). b || named ms t) (eq_off m.thread t (λ is. omega (arith, is, under below))) ∙ not_named ms m.thread t h.1 (inl (under below))
+not_named (m ∷ ms) low t h below = ap (λ (b : Bool). b || named ms t) (ne_eqb m.thread t (λ is. omega (arith, is, under below))) ∙ not_named ms m.thread t h.1 (inl (under below))
   where
     under : (t < low) ⊎ (t ≡ low) → t < m.thread
     under (inl l) = (let a : low < m.thread = h.0 in omega (arith, a, l))
@@ -72,7 +73,7 @@ first_placed p ps m ms e es rise h (here, rest) one on (inl same) = by here
     takes = ap (λ (b : Bool). b || named ms p.thread) (eq-eqb m.thread p.thread (sym same))
 
     past : (t : ℕ) → p.thread < t → named (m ∷ ms) t ≡ named ms t
-    past t far = ap (λ (b : Bool). b || named ms t) (eq_off m.thread t (λ is. omega (arith, is, same, far)))
+    past t far = ap (λ (b : Bool). b || named ms t) (ne_eqb m.thread t (λ is. omega (arith, is, same, far)))
 
     others : part (named (m ∷ ms)) (as_group ps) ≡ group_of ms es
     others = part_by (named (m ∷ ms)) (named ms) p.thread (as_group ps) rise past
@@ -108,8 +109,8 @@ group_rises (m ∷ ms) [] low h = tt
 group_rises (m ∷ ms) (e ∷ es) low h = (h.0, group_rises ms es m.thread h.1)
 
 -- threads of lists that rise lie above a number below the first
-pub group_commits : (parked : List Parked) (cert : Certificate) (outcomes : List Outcome) → IsGroup (as_group parked) → IsGroupOf parked cert outcomes → CanCommit parked
-group_commits parked cert outcomes rise found = by parked cert.members found.events rise found.some_member found.rise found.placed found.plays.plays
+pub found_commits : (parked : List Parked) (cert : Certificate) (outcomes : List Outcome) → IsGroup (as_group parked) → IsGroupOf parked cert outcomes → CanCommit parked
+found_commits parked cert outcomes rise found = by parked cert.members found.events rise found.some_member found.rise found.placed found.plays.plays
   where
     by : (ps : List Parked) (ms : List Member) (es : List Term) → IsGroup (as_group ps) → ms ≢ [] → ThreadsRise ms → ArePlacedIn ps ms es → play (group_of ms es) (map (λ m. m.choices) cert.members) cert.meets ≡ Ok (record { outcomes = outcomes; word = found.plays.word }) → CanCommit ps
     by ps [] es up some above_is placed plays = absurd (some refl)

@@ -97,7 +97,7 @@ module _ (read given : List ℕ) (most : ℕ) (first : given ≡ take (most + 1)
       least_taken : (n : ℕ) (xs : List ℕ) → length (take n xs) ≤ length xs
       least_taken n xs = omega (arith, length-take n xs)
 
-  rest : List ℕ
+  abbrev rest : List ℕ
   rest = drop (most + 1) read
 
   parted : read ≡ given ++ rest
@@ -168,7 +168,7 @@ module _ (read given : List ℕ) (most : ℕ) (first : given ≡ take (most + 1)
 
 -- ---- answers
 
-wants_report : Task → Type 0
+abbrev wants_report : Task → Type 0
 wants_report (tasks.Run budget) = ⊥
 wants_report tasks.Print = ⊥
 wants_report (tasks.Check budget) = Unit {0}

@@ -19,7 +19,7 @@ use Rattle.te_search.specs.Findings.{IsGroupOf, IsUsedUp}
 use Rattle.tevents.specs.ReportLines.{report_line, report_fault_line, legal_line, undecided_line}
 use Rattle.tevents.specs.Checks.{IsOnlyReading, IsLegalReport, IsFoundLegal, IsUndecided, IsRefusedReport, EndsOtherwise, CanStillCommit, IsFoundFaulty, IsDecided, IsLiftedReport, IsUnreadable, IsLifted}
 use Rattle.tevents.proofs.DeclaredTruly.{legal_undeclared, legal_declared, declared_legally}
-use Rattle.tevents.proofs.GroupsCommit.{group_commits}
+use Rattle.tevents.proofs.GroupsCommit.{found_commits}
 use Rattle.tevents.proofs.ParkedRise.{parked_rise}
 
 -- threads of what is declared rise
@@ -55,7 +55,7 @@ module _ (budget : ℕ) (script : Program) (report : List ℕ) (history : List E
     }))
       where
         can : CanCommit parked
-        can = group_commits parked cert outcomes (declared_rise (length script.threads) history before parked declared) found
+        can = found_commits parked cert outcomes (declared_rise (length script.threads) history before parked declared) found
 
 -- ---- refused
 

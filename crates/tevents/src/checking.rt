@@ -1,6 +1,6 @@
 // What is told of a script and of the bytes that should be its report.
 
-ghost use Rattle.std.specs.Prelude.{◌≡◌, ◌≢◌, ◌×◌, ◌+◌, ◌++◌, ◌≤◌, List, ℕ, length, IfOk, OnOk, Some, None};
+ghost use Rattle.std.specs.Prelude.{◌≡◌, ◌≢◌, ◌+◌, ◌++◌, ◌≤◌, List, ℕ, length, IfOk, OnOk, Some, None};
 ghost use Rattle.te_script.specs.Scripts.{IsProgram, IsScript};
 ghost use Rattle.te_history.specs.declared.entry.Entry.{Entry as Line};
 ghost use Rattle.te_report.specs.declared.ending.Ending.{Ending as End};

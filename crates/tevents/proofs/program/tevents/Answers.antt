@@ -1,6 +1,8 @@
 use Rattle.std.proofs.Common.{◌≡◌, map, sym, subst, ap, Err, inl, inr}
 use Rattle.std.specs.String.{string_bytes}
 use Rattle.tevents.specs.declared.words.Mode.TheVariants as modes
+use Rattle.tevents.proofs.AnswersTold.{only_told}
+use Rattle.tevents.proofs.InputsTold.{checked_input, lifted_input, checked_at, lifted_at}
 use Rattle.tevents.proofs.WordsOnce.{says_once, not_refused, answers_in}
 use Rattle.tevents.proofs.program.tevents.Goals as goal
 
@@ -56,3 +58,27 @@ returns-in-Gen-clause-cut_short g c = λ four w says read left.
 
 pub returns-in-Err-Refused-clause-refused : goal.returns-in-Err-Refused-clause-refused
 returns-in-Err-Refused-clause-refused g c = λ _. c.in-Err-Refused.ensures.refused (ap Err c.in-Err-Refused.field-0-is)
+
+pub returns-in-Check-clause-checked : goal.returns-in-Check-clause-checked
+returns-in-Check-clause-checked g c = λ zero w says mode read left.
+    let answer = c.check_run.ensures.told (inl (inl zero)) read left in
+    checked_input c.in-Ok.said.budget read answer.0 c.check_run.result _ answer.1 zero answer.2
+
+pub returns-in-Check-clause-checks : goal.returns-in-Check-clause-checks
+returns-in-Check-clause-checks g c = λ w says mode read left input source_well sink_well remembered.
+    let told = only_told c.check_run.result c.check_run.ensures.statuses c.check_run.ensures.known
+    (λ three. source_well (c.check_run.ensures.source_failed three)) (λ four. sink_well (c.check_run.ensures.sink_failed four)) remembered in
+    let answer = c.check_run.ensures.told told read left in
+    checked_at c.in-Ok.said.budget read answer.0 c.check_run.result answer.1 input
+
+pub returns-in-Lift-clause-lifted : goal.returns-in-Lift-clause-lifted
+returns-in-Lift-clause-lifted g c = λ zero w says mode read left.
+    let answer = c.lift_run.ensures.told (inl (inl zero)) read left in
+    lifted_input read answer.0 c.lift_run.result _ answer.1 zero answer.2
+
+pub returns-in-Lift-clause-lifts : goal.returns-in-Lift-clause-lifts
+returns-in-Lift-clause-lifts g c = λ w says mode read left input source_well sink_well remembered.
+    let told = only_told c.lift_run.result c.lift_run.ensures.statuses c.lift_run.ensures.known
+    (λ three. source_well (c.lift_run.ensures.source_failed three)) (λ four. sink_well (c.lift_run.ensures.sink_failed four)) remembered in
+    let answer = c.lift_run.ensures.told told read left in
+    lifted_at read answer.0 c.lift_run.result answer.1 input
