@@ -28,18 +28,18 @@ returns-in-None c = λ report only.
 
 pub returns-in-Spent : goal.returns-in-Spent
 returns-in-Spent c = λ report only. IfOk-weaker c.faulty.result
-    (λ told. (told.text ≡ report_line 4 (c.len.result + 2)) × (told.status ≡ 8))
+    (λ told. (told.text ≡ report_line 4 (c.len-in-Spent.result + 2)) × (told.status ≡ 8))
     (λ told. IsDecided c.args.budget c.args.script.now report told.text told.status)
     (λ told h. ends_otherwise c.args.budget c.args.script.now report c.args.reading.now.hist.entries c.args.reading.now.ending
     only told.text told.status (spent_is_other _ _ _ _ c.in-Spent.is)
-    (h.0 ∙ ap (λ (n : ℕ). report_line 4 (n + 2)) c.len.ensures.value) h.1)
+    (h.0 ∙ ap (λ (n : ℕ). report_line 4 (n + 2)) c.len-in-Spent.ensures.value) h.1)
     c.faulty.ensures
 
 pub returns-in-Full : goal.returns-in-Full
-returns-in-Full c = λ report only. IfOk-weaker c.faulty.result
-    (λ told. (told.text ≡ report_line 4 (c.len.result + 2)) × (told.status ≡ 8))
+returns-in-Full c = λ report only. IfOk-weaker c.faulty-in-Full.result
+    (λ told. (told.text ≡ report_line 4 (c.len-in-Full.result + 2)) × (told.status ≡ 8))
     (λ told. IsDecided c.args.budget c.args.script.now report told.text told.status)
     (λ told h. ends_otherwise c.args.budget c.args.script.now report c.args.reading.now.hist.entries c.args.reading.now.ending
     only told.text told.status (full_is_other _ c.in-Full.is)
-    (h.0 ∙ ap (λ (n : ℕ). report_line 4 (n + 2)) c.len.ensures.value) h.1)
-    c.faulty.ensures
+    (h.0 ∙ ap (λ (n : ℕ). report_line 4 (n + 2)) c.len-in-Full.ensures.value) h.1)
+    c.faulty-in-Full.ensures
