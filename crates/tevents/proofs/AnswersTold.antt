@@ -1,5 +1,5 @@
 -- What an answer to the bytes that were read says of all bytes, and which statuses there are.
-use Rattle.std.proofs.Common.{◌≡◌, ℕ, ◌+◌, ◌≤◌, List, [], ◌∷◌, length, length-append, refl, ap, ◌⊎◌, Result, Ok, Err, subst, sym, ◌∙◌, inl, inr, arith}
+use Rattle.std.proofs.Common.{◌≡◌, ℕ, ◌+◌, ◌≤◌, List, ◌∷◌, length, length-append, refl, ap, ◌⊎◌, Result, Ok, Err, subst, sym, ◌∙◌, inl, inr, arith}
 use Rattle.std.specs.Prelude.{IfOk}
 use Rattle.te_script.specs.Scripts.{Program}
 use Rattle.te_reader.specs.Text.{Text}

@@ -1,5 +1,5 @@
 -- What a search finds can commit.
-use Rattle.std.proofs.Common.{◌≡◌, ◌≢◌, ◌<◌, ◌⊎◌, ℕ, Bool, true, false, ◌||◌, List, [], ◌∷◌, map, Ok, refl, ap, sym, ◌∙◌, subst, inl, inr, arith, nat_eq, cond, eqb-true, eq-eqb}
+use Rattle.std.proofs.Common.{◌≡◌, ◌≢◌, ◌<◌, ◌⊎◌, ℕ, Bool, true, false, ◌||◌, List, [], ◌∷◌, map, Ok, refl, ap, sym, ◌∙◌, subst, inl, inr, arith, nat_eq, cond, eq-eqb}
 use Rattle.te_terms.specs.declared.event.Outcome.{Outcome}
 use Rattle.te_terms.specs.declared.event.Parked.{Parked}
 use Rattle.te_terms.specs.Terms.{Term}

@@ -5,8 +5,8 @@ use Rattle.te_reader.specs.Text.{Text}
 use Rattle.te_reader.proofs.TextIsRead.{program_of_text_is_read}
 use Rattle.tevents.specs.declared.task.Task.TheVariants as tasks
 use Rattle.tevents.specs.Parts.{AreParts}
-use Rattle.tevents.specs.Checks.{IsLegalReport, IsFoundLegal, IsFoundFaulty, IsUndecided, IsDecided, IsLiftedReport, IsUnreadable, IsLifted}
-use Rattle.tevents.specs.Causes.{IsOf, ReportsFault, Tells, AnswersParts, IsAnswer}
+use Rattle.tevents.specs.Checks.{IsLegalReport}
+use Rattle.tevents.specs.Causes.{AnswersParts, IsAnswer}
 use Rattle.tevents.specs.Inputs.{HasLegalReport, IsCheckedInput, HasReport, IsLiftedInput}
 use Rattle.te_report.specs.Told.{IsReadAs}
 use Rattle.tevents.proofs.RulesFound.{parts_once}

@@ -1,5 +1,5 @@
 -- The threads of a parked list rise.
-use Rattle.std.proofs.Common.{◌<◌, ℕ, suc, List, [], ◌∷◌, refl, arith}
+use Rattle.std.proofs.Common.{◌<◌, ℕ, suc, List, [], ◌∷◌, arith}
 use Rattle.te_terms.specs.Joint.{RiseFrom, IsGroup, as_group}
 use Rattle.te_history.specs.State.{Standing, idle, parked, given, ended, State, parked_from, parked_list}
 

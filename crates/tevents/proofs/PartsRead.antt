@@ -13,7 +13,7 @@ use Rattle.tevents.specs.declared.task.Task.{Task}
 use Rattle.tevents.specs.declared.task.Task.TheVariants as tasks
 use Rattle.tevents.specs.Parts.{HasRule, IsRuled, AreParts}
 use Rattle.tevents.specs.Checks.{IsDecided, IsLifted, IsRefusedReport}
-use Rattle.tevents.specs.Causes.{IsOf, ReportsFault, Tells, PartsFor, AnswersParts, IsAnswer, most_of}
+use Rattle.tevents.specs.Causes.{ReportsFault, Tells, PartsFor, AnswersParts, IsAnswer, most_of}
 use Rattle.tevents.proofs.RulesFound.{parts_of}
 
 -- ---- faults of what is too long

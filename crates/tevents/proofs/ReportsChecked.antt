@@ -1,6 +1,5 @@
 -- What was found of a report is what is told of it.
-use Rattle.std.proofs.Common.{◌≡◌, ◌≢◌, ◌⊎◌, ℕ, ◌+◌, List, length, Result, Ok, Err, refl, sym, ◌∙◌, ap, subst, inl, inr}
-use Rattle.std.specs.Prelude.{IfOk}
+use Rattle.std.proofs.Common.{◌≡◌, ◌≢◌, ℕ, ◌+◌, List, length, sym, subst, inl, inr}
 use Rattle.te_terms.specs.declared.event.Outcome.{Outcome}
 use Rattle.te_terms.specs.declared.event.Parked.{Parked}
 use Rattle.te_terms.specs.Joint.{IsGroup, as_group, CanCommit}
@@ -17,7 +16,7 @@ use Rattle.te_report.specs.Told.{IsReadAs, IsRefusedFor}
 use Rattle.te_report.specs.Declarations.{IsDeclared}
 use Rattle.te_search.specs.Findings.{IsGroupOf, IsUsedUp}
 use Rattle.tevents.specs.ReportLines.{report_line, report_fault_line, legal_line, undecided_line}
-use Rattle.tevents.specs.Checks.{IsOnlyReading, IsLegalReport, IsFoundLegal, IsUndecided, IsRefusedReport, EndsOtherwise, CanStillCommit, IsFoundFaulty, IsDecided, IsLiftedReport, IsUnreadable, IsLifted}
+use Rattle.tevents.specs.Checks.{IsOnlyReading, IsDecided, IsLifted}
 use Rattle.tevents.proofs.DeclaredTruly.{legal_undeclared, legal_declared, declared_legally}
 use Rattle.tevents.proofs.GroupsCommit.{found_commits}
 use Rattle.tevents.proofs.ParkedRise.{parked_rise}

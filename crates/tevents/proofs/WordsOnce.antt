@@ -1,5 +1,5 @@
 -- Words say one thing.
-use Rattle.std.proofs.Common.{◌≡◌, ◌∙◌, ℕ, List, [], ◌∷◌, Some, None, Option, refl, ap, sym, subst, slice_index, codes, inl, inr, nat_eq, if◌then◌else◌}
+use Rattle.std.proofs.Common.{◌≡◌, ◌∙◌, ℕ, List, Some, refl, ap, sym, subst, slice_index, codes, inl, inr, nat_eq, if◌then◌else◌}
 use Rattle.std.specs.Str.Parse.{digits_value, without_leading_plus}
 use Rattle.clap.specs.Words.{Text}
 use Rattle.tevents.specs.declared.words.Words.{Words}

@@ -1,6 +1,5 @@
 -- The line of a fault is an answer where the bytes are no text of a script.
 use Rattle.std.proofs.Common.{◌≡◌, ◌⊎◌, inl, inr, ℕ, List, Result, Ok, Err}
-use Rattle.std.specs.Prelude.{IfOk}
 use Rattle.te_script.specs.Scripts.{Program}
 use Rattle.te_reader.specs.declared.fault.ScriptFault.{ScriptFault}
 use Rattle.te_reader.specs.declared.fault.ScriptFault.TheVariants.{Memory}

@@ -1,4 +1,4 @@
-use Rattle.std.proofs.Common.{◌≡◌, List, ℕ, sym, subst, Result, Ok, Err}
+use Rattle.std.proofs.Common.{◌≡◌, List, ℕ, sym, subst, Result}
 use Rattle.std.specs.Prelude.{IfOk}
 use Rattle.te_script.specs.Scripts.{Program}
 use Rattle.tevents.specs.declared.task.Task.{Task}

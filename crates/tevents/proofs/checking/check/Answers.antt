@@ -1,5 +1,5 @@
 -- What was read is the one reading of the bytes; a report that isn't read is refused for what is told.
-use Rattle.std.proofs.Common.{◌≡◌, ◌≢◌, List, ℕ}
+use Rattle.std.proofs.Common.{◌≡◌, ◌≢◌}
 use Rattle.std.proofs.lemmas.Result.{IfOk-weaker}
 use Rattle.te_report.specs.declared.fault.ReportFault.TheVariants.{Memory}
 use Rattle.tevents.specs.ReportLines.{report_fault_line}

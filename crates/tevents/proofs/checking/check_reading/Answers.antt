@@ -1,5 +1,5 @@
 -- Where no board is declared stuck the report is legal, and another ending is a fault.
-use Rattle.std.proofs.Common.{◌≡◌, ◌≢◌, ◌∙◌, ◌+◌, ℕ, List, length, sym, subst, ap}
+use Rattle.std.proofs.Common.{◌≡◌, ◌≢◌, ◌∙◌, ◌+◌, ℕ, length, sym, subst, ap}
 use Rattle.std.specs.Prelude.{None}
 use Rattle.std.proofs.lemmas.Result.{IfOk-weaker}
 use Rattle.te_report.specs.declared.ending.Ending.{Ending}

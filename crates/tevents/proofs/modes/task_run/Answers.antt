@@ -3,7 +3,7 @@ use Rattle.std.proofs.Common.{◌≡◌, ◌≢◌, ◌⊎◌, ◌+◌, ◌≤�
 use Rattle.te_io.specs.Stream.{GrewBy}
 use Rattle.std.specs.Prelude.{Option}
 use Rattle.tevents.specs.declared.task.Task.{Task}
-use Rattle.tevents.specs.Causes.{IsAnswer, IsTold, IsSilent, IsStatus, IsReadWhole, most_of}
+use Rattle.tevents.specs.Causes.{IsAnswer, IsTold, IsSilent, IsReadWhole, most_of}
 use Rattle.tevents.proofs.AnswersTold.{told_of_answer, told_apart, line_of_five, whole_has_size, as_told}
 use Rattle.tevents.proofs.PartsRead.{answer_to_all}
 use Rattle.tevents.proofs.PostsCounted.{same_or_apart}

@@ -1,4 +1,4 @@
-use Rattle.std.proofs.Common.{◌≡◌, Bool, true, false, sym, ◌∙◌, subst, drop}
+use Rattle.std.proofs.Common.{◌≡◌, true, false, sym, ◌∙◌, subst}
 use Rattle.tevents.specs.Parts.{IsRuled}
 use Rattle.tevents.proofs.RulesFound.{Scanned, scanned_next, parts_found, parts_none}
 use Rattle.tevents.proofs.parting.part.Goals as goal

@@ -1,9 +1,9 @@
-use Rattle.std.proofs.Common.{◌≡◌, map, sym, subst, ap, Err, inl, inr}
+use Rattle.std.proofs.Common.{map, ap, Err, inl}
 use Rattle.std.specs.String.{string_bytes}
 use Rattle.tevents.specs.declared.words.Mode.TheVariants as modes
 use Rattle.tevents.proofs.AnswersTold.{only_told}
 use Rattle.tevents.proofs.InputsTold.{checked_input, lifted_input, checked_at, lifted_at}
-use Rattle.tevents.proofs.WordsOnce.{says_once, not_refused, answers_in}
+use Rattle.tevents.proofs.WordsOnce.{says_once, answers_in}
 use Rattle.tevents.proofs.program.tevents.Goals as goal
 
 pub returns-in-Serial-clause-told : goal.returns-in-Serial-clause-told

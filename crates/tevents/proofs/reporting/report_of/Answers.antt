@@ -1,4 +1,3 @@
-use Rattle.std.proofs.Common.{ℕ, List, length, sym, subst}
 use Rattle.tevents.proofs.reporting.report_of.Goals as goal
 
 pub write_report-requires-clause-channels : goal.write_report-requires-clause-channels
