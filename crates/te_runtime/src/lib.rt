@@ -15,6 +15,3 @@ mod turns;
 pub use answers::{Driven, Polled};
 pub use fault::SyncFault;
 pub use runtime::TeRuntime;
-
-#[cfg(test)]
-mod tests;

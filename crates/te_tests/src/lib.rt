@@ -6,6 +6,10 @@ mod board;
 #[cfg(test)]
 mod cert;
 #[cfg(test)]
+mod crew;
+#[cfg(test)]
+mod forms;
+#[cfg(test)]
 mod generator;
 #[cfg(test)]
 mod history;
@@ -22,6 +26,10 @@ mod path;
 #[cfg(test)]
 mod report;
 #[cfg(test)]
+mod runtime;
+#[cfg(test)]
 mod script;
+#[cfg(test)]
+mod serial;
 #[cfg(test)]
 mod terms;

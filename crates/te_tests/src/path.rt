@@ -144,16 +144,26 @@ fn a_message_is_sent_on(rt: HostRuntime) -> Result<(), Fail> {
     Ok(())
 }
 
+// Where a path and its copy stand, before and after the path goes right and then the copy left.
+fn part_ways(path: &mut PathState, copy: &mut PathState) -> Result<[Stop; 4], Fail> {
+    let before = path.stop();
+    make(path, Step::Right)?;
+    let copied = copy.stop();
+    make(copy, Step::Left)?;
+    Ok([before, copied, path.stop(), copy.stop()])
+}
+
+fn stops_of_both(alloc: Global) -> Result<[Stop; 4], Fail> {
+    let mut path = start(alloc, &forks())?;
+    let mut copy = path.copy()?;
+    part_ways(&mut path, &mut copy)
+}
+
 #[test]
 fn a_copy_goes_its_own_way(rt: HostRuntime) -> Result<(), Fail> {
-    let mut path = start(rt.alloc(), &forks())?;
-    assert_eq!(rt; path.stop(), Stop::Choice);
-    let mut copy = path.copy()?;
-    make(&mut path, Step::Right)?;
-    assert_eq!(rt; path.stop(), Stop::Send(1, Value::unit()));
-    assert_eq!(rt; copy.stop(), Stop::Choice);
-    make(&mut copy, Step::Left)?;
-    assert_eq!(rt; copy.stop(), Stop::Send(0, Value::unit()));
+    let right = Stop::Send(1, Value::unit());
+    let left = Stop::Send(0, Value::unit());
+    assert!(rt; stops_of_both(rt.alloc())? == [Stop::Choice, Stop::Choice, right, left]);
     Ok(())
 }
 

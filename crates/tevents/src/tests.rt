@@ -3,6 +3,7 @@ mod checks;
 mod modes;
 mod printing;
 mod reading;
+mod refusals;
 mod wishing;
 
 use crate::program::tevents;
