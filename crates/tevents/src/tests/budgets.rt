@@ -1,5 +1,7 @@
 // Budgets that are enough for the lists of a run.
 
+ghost use Rattle.te_script.specs.Scripts.{IsProgram};
+
 use super::checks::{BRANCHES, traders};
 use super::modes::RING;
 use super::{EXCHANGE, words};
@@ -13,7 +15,9 @@ use te_script::{Script, generate};
 use te_search::enough;
 
 // The budget that is enough for the list that the threads of a script park first.
-fn enough_at_first(alloc: Global, script: &Script) -> Result<Option<u64>, Fail> {
+fn enough_at_first(alloc: Global, script: &Script) -> Result<Option<u64>, Fail>
+    requires { IsProgram script.now }
+{
     let run = run_rounds(alloc, script, 1)?;
     let list = run.board.snapshot(alloc)?;
     Ok(enough(list.parked.as_slice()))
