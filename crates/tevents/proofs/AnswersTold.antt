@@ -32,7 +32,12 @@ as_told status (inr stopped) = inr (inr stopped)
 told_of_script : (task : Task) (lower : List ℕ) (script : Program) (written : List ℕ) (status : ℕ) → Tells task lower script written status → IsReadWhole status ⊎ (status ≡ 8)
 told_of_script (tasks.Run budget) lower script written status told = inl (status_of_run told.history told.ending status told.status_is)
 told_of_script tasks.Print lower script written status told = inl (inl (inl told.1))
-told_of_script (tasks.Check budget) lower script written status told = elim told [ inl legal ↦ inl (inl (inl legal.status_is)) | inr (inl undecided) ↦ inl (inr (inr undecided.status_is)) | inr (inr faulty) ↦ inr faulty.status_is ]
+told_of_script (tasks.Check budget) lower script written status told =
+    elim told [
+      | inl legal ↦ inl (inl (inl legal.status_is))
+      | inr (inl undecided) ↦ inl (inr (inr undecided.status_is))
+      | inr (inr faulty) ↦ inr faulty.status_is
+    ]
 told_of_script tasks.Lift lower script written status told = elim told [ inl lifted ↦ inl (inl (inl lifted.status_is)) | inr none ↦ inr none.status_is ]
 
 told_of_parts : (status : ℕ) → IsReadWhole status ⊎ (status ≡ 8) → IsTold status
@@ -49,11 +54,17 @@ told_of_answer task read written status answer = by answer.told
 -- a told status is no other
 pub told_apart : (status : ℕ) → IsTold status → (status ≡ 4 → ⊥) × (IsSilent status → ⊥)
 told_apart status told = (
-  λ e. apart 4 (λ f. absurd (omega (arith, f))) (λ f. absurd (omega (arith, f))) (λ f. absurd (omega (arith, f))) (λ f. absurd (omega (arith, f))) (λ f. absurd (omega (arith, f))) (λ f. absurd (omega (arith, f))) told e,
+  λ e. apart 4 (λ f. absurd (omega (arith, f))) (λ f. absurd (omega (arith, f))) (λ f. absurd (omega (arith, f)))
+      (λ f. absurd (omega (arith, f))) (λ f. absurd (omega (arith, f))) (λ f. absurd (omega (arith, f))) told e,
   λ h. elim h [
-    | inl e ↦ apart 2 (λ f. absurd (omega (arith, f))) (λ f. absurd (omega (arith, f))) (λ f. absurd (omega (arith, f))) (λ f. absurd (omega (arith, f))) (λ f. absurd (omega (arith, f))) (λ f. absurd (omega (arith, f))) told e
-    | inr (inl e) ↦ apart 3 (λ f. absurd (omega (arith, f))) (λ f. absurd (omega (arith, f))) (λ f. absurd (omega (arith, f))) (λ f. absurd (omega (arith, f))) (λ f. absurd (omega (arith, f))) (λ f. absurd (omega (arith, f))) told e
-    | inr (inr e) ↦ apart 9 (λ f. absurd (omega (arith, f))) (λ f. absurd (omega (arith, f))) (λ f. absurd (omega (arith, f))) (λ f. absurd (omega (arith, f))) (λ f. absurd (omega (arith, f))) (λ f. absurd (omega (arith, f))) told e
+    | inl e ↦ apart 2 (λ f. absurd (omega (arith, f))) (λ f. absurd (omega (arith, f))) (λ f. absurd (omega (arith, f)))
+        (λ f. absurd (omega (arith, f))) (λ f. absurd (omega (arith, f))) (λ f. absurd (omega (arith, f))) told e
+    | inr (inl e) ↦ apart 3 (λ f. absurd (omega (arith, f))) (λ f. absurd (omega (arith, f)))
+        (λ f. absurd (omega (arith, f))) (λ f. absurd (omega (arith, f))) (λ f. absurd (omega (arith, f)))
+        (λ f. absurd (omega (arith, f))) told e
+    | inr (inr e) ↦ apart 9 (λ f. absurd (omega (arith, f))) (λ f. absurd (omega (arith, f)))
+        (λ f. absurd (omega (arith, f))) (λ f. absurd (omega (arith, f))) (λ f. absurd (omega (arith, f)))
+        (λ f. absurd (omega (arith, f))) told e
   ],
 )
   where
@@ -110,7 +121,9 @@ size_of_both read upper lower (inl (rule, least)) size few = by rule.ruled
     by (inl at) = (let four : length rule.behind ≡ length (45 ∷ 45 ∷ 45 ∷ 10 ∷ lower) = ap length at in omega (arith, count, four, size, few))
     by (inr (at, none)) = (let three : length rule.behind ≡ 3 = ap length at in omega (arith, count, three, size))
 
-size_of_parts : (task : Task) (read upper lower : List ℕ) (script : Program) (written : List ℕ) (status : ℕ) → PartsFor task read upper lower → length upper ≤ 1048576 → Tells task lower script written status → IsReadWhole status → length read ≤ most_of task
+size_of_parts : (task : Task) (read upper lower : List ℕ) (script : Program) (written : List ℕ) (status : ℕ)
+    → PartsFor task read upper lower → length upper ≤ 1048576 → Tells task lower script written status
+    → IsReadWhole status → length read ≤ most_of task
 size_of_parts (tasks.Run budget) read upper lower script written status parts size told whole = subst (λ (bytes : List ℕ). length bytes ≤ 1048576) (sym parts.0) size
 size_of_parts tasks.Print read upper lower script written status parts size told whole = subst (λ (bytes : List ℕ). length bytes ≤ 1048576) (sym parts.0) size
 size_of_parts (tasks.Check budget) read upper lower script written status parts size told whole = elim told [
@@ -175,13 +188,31 @@ headline_of budget read written status answer done = by answer.told
     by (inr fault) = absurd (whole_is_not_five status (inl done) fault.status_is)
 
 -- the line of a fault is an answer where the script's part of the bytes has it
-pub fault_is_answer : {W E : Type 0} (task : Task) (text : W → List ℕ) (status : W → ℕ) (read upper lower : List ℕ) (told : ScriptFault) (answered : Result W E) → PartsFor task read upper lower → (¬ IsScriptText upper) → HasFault upper told → IfOk answered (λ told_so. (text told_so ≡ fault_line told) × (status told_so ≡ 5))
+pub fault_is_answer : {W E : Type 0} (task : Task) (text : W → List ℕ) (status : W → ℕ) (read upper lower : List ℕ)
+    (told : ScriptFault) (answered : Result W E) → PartsFor task read upper lower → (¬ IsScriptText upper)
+    → HasFault upper told → IfOk answered (λ told_so. (text told_so ≡ fault_line told) × (status told_so ≡ 5))
     → IfOk answered (λ told_so. IsAnswer task read (text told_so) (status told_so))
-fault_is_answer task text status read upper lower told (Ok written) parts none stands line = record { upper = upper; lower = lower; parts = parts; told = inr (record { no_script = none; fault = told; stands = stands; line = line.0; status_is = line.1 }) }
+fault_is_answer task text status read upper lower told (Ok written) parts none stands line =
+    record {
+      upper = upper;
+      lower = lower;
+      parts = parts;
+      told =
+          inr (record { no_script = none; fault = told; stands = stands; line = line.0; status_is = line.1 });
+    }
 fault_is_answer task text status read upper lower told (Err e) parts none stands line = line
 
 -- and so is what is told of the script
-pub told_is_answer : {W E : Type 0} (task : Task) (text : W → List ℕ) (status : W → ℕ) (read upper lower : List ℕ) (script : Program) (answered : Result W E) → PartsFor task read upper lower → Text upper script → IfOk answered (λ told_so. Tells task lower script (text told_so) (status told_so))
+pub told_is_answer : {W E : Type 0} (task : Task) (text : W → List ℕ) (status : W → ℕ) (read upper lower : List ℕ)
+    (script : Program) (answered : Result W E) → PartsFor task read upper lower → Text upper script
+    → IfOk answered (λ told_so. Tells task lower script (text told_so) (status told_so))
     → IfOk answered (λ told_so. IsAnswer task read (text told_so) (status told_so))
-told_is_answer task text status read upper lower script (Ok written) parts spelled told = record { upper = upper; lower = lower; parts = parts; told = inl (record { script = script; text = spelled; told = told }) }
+told_is_answer task text status read upper lower script (Ok written) parts spelled told =
+    record {
+      upper = upper;
+      lower = lower;
+      parts = parts;
+      told =
+          inl (record { script = script; text = spelled; told = told });
+    }
 told_is_answer task text status read upper lower script (Err e) parts spelled told = told

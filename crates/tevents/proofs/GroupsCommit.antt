@@ -43,7 +43,9 @@ not_named (m ∷ ms) low t h below = ap (λ (b : Bool). b || named ms t) (ne_eqb
 
 part_by : (f g : ℕ → Bool) (low : ℕ) (group : List steps.Member) → RiseFrom low group → ((t : ℕ) → low < t → f t ≡ g t) → part f group ≡ part g group
 part_by f g low [] rise same = refl
-part_by f g low (m ∷ ms) rise same = ap (λ (b : Bool). cond b (m ∷ part f ms) (part f ms)) (same m.thread rise.0) ∙ ap (λ (rest : List steps.Member). cond (g m.thread) (m ∷ rest) rest) (part_by f g m.thread ms rise.1 (λ t far. same t (let a : low < m.thread = rise.0 in omega (arith, a, far))))
+part_by f g low (m ∷ ms) rise same = ap (λ (b : Bool). cond b (m ∷ part f ms) (part f ms)) (same m.thread rise.0)
+    ∙ ap (λ (rest : List steps.Member). cond (g m.thread) (m ∷ rest) rest)
+    (part_by f g m.thread ms rise.1 (λ t far. same t (let a : low < m.thread = rise.0 in omega (arith, a, far))))
 
 part_none : (group : List steps.Member) → part (λ t. false) group ≡ []
 part_none [] = refl
@@ -63,7 +65,8 @@ placed_later p ps (m ∷ ms) (e ∷ es) low h below (here, rest) = (later here, 
     later (inl (is, ticket, event)) = absurd (let far : p.thread < m.thread = under below in omega (arith, is, far))
     later (inr k) = k
 
-first_placed : (p : Parked) (ps : List Parked) (m : Member) (ms : List Member) (e : Term) (es : List Term) → RiseFrom p.thread (as_group ps) → above m.thread ms → ArePlacedIn (p ∷ ps) (m ∷ ms) (e ∷ es)
+first_placed : (p : Parked) (ps : List Parked) (m : Member) (ms : List Member) (e : Term) (es : List Term)
+    → RiseFrom p.thread (as_group ps) → above m.thread ms → ArePlacedIn (p ∷ ps) (m ∷ ms) (e ∷ es)
     → (above p.thread ms → ArePlacedIn ps ms es → part (named ms) (as_group ps) ≡ group_of ms es)
     → (p.thread < m.thread → ArePlacedIn ps (m ∷ ms) (e ∷ es) → part (named (m ∷ ms)) (as_group ps) ≡ group_of (m ∷ ms) (e ∷ es))
     → (p.thread ≡ m.thread) ⊎ (p.thread ≡ m.thread → ⊥) → part (named (m ∷ ms)) (as_group (p ∷ ps)) ≡ group_of (m ∷ ms) (e ∷ es)
@@ -101,7 +104,9 @@ part_placed : (ps : List Parked) (ms : List Member) (es : List Term) (low : ℕ)
 part_placed ps [] es low rise h placed = part_by (named []) (λ t. false) low (as_group ps) rise (λ t far. refl) ∙ part_none (as_group ps)
 part_placed ps (m ∷ ms) [] low rise h placed = absurd placed
 part_placed [] (m ∷ ms) (e ∷ es) low rise h placed = absurd placed.0
-part_placed (p ∷ ps) (m ∷ ms) (e ∷ es) low rise h placed = first_placed p ps m ms e es rise.1 h.1 placed (λ a k. part_placed ps ms es p.thread rise.1 a k) (λ far k. part_placed ps (m ∷ ms) (e ∷ es) p.thread rise.1 (far, h.1) k) (same_or_apart p.thread m.thread)
+part_placed (p ∷ ps) (m ∷ ms) (e ∷ es) low rise h placed = first_placed p ps m ms e es rise.1 h.1 placed
+    (λ a k. part_placed ps ms es p.thread rise.1 a k) (λ far k.
+    part_placed ps (m ∷ ms) (e ∷ es) p.thread rise.1 (far, h.1) k) (same_or_apart p.thread m.thread)
 
 group_rises : (ms : List Member) (es : List Term) (low : ℕ) → above low ms → RiseFrom low (group_of ms es)
 group_rises [] es low h = tt
@@ -112,19 +117,28 @@ group_rises (m ∷ ms) (e ∷ es) low h = (h.0, group_rises ms es m.thread h.1)
 pub found_commits : (parked : List Parked) (cert : Certificate) (outcomes : List Outcome) → IsGroup (as_group parked) → IsGroupOf parked cert outcomes → CanCommit parked
 found_commits parked cert outcomes rise found = by parked cert.members found.events rise found.some_member found.rise found.placed found.plays.plays
   where
-    by : (ps : List Parked) (ms : List Member) (es : List Term) → IsGroup (as_group ps) → ms ≢ [] → ThreadsRise ms → ArePlacedIn ps ms es → play (group_of ms es) (map (λ m. m.choices) cert.members) cert.meets ≡ Ok (record { outcomes = outcomes; word = found.plays.word }) → CanCommit ps
+    by : (ps : List Parked) (ms : List Member) (es : List Term) → IsGroup (as_group ps) → ms ≢ [] → ThreadsRise ms
+        → ArePlacedIn ps ms es → play (group_of ms es) (map (λ m. m.choices) cert.members) cert.meets ≡ Ok
+        (record { outcomes = outcomes; word = found.plays.word }) → CanCommit ps
     by ps [] es up some above_is placed plays = absurd (some refl)
     by [] (m ∷ ms) [] up some above_is placed plays = absurd placed
     by [] (m ∷ ms) (e ∷ es) up some above_is placed plays = absurd placed.0
     by (p ∷ ps) (m ∷ ms) [] up some above_is placed plays = absurd placed
     by (p ∷ ps) (m ∷ ms) (e ∷ es) up some above_is placed plays =
-        let are : part (named (m ∷ ms)) (as_group (p ∷ ps)) ≡ group_of (m ∷ ms) (e ∷ es) = first_placed p ps m ms e es up (above_of m.thread ms above_is) placed (λ a k. part_placed ps ms es p.thread up a k) (λ far k. part_placed ps (m ∷ ms) (e ∷ es) p.thread up (far, above_of m.thread ms above_is) k) (same_or_apart p.thread m.thread) in
+        let are : part (named (m ∷ ms)) (as_group (p ∷ ps)) ≡ group_of (m ∷ ms) (e ∷ es) =
+        first_placed p ps m ms e es up (above_of m.thread ms above_is) placed
+        (λ a k. part_placed ps ms es p.thread up a k) (λ far k.
+        part_placed ps (m ∷ ms) (e ∷ es) p.thread up (far, above_of m.thread ms above_is) k)
+        (same_or_apart p.thread m.thread) in
         record {
           side = named (m ∷ ms);
           word = found.plays.word;
           results = outcomes;
           is_some = λ none. (let bad : group_of (m ∷ ms) (e ∷ es) ≡ [] = sym are ∙ none in absurd cc);
-          reduces = subst (λ (g : List steps.Member). Reduces g found.plays.word outcomes) (sym are) (plays_reduce (group_of (m ∷ ms) (e ∷ es)) (map (λ m. m.choices) cert.members) cert.meets (record { outcomes = outcomes; word = found.plays.word }) (group_rises ms es m.thread (above_of m.thread ms above_is)) plays);
+          reduces = subst (λ (g : List steps.Member). Reduces g found.plays.word outcomes) (sym are)
+              (plays_reduce (group_of (m ∷ ms) (e ∷ es)) (map (λ m. m.choices) cert.members) cert.meets
+              (record { outcomes = outcomes; word = found.plays.word })
+              (group_rises ms es m.thread (above_of m.thread ms above_is)) plays);
         }
       where
         above_of : (t : ℕ) (ms : List Member) → RiseAfter t ms → above t ms

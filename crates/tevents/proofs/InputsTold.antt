@@ -24,7 +24,8 @@ text_of read upper lower other rest p a b text = subst (λ (bytes : List ℕ). T
 
 -- ---- check
 
-pub checked_input : (budget : ℕ) (read written : List ℕ) (status : ℕ) (Grew : List ℕ → Type 0) → IsAnswer (tasks.Check budget) read written status → status ≡ 0 → Grew written → IsCheckedInput read Grew
+pub checked_input : (budget : ℕ) (read written : List ℕ) (status : ℕ) (Grew : List ℕ → Type 0)
+    → IsAnswer (tasks.Check budget) read written status → status ≡ 0 → Grew written → IsCheckedInput read Grew
 checked_input budget read written status Grew answer zero grew = by answer.told
   where
     by : AnswersParts (tasks.Check budget) answer.upper answer.lower written status → IsCheckedInput read Grew
@@ -80,7 +81,8 @@ lifted_at read written status answer input = by answer.told
     text = text_of read answer.upper answer.lower input.upper input.lower input.script answer.parts input.parts input.text
 
     read_of : (script : Program) → Text answer.upper script → IsReadAs script input.history input.ending answer.lower
-    read_of script other = subst (λ (bytes : List ℕ). IsReadAs script input.history input.ending bytes) (sym (parts_once read answer.upper answer.lower input.upper input.lower answer.parts input.parts).1)
+    read_of script other = subst (λ (bytes : List ℕ). IsReadAs script input.history input.ending bytes)
+        (sym (parts_once read answer.upper answer.lower input.upper input.lower answer.parts input.parts).1)
         (subst (λ (p : Program). IsReadAs p input.history input.ending input.lower) (text_once answer.upper input.script script text other) input.report)
 
     by : AnswersParts tasks.Lift answer.upper answer.lower written status → status ≡ 0

@@ -32,7 +32,13 @@ fault_of_long : (xs ys : List ℕ) (e : ScriptFault) → 1048576 < length xs →
 fault_of_long xs ys e more most h = by h.stands
   where
     by : StandsIn xs h.cause h.left → HasFault ys e
-    by (inl long) = record { cause = h.cause; left = length ys; stands = inl (most, long.1, refl); told = h.told ∙ ap (fault_from h.cause) (at_front xs h.left long.2 ∙ sym (at_front ys (length ys) refl)) }
+    by (inl long) = record {
+      cause = h.cause;
+      left = length ys;
+      stands = inl (most, long.1, refl);
+      told =
+          h.told ∙ ap (fault_from h.cause) (at_front xs h.left long.2 ∙ sym (at_front ys (length ys) refl));
+    }
     by (inr short) = absurd (let few : length xs ≤ 1048576 = short.0 in omega (arith, more, few))
 
 is_fault_of_long : (xs ys written : List ℕ) (status : ℕ) → 1048576 < length xs → 1048576 < length ys → ReportsFault xs written status → ReportsFault ys written status
@@ -60,7 +66,8 @@ refused_of_long script xs ys written more most h = by h.fault refl
     by faults.Long is = record { fault = h.fault; named = h.named; because = subst (IsRefusedFor script ys) (sym is) most; line = h.line }
     by faults.Memory is = absurd (h.named is)
 
-checked_of_long : (budget : ℕ) (script : Program) (xs ys written : List ℕ) (status : ℕ) → 67108864 < length xs → 67108864 < length ys → IsDecided budget script xs written status → IsDecided budget script ys written status
+checked_of_long : (budget : ℕ) (script : Program) (xs ys written : List ℕ) (status : ℕ) → 67108864 < length xs
+    → 67108864 < length ys → IsDecided budget script xs written status → IsDecided budget script ys written status
 checked_of_long budget script xs ys written status more most h = elim h [
   | inl legal ↦ absurd (short legal.legal.read.few)
   | inr (inl undecided) ↦ absurd (short undecided.read.few)
@@ -92,7 +99,9 @@ lifted_of_long script xs ys written status more most h = elim h [
 
 module _ (read given : List ℕ) (most : ℕ) (first : given ≡ take (most + 1) read) (long : most < length given) where
   all_long : most < length read
-  all_long = (let cut : length given ≡ length (take (most + 1) read) = ap length first in let least : length (take (most + 1) read) ≤ length read = least_taken (most + 1) read in omega (arith, long, cut, least))
+  all_long = (let cut : length given ≡ length (take (most + 1) read) = ap length first in
+      let least : length (take (most + 1) read) ≤ length read = least_taken (most + 1) read in
+      omega (arith, long, cut, least))
     where
       least_taken : (n : ℕ) (xs : List ℕ) → length (take n xs) ≤ length xs
       least_taken n xs = omega (arith, length-take n xs)
@@ -118,12 +127,16 @@ module _ (read given : List ℕ) (most : ℕ) (first : given ≡ take (most + 1)
         take k lower,
         record {
           behind = 45 ∷ 45 ∷ 45 ∷ 10 ∷ take k lower;
-          whole = first ∙ ap (take (most + 1)) (h.whole ∙ ap (λ (xs : List ℕ). before ++ xs) is) ∙ ap (λ n. take n (before ++ 45 ∷ 45 ∷ 45 ∷ 10 ∷ lower)) (sym count) ∙ take-append-add before (45 ∷ 45 ∷ 45 ∷ 10 ∷ lower) (suc (suc (suc (suc k))));
+          whole = first ∙ ap (take (most + 1)) (h.whole ∙ ap (λ (xs : List ℕ). before ++ xs) is)
+              ∙ ap (λ n. take n (before ++ 45 ∷ 45 ∷ 45 ∷ 10 ∷ lower)) (sym count) ∙ take-append-add before
+              (45 ∷ 45 ∷ 45 ∷ 10 ∷ lower) (suc (suc (suc (suc k))));
           starts = h.starts;
           ruled = inl refl;
         },
       )
-      by (inr (is, none)) = absurd (let size : length read ≡ length before + length h.behind = ap length h.whole ∙ length-append before h.behind in let three : length h.behind ≡ 3 = ap length is in omega (arith, near, size, three, all_long))
+      by (inr (is, none)) = absurd (let size : length read ≡ length before + length h.behind =
+          ap length h.whole ∙ length-append before h.behind in let three : length h.behind ≡ 3 = ap length is in
+          omega (arith, near, size, three, all_long))
 
   -- a rule of the first bytes, with its line feed, is one of all
   rule_read : (upper lower : List ℕ) (h : HasRule given upper lower) → h.behind ≡ 45 ∷ 45 ∷ 45 ∷ 10 ∷ lower → HasRule read upper (lower ++ rest)
@@ -174,7 +187,9 @@ wants_report tasks.Print = ⊥
 wants_report (tasks.Check budget) = Unit {0}
 wants_report tasks.Lift = Unit {0}
 
-told_of_long : (task : Task) → wants_report task → (xs ys : List ℕ) (script : Program) (written : List ℕ) (status : ℕ) → 67108864 < length xs → 67108864 < length ys → Tells task xs script written status → Tells task ys script written status
+told_of_long : (task : Task) → wants_report task → (xs ys : List ℕ) (script : Program) (written : List ℕ) (status : ℕ)
+    → 67108864 < length xs → 67108864 < length ys → Tells task xs script written status
+    → Tells task ys script written status
 told_of_long (tasks.Run budget) w xs ys script written status more most h = absurd w
 told_of_long tasks.Print w xs ys script written status more most h = absurd w
 told_of_long (tasks.Check budget) w xs ys script written status more most h = checked_of_long budget script xs ys written status more most h
@@ -182,7 +197,9 @@ told_of_long tasks.Lift w xs ys script written status more most h = lifted_of_lo
 
 module _ (read given : List ℕ) where
   -- where a script alone is wanted, more than it may have is a fault of its bytes
-  alone : (task : Task) (written : List ℕ) (status : ℕ) → ((xs : List ℕ) → PartsFor task xs xs []) → ((xs upper lower : List ℕ) → PartsFor task xs upper lower → xs ≡ upper) → given ≡ take 1048577 read → 1048576 < length given → IsAnswer task given written status → IsAnswer task read written status
+  alone : (task : Task) (written : List ℕ) (status : ℕ) → ((xs : List ℕ) → PartsFor task xs xs [])
+      → ((xs upper lower : List ℕ) → PartsFor task xs upper lower → xs ≡ upper) → given ≡ take 1048577 read
+      → 1048576 < length given → IsAnswer task given written status → IsAnswer task read written status
   alone task written status whole same first long answer = by answer.told
     where
       is : length given ≡ length answer.upper
@@ -195,7 +212,10 @@ module _ (read given : List ℕ) where
       by (inl of) = absurd (let few : length answer.upper ≤ 1048576 = of.text.size in omega (arith, few, is, long))
       by (inr fault) = record { upper = read; lower = []; parts = whole read; told = inr (is_fault_of_long answer.upper read written status (omega (arith, is, long)) far fault) }
 
-  beside : (task : Task) (written : List ℕ) (status : ℕ) → wants_report task → ((xs upper lower : List ℕ) → PartsFor task xs upper lower → AreParts xs upper lower) → ((xs upper lower : List ℕ) → AreParts xs upper lower → PartsFor task xs upper lower) → given ≡ take 68157445 read → 68157444 < length given → IsAnswer task given written status → IsAnswer task read written status
+  beside : (task : Task) (written : List ℕ) (status : ℕ) → wants_report task
+      → ((xs upper lower : List ℕ) → PartsFor task xs upper lower → AreParts xs upper lower)
+      → ((xs upper lower : List ℕ) → AreParts xs upper lower → PartsFor task xs upper lower) → given ≡ take 68157445 read
+      → 68157444 < length given → IsAnswer task given written status → IsAnswer task read written status
   beside task written status wants as_parts from_parts first long answer = by (cases_lt 1048576 (length answer.upper)) answer.told
     where
       parts : AreParts given answer.upper answer.lower
@@ -209,25 +229,39 @@ module _ (read given : List ℕ) where
         parts = from_parts read all.0 all.1 all.2;
         told = inr (is_fault_of_long answer.upper all.0 written status far (upper_long read given 68157444 first long answer.upper answer.lower all.0 all.1 (omega arith) parts all.2 far) fault);
       })
-      by (inr near) told = (let both : (67108864 < length answer.lower) × AreParts read answer.upper (answer.lower ++ rest read given 68157444 first long) = lower_long read given 68157444 first long answer.upper answer.lower refl parts near in
-          let more : 67108864 < length (answer.lower ++ rest read given 68157444 first long) = (let size : length (answer.lower ++ rest read given 68157444 first long) ≡ length answer.lower + length (rest read given 68157444 first long) = length-append answer.lower (rest read given 68157444 first long) in omega (arith, size, both.0)) in
+      by (inr near) told = (let both : (67108864 < length answer.lower) × AreParts read answer.upper
+          (answer.lower ++ rest read given 68157444 first long) =
+          lower_long read given 68157444 first long answer.upper answer.lower refl parts near in
+          let more : 67108864 < length (answer.lower ++ rest read given 68157444 first long) =
+          (let size : length (answer.lower ++ rest read given 68157444 first long) ≡ length answer.lower + length
+          (rest read given 68157444 first long) = length-append answer.lower
+          (rest read given 68157444 first long) in omega (arith, size, both.0)) in
           record {
             upper = answer.upper;
             lower = answer.lower ++ rest read given 68157444 first long;
             parts = from_parts read answer.upper (answer.lower ++ rest read given 68157444 first long) both.1;
             told = elim told [
-              | inl of ↦ inl (record { script = of.script; text = of.text; told = told_of_long task wants answer.lower (answer.lower ++ rest read given 68157444 first long) of.script written status both.0 more of.told })
+              | inl of ↦ inl (record {
+                script = of.script;
+                text = of.text;
+                told =
+                    told_of_long task wants answer.lower (answer.lower ++ rest read given 68157444 first long) of.script
+                    written status both.0 more of.told;
+              })
               | inr fault ↦ inr fault
             ];
           })
 
-  long_answer : (task : Task) (written : List ℕ) (status : ℕ) → given ≡ take (most_of task + 1) read → most_of task < length given → IsAnswer task given written status → IsAnswer task read written status
+  long_answer : (task : Task) (written : List ℕ) (status : ℕ) → given ≡ take (most_of task + 1) read
+      → most_of task < length given → IsAnswer task given written status → IsAnswer task read written status
   long_answer (tasks.Run budget) written status first long answer = alone (tasks.Run budget) written status (λ xs. (refl, refl)) (λ xs upper lower p. p.0) first long answer
   long_answer tasks.Print written status first long answer = alone tasks.Print written status (λ xs. (refl, refl)) (λ xs upper lower p. p.0) first long answer
   long_answer (tasks.Check budget) written status first long answer = beside (tasks.Check budget) written status tt (λ xs upper lower p. p) (λ xs upper lower p. p) first long answer
   long_answer tasks.Lift written status first long answer = beside tasks.Lift written status tt (λ xs upper lower p. p) (λ xs upper lower p. p) first long answer
 
-  pub answer_to_all : (task : Task) (written : List ℕ) (status : ℕ) → given ≡ take (most_of task + 1) read → (length given ≤ most_of task → given ≡ read) → IsAnswer task given written status → IsAnswer task read written status
+  pub answer_to_all : (task : Task) (written : List ℕ) (status : ℕ) → given ≡ take (most_of task + 1) read
+      → (length given ≤ most_of task → given ≡ read) → IsAnswer task given written status
+      → IsAnswer task read written status
   answer_to_all task written status first whole answer = by (cases_lt (most_of task) (length given))
     where
       by : (most_of task < length given) ⊎ (length given ≤ most_of task) → IsAnswer task read written status

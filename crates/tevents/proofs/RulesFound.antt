@@ -1,5 +1,7 @@
 -- Where the first rule of a text stands, line by line.
-use Rattle.std.proofs.Common.{◌≡◌, ◌≢◌, ◌≤◌, ◌<◌, ◌⊎◌, ℕ, zero, suc, ◌+◌, Bool, true, false, List, [], ◌∷◌, ◌++◌, length, take, drop, get_or, refl, ap, sym, ◌∙◌, subst, inl, inr, arith, eqb-true, length-append}
+use Rattle.std.proofs.Common.{◌≡◌, ◌≢◌, ◌≤◌, ◌<◌, ◌⊎◌, ℕ, zero, suc, ◌+◌, Bool, true, false, List, [], ◌∷◌, ◌++◌}
+use Rattle.std.proofs.Common.{length, take, drop, get_or, refl, ap, sym, ◌∙◌, subst, inl, inr, arith, eqb-true}
+use Rattle.std.proofs.Common.{length-append}
 use Rattle.std.proofs.Math.Dec.{eqb}
 use Rattle.std.proofs.Math.Seq.{take-suc}
 use Rattle.std.proofs.lemmas.List.{length-take-le, take-append-drop, take_at, drop_at}
@@ -25,19 +27,25 @@ pub scanned_none : (text : List ℕ) → Scanned text true 0
 scanned_none text = record { low = omega arith; none = λ before rest h. omega arith; begins = λ e. inl refl; within = λ e. absurd cc }
 
 at_place : (text before rest : List ℕ) (i : ℕ) → HasRule text before rest → length before ≡ i → StartsLine (take i text) × IsRuled (drop i text) rest
-at_place text before rest i h n = (subst StartsLine (sym (ap (take i) h.whole ∙ take_at before h.behind i n)) h.starts, subst (λ bs. IsRuled bs rest) (sym (ap (drop i) h.whole ∙ drop_at before h.behind i n)) h.ruled)
+at_place text before rest i h n = (
+  subst StartsLine (sym (ap (take i) h.whole ∙ take_at before h.behind i n)) h.starts,
+  subst (λ bs. IsRuled bs rest) (sym (ap (drop i) h.whole ∙ drop_at before h.behind i n)) h.ruled,
+)
 
-scanned_past : (text before rest : List ℕ) (starts : Bool) (i : ℕ) → Scanned text starts i → (starts ≡ true → (r : List ℕ) → ¬ IsRuled (drop i text) r) → HasRule text before rest → length before ≡ i → ⊥
+scanned_past : (text before rest : List ℕ) (starts : Bool) (i : ℕ) → Scanned text starts i
+    → (starts ≡ true → (r : List ℕ) → ¬ IsRuled (drop i text) r) → HasRule text before rest → length before ≡ i → ⊥
 scanned_past text before rest true i s free h n = free refl rest (at_place text before rest i h n).1
 scanned_past text before rest false i s free h n = s.within refl (at_place text before rest i h n).0
 
 goes_on : (text before rest : List ℕ) (starts : Bool) (i : ℕ) → Scanned text starts i → (starts ≡ true → (r : List ℕ) → ¬ IsRuled (drop i text) r) → HasRule text before rest → suc i ≤ length before
-goes_on text before rest starts i s free h = (let low : i ≤ length before = s.none before rest h in let not : length before ≢ i = scanned_past text before rest starts i s free h in omega (arith, low, not))
+goes_on text before rest starts i s free h = (let low : i ≤ length before = s.none before rest h in
+    let not : length before ≢ i = scanned_past text before rest starts i s free h in omega (arith, low, not))
 
 next : (text : List ℕ) (i : ℕ) → i < length text → take (suc i) text ≡ take i text ++ get_or text i 0 ∷ []
 next text i lt = take-suc text i 0 lt
 
-scanned_on : (text : List ℕ) (starts : Bool) (i : ℕ) → i < length text → Scanned text starts i → (starts ≡ true → (r : List ℕ) → ¬ IsRuled (drop i text) r) → Scanned text (eqb (get_or text i 0) 10) (suc i)
+scanned_on : (text : List ℕ) (starts : Bool) (i : ℕ) → i < length text → Scanned text starts i
+    → (starts ≡ true → (r : List ℕ) → ¬ IsRuled (drop i text) r) → Scanned text (eqb (get_or text i 0) 10) (suc i)
 scanned_on text starts i lt s free = record {
   low = omega (arith, lt);
   none = λ before rest h. goes_on text before rest starts i s free h;
@@ -46,14 +54,29 @@ scanned_on text starts i lt s free = record {
 }
   where
     inside : eqb (get_or text i 0) 10 ≡ false → ¬ StartsLine (take (suc i) text)
-    inside e (inl none) = (let short : length (take i text ++ get_or text i 0 ∷ []) ≡ 0 = ap length (sym (next text i lt) ∙ none) in let long : length (take i text ++ get_or text i 0 ∷ []) ≡ length (take i text) + 1 = length-append (take i text) (get_or text i 0 ∷ []) in omega (arith, short, long))
-    inside e (inr (earlier, is)) = (let ten : get_or text i 0 ≡ 10 = last_of (take i text) earlier (get_or text i 0) 10 (sym (next text i lt) ∙ is) in let eq : eqb 10 10 ≡ false = subst (λ b. eqb b 10 ≡ false) ten e in cc)
+    inside e (inl none) = (let short : length (take i text ++ get_or text i 0 ∷ []) ≡ 0 =
+        ap length (sym (next text i lt) ∙ none) in let long : length (take i text ++ get_or text i 0 ∷ []) ≡ length
+        (take i text) + 1 = length-append (take i text) (get_or text i 0 ∷ []) in omega (arith, short, long))
+    inside e (inr (earlier, is)) = (let ten : get_or text i 0 ≡ 10 =
+        last_of (take i text) earlier (get_or text i 0) 10 (sym (next text i lt) ∙ is) in let eq : eqb 10 10 ≡ false =
+        subst (λ b. eqb b 10 ≡ false) ten e in cc)
 
-pub scanned_next : (text : List ℕ) (starts : Bool) (i : ℕ) → i < length text → Scanned text starts i → (starts ≡ true → (r : List ℕ) → ¬ IsRuled (drop i text) r) → Scanned text (eqb (get_or text i 0) 10) (i + 1)
+pub scanned_next : (text : List ℕ) (starts : Bool) (i : ℕ) → i < length text → Scanned text starts i
+    → (starts ≡ true → (r : List ℕ) → ¬ IsRuled (drop i text) r) → Scanned text (eqb (get_or text i 0) 10) (i + 1)
 scanned_next text starts i lt s free = (let is : suc i ≡ i + 1 = omega arith in subst (λ n. Scanned text (eqb (get_or text i 0) 10) n) is (scanned_on text starts i lt s free))
 
 pub parts_found : (text rest : List ℕ) (i : ℕ) → Scanned text true i → IsRuled (drop i text) rest → AreParts text (take i text) rest
-parts_found text rest i s ruled = inl (record { behind = drop i text; whole = sym (take-append-drop i text); starts = s.begins refl; ruled = ruled }, λ before r h. subst (λ n. n ≤ length before) (sym (length-take-le i text s.low)) (s.none before r h))
+parts_found text rest i s ruled = inl (
+  record {
+    behind = drop i text;
+    whole = sym (take-append-drop i text);
+    starts =
+        s.begins refl;
+    ruled = ruled;
+  },
+  λ before r h. subst (λ n. n ≤ length before) (sym (length-take-le i text s.low))
+      (s.none before r h),
+)
 
 pub parts_none : (text : List ℕ) (starts : Bool) (i : ℕ) → length text ≤ i → Scanned text starts i → AreParts text text []
 parts_none text starts i over s = inr (none, refl, refl)
@@ -106,7 +129,9 @@ is_ruled (a ∷ b ∷ c ∷ []) = by (same_or_apart a 45) (same_or_apart b 45) (
     by _ _ (inr z) = inr (λ rest h. elim h [ inl is ↦ cc | inr is ↦ z (let e : a ∷ b ∷ c ∷ [] ≡ 45 ∷ 45 ∷ 45 ∷ [] = is.0 in cc) ])
 is_ruled (a ∷ b ∷ c ∷ d ∷ more) = by (same_or_apart a 45) (same_or_apart b 45) (same_or_apart c 45) (same_or_apart d 10)
   where
-    by : (a ≡ 45) ⊎ (a ≡ 45 → ⊥) → (b ≡ 45) ⊎ (b ≡ 45 → ⊥) → (c ≡ 45) ⊎ (c ≡ 45 → ⊥) → (d ≡ 10) ⊎ (d ≡ 10 → ⊥) → ((rest : List ℕ) × IsRuled (a ∷ b ∷ c ∷ d ∷ more) rest) ⊎ ((rest : List ℕ) → ¬ IsRuled (a ∷ b ∷ c ∷ d ∷ more) rest)
+    by : (a ≡ 45) ⊎ (a ≡ 45 → ⊥) → (b ≡ 45) ⊎ (b ≡ 45 → ⊥) → (c ≡ 45) ⊎ (c ≡ 45 → ⊥) → (d ≡ 10) ⊎ (d ≡ 10 → ⊥)
+        → ((rest : List ℕ) × IsRuled (a ∷ b ∷ c ∷ d ∷ more) rest)
+        ⊎ ((rest : List ℕ) → ¬ IsRuled (a ∷ b ∷ c ∷ d ∷ more) rest)
     by (inl x) (inl y) (inl z) (inl w) = inl (more, inl cc)
     by (inr x) _ _ _ = inr (λ rest h. elim h [ inl is ↦ x cc | inr is ↦ absurd (let e : a ∷ b ∷ c ∷ d ∷ more ≡ 45 ∷ 45 ∷ 45 ∷ [] = is.0 in cc) ])
     by _ (inr y) _ _ = inr (λ rest h. elim h [ inl is ↦ y cc | inr is ↦ absurd (let e : a ∷ b ∷ c ∷ d ∷ more ≡ 45 ∷ 45 ∷ 45 ∷ [] = is.0 in cc) ])
@@ -118,9 +143,13 @@ HasParts text = (upper : List ℕ) × (lower : List ℕ) × AreParts text upper 
 
 parts_from : (text : List ℕ) (n i : ℕ) (starts : Bool) → i + n ≡ length text → Scanned text starts i → HasParts text
 parts_from text zero i starts e s = (text, [], parts_none text starts i (omega (arith, e)) s)
-parts_from text (suc n) i starts e s = by (λ (free : starts ≡ true → (rest : List ℕ) → ¬ IsRuled (drop i text) rest). parts_from text n (i + 1) (eqb (get_or text i 0) 10) (omega (arith, e)) (scanned_next text starts i (omega (arith, e)) s free)) starts refl (is_ruled (drop i text))
+parts_from text (suc n) i starts e s = by (λ (free : starts ≡ true → (rest : List ℕ) → ¬ IsRuled (drop i text) rest).
+    parts_from text n (i + 1) (eqb (get_or text i 0) 10) (omega (arith, e))
+    (scanned_next text starts i (omega (arith, e)) s free)) starts refl (is_ruled (drop i text))
   where
-    by : ((starts ≡ true → (rest : List ℕ) → ¬ IsRuled (drop i text) rest) → HasParts text) → (b : Bool) → starts ≡ b → ((rest : List ℕ) × IsRuled (drop i text) rest) ⊎ ((rest : List ℕ) → ¬ IsRuled (drop i text) rest) → HasParts text
+    by : ((starts ≡ true → (rest : List ℕ) → ¬ IsRuled (drop i text) rest) → HasParts text) → (b : Bool) → starts ≡ b
+        → ((rest : List ℕ) × IsRuled (drop i text) rest) ⊎ ((rest : List ℕ) → ¬ IsRuled (drop i text) rest)
+        → HasParts text
     by on true is (inl ruled) = (take i text, ruled.0, parts_found text ruled.0 i (subst (λ b. Scanned text b i) is s) ruled.1)
     by on true is (inr none) = on (λ e rest. none rest)
     by on false is ruled = on (λ e. absurd (let z : true ≡ false = sym e ∙ is in cc))

@@ -52,4 +52,5 @@ not_refused words w says (inr none) = none w.mode says.mode_is
 
 -- what is answered in the mode at hand
 pub answers_in : (w v : Words) (m : Mode) (read written : List ℕ) (status : ℕ) → w ≡ v → v.mode ≡ m → AnswersIn m v.budget v.number read written status → Answers w read written status
-answers_in w v m read written status is mode answer = subst (λ (u : Words). Answers u read written status) (sym is) (subst (λ (n : Mode). AnswersIn n v.budget v.number read written status) (sym mode) answer)
+answers_in w v m read written status is mode answer = subst (λ (u : Words). Answers u read written status) (sym is)
+    (subst (λ (n : Mode). AnswersIn n v.budget v.number read written status) (sym mode) answer)

@@ -18,4 +18,6 @@ pub record HasRule (text before rest : List ℕ) : Type 0 where
 
 -- what stands before the first rule, and what stands behind it; where there is none, the whole text and nothing
 abbrev pub AreParts : List ℕ → List ℕ → List ℕ → Type 0
-AreParts text upper lower = (HasRule text upper lower × ((before rest : List ℕ) → HasRule text before rest → length upper ≤ length before)) ⊎ (((before rest : List ℕ) → ¬ HasRule text before rest) × (text ≡ upper) × (lower ≡ []))
+AreParts text upper lower = (HasRule text upper lower × ((before rest : List ℕ) → HasRule text before rest
+    → length upper ≤ length before)) ⊎ (((before rest : List ℕ) → ¬ HasRule text before rest) × (text ≡ upper)
+    × (lower ≡ []))

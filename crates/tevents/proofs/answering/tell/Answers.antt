@@ -14,7 +14,8 @@ told_so text status r task other lower script is h =
     subst (λ (t : Task). IfOk r (λ told. Tells t lower script (text told) (status told))) (sym is) h
 
 pub returns-in-Run : goal.returns-in-Run
-returns-in-Run c = told_so (λ told. told.text) (λ told. told.status) c.run_and_report.result c.args.task (tasks.Run c.in-Run.budget) c.args.lower.now c.args.script.now c.in-Run.is c.run_and_report.ensures
+returns-in-Run c = told_so (λ told. told.text) (λ told. told.status) c.run_and_report.result c.args.task
+    (tasks.Run c.in-Run.budget) c.args.lower.now c.args.script.now c.in-Run.is c.run_and_report.ensures
 
 pub returns-in-Print : goal.returns-in-Print
 returns-in-Print c = told_so (λ told. told.text) (λ told. told.status) c.print.result c.args.task tasks.Print c.args.lower.now c.args.script.now c.in-Print.is c.print.ensures

@@ -17,7 +17,8 @@ pub bytes-preserved : goal.bytes-preserved
 bytes-preserved c =
     let text = c.args.text.now in
     elim c.if-starts.branch [
-      | then-starts+in_default w ↦ scanned_next text c.bytes.starts c.bytes.i c.bytes-test.true c.bytes.invariant (λ e r h. w.behind_rule.ensures.none w.in_default.is r (subst (λ bs. IsRuled bs r) (sym w.behind.ensures) h))
+      | then-starts+in_default w ↦ scanned_next text c.bytes.starts c.bytes.i c.bytes-test.true c.bytes.invariant
+          (λ e r h. w.behind_rule.ensures.none w.in_default.is r (subst (λ bs. IsRuled bs r) (sym w.behind.ensures) h))
       | else-starts w ↦ scanned_next text c.bytes.starts c.bytes.i c.bytes-test.true c.bytes.invariant (λ e. absurd (let z : true ≡ false = sym e ∙ w.if-starts.false in cc))
     ]
 

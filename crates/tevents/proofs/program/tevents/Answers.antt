@@ -8,43 +8,79 @@ use Rattle.tevents.proofs.program.tevents.Goals as goal
 
 pub returns-in-Serial-clause-told : goal.returns-in-Serial-clause-told
 returns-in-Serial-clause-told g c = λ told w says read left.
-    let answer = c.serial_run.ensures.told told read left in
-    (answer.0, answers_in w c.in-Ok.said modes.Serial read answer.0 c.serial_run.result (says_once (map string_bytes c.args.words.now) w c.in-Ok.said says c.in-Ok.ensures.ok) c.in-Serial.is answer.1, answer.2)
+    let answer = c.serial_run.ensures.told told read left in (
+      answer.0,
+      answers_in w c.in-Ok.said modes.Serial read answer.0 c.serial_run.result
+          (says_once (map string_bytes c.args.words.now) w c.in-Ok.said says c.in-Ok.ensures.ok) c.in-Serial.is answer.1,
+      answer.2,
+    )
 
 pub returns-in-Serial-clause-cut_short : goal.returns-in-Serial-clause-cut_short
 returns-in-Serial-clause-cut_short g c = λ four w says read left.
-    let answer = c.serial_run.ensures.cut_short four read left in
-    (answer.0, answer.1, answers_in w c.in-Ok.said modes.Serial read answer.0 answer.1 (says_once (map string_bytes c.args.words.now) w c.in-Ok.said says c.in-Ok.ensures.ok) c.in-Serial.is answer.2, answer.3)
+    let answer = c.serial_run.ensures.cut_short four read left in (
+      answer.0,
+      answer.1,
+      answers_in w c.in-Ok.said modes.Serial read answer.0 answer.1
+          (says_once (map string_bytes c.args.words.now) w c.in-Ok.said says c.in-Ok.ensures.ok) c.in-Serial.is answer.2,
+      answer.3,
+    )
 
 pub returns-in-Print-clause-told : goal.returns-in-Print-clause-told
 returns-in-Print-clause-told g c = λ told w says read left.
-    let answer = c.print_run.ensures.told told read left in
-    (answer.0, answers_in w c.in-Ok.said modes.Print read answer.0 c.print_run.result (says_once (map string_bytes c.args.words.now) w c.in-Ok.said says c.in-Ok.ensures.ok) c.in-Print.is answer.1, answer.2)
+    let answer = c.print_run.ensures.told told read left in (
+      answer.0,
+      answers_in w c.in-Ok.said modes.Print read answer.0 c.print_run.result
+          (says_once (map string_bytes c.args.words.now) w c.in-Ok.said says c.in-Ok.ensures.ok) c.in-Print.is answer.1,
+      answer.2,
+    )
 
 pub returns-in-Print-clause-cut_short : goal.returns-in-Print-clause-cut_short
 returns-in-Print-clause-cut_short g c = λ four w says read left.
-    let answer = c.print_run.ensures.cut_short four read left in
-    (answer.0, answer.1, answers_in w c.in-Ok.said modes.Print read answer.0 answer.1 (says_once (map string_bytes c.args.words.now) w c.in-Ok.said says c.in-Ok.ensures.ok) c.in-Print.is answer.2, answer.3)
+    let answer = c.print_run.ensures.cut_short four read left in (
+      answer.0,
+      answer.1,
+      answers_in w c.in-Ok.said modes.Print read answer.0 answer.1
+          (says_once (map string_bytes c.args.words.now) w c.in-Ok.said says c.in-Ok.ensures.ok) c.in-Print.is answer.2,
+      answer.3,
+    )
 
 pub returns-in-Check-clause-told : goal.returns-in-Check-clause-told
 returns-in-Check-clause-told g c = λ told w says read left.
-    let answer = c.check_run.ensures.told told read left in
-    (answer.0, answers_in w c.in-Ok.said modes.Check read answer.0 c.check_run.result (says_once (map string_bytes c.args.words.now) w c.in-Ok.said says c.in-Ok.ensures.ok) c.in-Check.is answer.1, answer.2)
+    let answer = c.check_run.ensures.told told read left in (
+      answer.0,
+      answers_in w c.in-Ok.said modes.Check read answer.0 c.check_run.result
+          (says_once (map string_bytes c.args.words.now) w c.in-Ok.said says c.in-Ok.ensures.ok) c.in-Check.is answer.1,
+      answer.2,
+    )
 
 pub returns-in-Check-clause-cut_short : goal.returns-in-Check-clause-cut_short
 returns-in-Check-clause-cut_short g c = λ four w says read left.
-    let answer = c.check_run.ensures.cut_short four read left in
-    (answer.0, answer.1, answers_in w c.in-Ok.said modes.Check read answer.0 answer.1 (says_once (map string_bytes c.args.words.now) w c.in-Ok.said says c.in-Ok.ensures.ok) c.in-Check.is answer.2, answer.3)
+    let answer = c.check_run.ensures.cut_short four read left in (
+      answer.0,
+      answer.1,
+      answers_in w c.in-Ok.said modes.Check read answer.0 answer.1
+          (says_once (map string_bytes c.args.words.now) w c.in-Ok.said says c.in-Ok.ensures.ok) c.in-Check.is answer.2,
+      answer.3,
+    )
 
 pub returns-in-Lift-clause-told : goal.returns-in-Lift-clause-told
 returns-in-Lift-clause-told g c = λ told w says read left.
-    let answer = c.lift_run.ensures.told told read left in
-    (answer.0, answers_in w c.in-Ok.said modes.Lift read answer.0 c.lift_run.result (says_once (map string_bytes c.args.words.now) w c.in-Ok.said says c.in-Ok.ensures.ok) c.in-Lift.is answer.1, answer.2)
+    let answer = c.lift_run.ensures.told told read left in (
+      answer.0,
+      answers_in w c.in-Ok.said modes.Lift read answer.0 c.lift_run.result
+          (says_once (map string_bytes c.args.words.now) w c.in-Ok.said says c.in-Ok.ensures.ok) c.in-Lift.is answer.1,
+      answer.2,
+    )
 
 pub returns-in-Lift-clause-cut_short : goal.returns-in-Lift-clause-cut_short
 returns-in-Lift-clause-cut_short g c = λ four w says read left.
-    let answer = c.lift_run.ensures.cut_short four read left in
-    (answer.0, answer.1, answers_in w c.in-Ok.said modes.Lift read answer.0 answer.1 (says_once (map string_bytes c.args.words.now) w c.in-Ok.said says c.in-Ok.ensures.ok) c.in-Lift.is answer.2, answer.3)
+    let answer = c.lift_run.ensures.cut_short four read left in (
+      answer.0,
+      answer.1,
+      answers_in w c.in-Ok.said modes.Lift read answer.0 answer.1
+          (says_once (map string_bytes c.args.words.now) w c.in-Ok.said says c.in-Ok.ensures.ok) c.in-Lift.is answer.2,
+      answer.3,
+    )
 
 pub returns-in-Gen-clause-told : goal.returns-in-Gen-clause-told
 returns-in-Gen-clause-told g c = λ told w says read left.
@@ -53,8 +89,13 @@ returns-in-Gen-clause-told g c = λ told w says read left.
 
 pub returns-in-Gen-clause-cut_short : goal.returns-in-Gen-clause-cut_short
 returns-in-Gen-clause-cut_short g c = λ four w says read left.
-    let answer = c.gen_run.ensures.cut_short four in
-    (answer.0, answer.1, answers_in w c.in-Ok.said modes.Gen read answer.0 answer.1 (says_once (map string_bytes c.args.words.now) w c.in-Ok.said says c.in-Ok.ensures.ok) c.in-Gen.is answer.2, answer.3)
+    let answer = c.gen_run.ensures.cut_short four in (
+      answer.0,
+      answer.1,
+      answers_in w c.in-Ok.said modes.Gen read answer.0 answer.1
+          (says_once (map string_bytes c.args.words.now) w c.in-Ok.said says c.in-Ok.ensures.ok) c.in-Gen.is answer.2,
+      answer.3,
+    )
 
 pub returns-in-Err-Refused-clause-refused : goal.returns-in-Err-Refused-clause-refused
 returns-in-Err-Refused-clause-refused g c = λ _. c.in-Err-Refused.ensures.refused (ap Err c.in-Err-Refused.field-0-is)
