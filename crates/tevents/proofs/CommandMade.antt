@@ -1,10 +1,9 @@
 -- The command has its three arguments, each in its place.
-use Rattle.std.proofs.Common.{◌≡◌, ◌⊎◌, ◌∙◌, ◌<◌, ◌≤◌, ◌++◌, ℕ, Bool, true, false, List, [], ◌∷◌, length, refl, sym, subst, ap, ap₂, inl, inr, arith, zero, suc, codes}
+use Rattle.std.proofs.Common.{◌≡◌, ◌∙◌, ◌<◌, ◌++◌, ℕ, true, false, List, [], ◌∷◌, length, refl, sym, subst, ap, ap₂, inl, inr, arith, zero, suc, codes}
 use Rattle.std.specs.List.{All, slice_index_or, slice_index}
 use Rattle.std.specs.Str.{bytes_eq}
 use Rattle.std.proofs.lemmas.List.Elements.{All-nil}
-use Rattle.clap.specs.Words.{Rule, App, Text, args_of, groups_of, app_of, rule_of, with_rule, IsPlain, IsPlainArg, AddsArg, SameRules, new_app}
-use Rattle.clap.specs.Facts.{WantsDefault}
+use Rattle.clap.specs.Words.{Rule, Text, args_of, groups_of, app_of, rule_of, with_rule, IsPlain, IsPlainArg, AddsArg, SameRules, new_app}
 use Rattle.clap.specs.Built.{IsAuto}
 use Rattle.clap.specs.declared.builder.action.ArgAction.TheVariants.{Set}
 use Rattle.clap.specs.declared.builder.arg.Arg.{Arg}

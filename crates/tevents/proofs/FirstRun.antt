@@ -1,5 +1,5 @@
 -- A board and cores before anything was done, and what a run leaves of them.
-use Rattle.std.proofs.Common.{◌≡◌, ◌∙◌, ℕ, zero, suc, List, [], ◌∷◌, ◌++◌, length, map, Some, None, refl, ap, sym, subst}
+use Rattle.std.proofs.Common.{◌≡◌, ◌∙◌, ℕ, zero, suc, List, [], ◌∷◌, ◌++◌, length, map, Some, refl, ap, sym, subst}
 use Rattle.std.specs.Prelude.{slice_get}
 use Rattle.std.specs.List.{AllByRecursion}
 use Rattle.te_script.specs.Scripts.{Thread, Program}
@@ -7,7 +7,7 @@ use Rattle.te_script.specs.Cores.{At, core_after}
 use Rattle.te_history.specs.declared.entry.Entry.{Entry}
 use Rattle.te_history.specs.declared.entry.Entry.TheVariants as entries
 use Rattle.te_history.specs.Follows.{IsLegal}
-use Rattle.te_report.specs.OfScript.{IsOfScript, WishedFrom}
+use Rattle.te_report.specs.OfScript.{WishedFrom}
 use Rattle.te_board.specs.Boards.{BoardLog}
 use Rattle.std.specs.Prelude.{◌≤◌}
 use Rattle.te_history.specs.State.{state, parked_list}

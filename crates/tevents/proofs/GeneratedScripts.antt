@@ -1,7 +1,7 @@
 -- Generated scripts have no repeats, so their runs are never short of room.
-use Rattle.std.proofs.Common.{◌≡◌, ℕ, zero, suc, ◌*◌, List, [], ◌∷◌, ◌++◌, length, sym, subst}
+use Rattle.std.proofs.Common.{◌≡◌, ℕ, zero, suc, ◌*◌, List, length, sym, subst}
 use Rattle.std.specs.List.{AllByRecursion}
-use Rattle.te_script.specs.Scripts.{Statement, sync, emit, Thread, Program, IsProgram}
+use Rattle.te_script.specs.Scripts.{sync, Program, IsProgram}
 use Rattle.te_script.specs.Generated.{each, generated_thread, generated, event_of, rings_of, rounds_of}
 use Rattle.te_history.specs.declared.entry.Entry.{Entry}
 use Rattle.te_report.specs.declared.ending.Ending.{Ending}

@@ -18,3 +18,10 @@ pub mod FirstRun
 pub mod EntriesCounted
 pub mod GeneratedScripts
 pub mod WordsOnce
+pub mod RulesFound
+pub mod PartsRead
+pub mod ParkedRise
+pub mod GroupsCommit
+pub mod DeclaredTruly
+pub mod ReportsChecked
+pub mod InputsTold

@@ -1,15 +1,14 @@
 -- An option with a default and a range of numbers has a number of the range.
-use Rattle.std.proofs.Common.{◌≡◌, ◌⊎◌, ◌∙◌, ◌<◌, ◌≤◌, ℕ, Bool, true, false, List, [], ◌∷◌, length, is_some, Option, Some, None, refl, sym, subst, ap, inl, inr, arith, cond, zero, suc}
+use Rattle.std.proofs.Common.{◌≡◌, ◌∙◌, ◌<◌, ◌≤◌, ℕ, Bool, true, false, List, [], ◌∷◌, length, Some, refl, sym, subst, ap, inl, inr, arith, cond, zero, suc}
 use Rattle.std.specs.List.{All, slice_index_or}
 use Rattle.std.specs.Str.{bytes_eq}
 use Rattle.std.specs.Prelude.{option_map, option_and_then, slice_get, find}
 use Rattle.std.specs.Borrow.{Bor}
 use Rattle.std.proofs.lemmas.Slice.Eq.{bytes_eq-Decides}
 use Rattle.std.proofs.lemmas.List.Elements.{All-get_or}
-use Rattle.clap.specs.Words.{args_of, groups_of, IsParsed, IsParsedFrom, IsPlain, found_of, has_subcommand, matched_of, one_text, IsUnsignedIn, Accepts, parser_of, reading_of, read_as, SameRules}
+use Rattle.clap.specs.Words.{args_of, groups_of, IsParsed, IsParsedFrom, found_of, has_subcommand, matched_of, one_text, IsUnsignedIn, Accepts, parser_of, reading_of, read_as, SameRules}
 use Rattle.clap.specs.Facts.{Entry, EntryPasses, PassesArg, HasReading, HasId, HasIn, WantsDefault, least_values, parser_of_value}
 use Rattle.clap.specs.Built.{IsAuto}
-use Rattle.clap.specs.declared.parser.matches.Found.{Found}
 use Rattle.clap.specs.declared.parser.matches.MatchedArg.{MatchedArg}
 use Rattle.clap.specs.declared.parser.matches.ArgMatches.{ArgMatches}
 use Rattle.clap.specs.declared.builder.action.ArgAction.TheVariants.{Set, Count}

@@ -1,35 +1,21 @@
 -- A board has room for every post of a script without repeats: a thread posts at most once for each of its syncs.
-use Rattle.std.proofs.Common.{◌≡◌, ◌≢◌, ◌⊎◌, ◌∙◌, ◌<◌, ◌≤◌, ◌+◌, ◌*◌, ℕ, zero, suc, Bool, true, false, List, [], ◌∷◌}
-use Rattle.std.proofs.Common.{◌++◌, length, Some, None, Option, Result, Ok, Err, refl, ap, sym, subst, inl, inr, arith}
-use Rattle.std.proofs.Common.{nat_eq, eq-eqb, cond}
-use Rattle.std.specs.Prelude.{slice_get, slice_set}
+use Rattle.std.proofs.Common.{◌≡◌, ◌⊎◌, ◌∙◌, ◌<◌, ◌≤◌, ◌+◌, ◌*◌, ℕ, zero, suc, true, false, List, [], ◌∷◌}
+use Rattle.std.proofs.Common.{◌++◌, length, Result, Ok, Err, refl, sym, subst, inl, inr, arith}
 use Rattle.std.specs.List.{AllByRecursion}
 use Rattle.std.proofs.lemmas.Bool.{cases_lt, ne_eqb}
-use Rattle.std.proofs.lemmas.List.{append-nil, length-append}
 use Rattle.te_terms.specs.declared.value.Atom.{Atom}
 use Rattle.te_terms.specs.declared.value.Trap.{Trap}
 use Rattle.te_terms.specs.declared.event.Outcome.{Outcome}
 use Rattle.te_terms.specs.declared.event.Outcome.TheVariants.{Gives, Raises}
 use Rattle.te_terms.specs.Expressions.{Variable, in_expression, value_of}
 use Rattle.te_terms.specs.Terms.{Term}
-use Rattle.te_terms.specs.Steps as steps
-use Rattle.te_cert.specs.declared.cert.Member.{Member}
-use Rattle.te_cert.specs.Checks.{ThreadsRise}
-use Rattle.te_cert.proofs.Places.{get_set_other}
-use Rattle.te_script.specs.Scripts.{Statement, sync, emit, repeat, Thread, Program}
-use Rattle.te_script.specs.Wishes.{Step, syncing, emitting, flat_from, flat, Doing, synchronises, ends, has_raised, Reached, holding, emits_or, reached_by, reached, Wish, syncs, wish_of, wish}
-use Rattle.te_script.specs.Limits.{most_statements}
+use Rattle.te_script.specs.Scripts.{Statement, sync, emit, repeat, Thread}
+use Rattle.te_script.specs.Wishes.{Step, syncing, emitting, flat_from, flat, Doing, synchronises, ends, has_raised, holding, emits_or, reached_by, reached, syncs, wish_of, wish}
 use Rattle.te_history.specs.declared.entry.Entry.{Entry}
 use Rattle.te_history.specs.declared.entry.Entry.TheVariants as entries
-use Rattle.te_history.specs.State.{Standing, idle, parked, given, ended, State, with_standing, with_given, changed, state, posts_by, is_post_by}
-use Rattle.te_history.specs.Follows.{Stands, AreEvents, Needs, caller_of, LooselyFollows, IsLoose}
-use Rattle.te_history.specs.Room.{room}
-use Rattle.te_history.proofs.AfterEntry.{state-after, counted, posts_by-after, length-state}
-use Rattle.te_history.proofs.RoomNeverRises.{events_after, rise_rest, room_after, room_posted}
-use Rattle.te_report.specs.OfScript.{taken, taken_from, IsWished, WishedBy, WishedFrom}
-use Rattle.te_report.proofs.Growing.{taken_more, grows_wished}
-use Rattle.te_serial.specs.Houses.{MayAppend}
-use Rattle.tevents.specs.Repeats.{IsNoRepeat, HasNoRepeat}
+use Rattle.te_history.specs.State.{posts_by, is_post_by}
+use Rattle.te_history.proofs.AfterEntry.{counted, posts_by-after}
+use Rattle.tevents.specs.Repeats.{IsNoRepeat}
 use Rattle.te_terms.proofs.Lists.{eq_same}
 
 -- ---- a thread that wishes to synchronise has taken fewer outcomes than it has syncs

@@ -1,9 +1,9 @@
 -- A board of a script without repeats is never full where a thread still wishes to synchronise.
-use Rattle.std.proofs.Common.{◌≡◌, ◌≢◌, ◌⊎◌, ◌∙◌, ◌<◌, ◌≤◌, ◌+◌, ◌*◌, ℕ, zero, suc, Bool, true, false, List, [], ◌∷◌, ◌++◌, length, Some, None, Option, refl, ap, sym, subst, inl, inr, arith}
-use Rattle.std.specs.Prelude.{slice_get, slice_set, replicate}
+use Rattle.std.proofs.Common.{◌≡◌, ◌≢◌, ◌⊎◌, ◌∙◌, ◌<◌, ◌≤◌, ◌+◌, ◌*◌, ℕ, zero, suc, false, List, [], ◌∷◌, ◌++◌, length, Some, None, Option, refl, ap, sym, subst, inl, inr, arith}
+use Rattle.std.specs.Prelude.{slice_get, slice_set}
 use Rattle.std.specs.List.{AllByRecursion}
 use Rattle.std.proofs.lemmas.Bool.{cases_lt}
-use Rattle.std.proofs.lemmas.List.{length-append, append-nil}
+use Rattle.std.proofs.lemmas.List.{length-append}
 use Rattle.te_terms.specs.declared.event.Outcome.{Outcome}
 use Rattle.te_terms.specs.Terms.{Term}
 use Rattle.te_terms.specs.Steps as steps
@@ -18,8 +18,8 @@ use Rattle.te_history.specs.declared.entry.Entry.{Entry}
 use Rattle.te_history.specs.declared.entry.Entry.TheVariants as entries
 use Rattle.te_history.specs.State.{Standing, idle, parked, given, ended, State, with_standing, with_given, changed, state, posts_by, is_post_by}
 use Rattle.te_history.specs.Follows.{Stands, AreEvents, caller_of, LooselyFollows, IsLoose}
-use Rattle.te_history.specs.Room.{room, callers_room}
-use Rattle.te_history.proofs.AfterEntry.{state-after, counted, posts_by-after, length-state}
+use Rattle.te_history.specs.Room.{room}
+use Rattle.te_history.proofs.AfterEntry.{state-after, posts_by-after, length-state}
 use Rattle.te_history.proofs.RoomNeverRises.{events_after, rise_rest, room_after, room_posted}
 use Rattle.te_report.specs.OfScript.{taken, taken_from, WishedBy, WishedFrom}
 use Rattle.te_report.proofs.Growing.{taken_more, taken_same, not_mine, grows_wished}

@@ -1,6 +1,6 @@
 -- Histories that aren't in rounds: a next round while a group can commit, and a missing stuck.
 use Rattle.std.proofs.Common.{◌≡◌, refl, inl, inr, subst, ap, sym, ◌∙◌}
-use Rattle.std.specs.Prelude.{◌≢◌, ℕ, List, [], ◌∷◌, ◌++◌, true}
+use Rattle.std.specs.Prelude.{ℕ, List, [], ◌∷◌, ◌++◌, true}
 use Rattle.std.specs.List.{AllByRecursion}
 use Rattle.te_terms.specs.declared.event.Outcome.{Outcome}
 use Rattle.te_terms.specs.declared.event.Outcome.TheVariants.{Gives}

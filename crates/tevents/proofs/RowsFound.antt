@@ -3,7 +3,7 @@ use Rattle.std.proofs.Common.{◌≡◌, ◌∙◌, Bool, true, false, List, [],
 use Rattle.std.specs.Prelude.{slice_get, option_map, option_and_then, map, find}
 use Rattle.std.specs.Borrow.{Bor}
 use Rattle.std.specs.Str.{bytes_eq}
-use Rattle.clap.specs.Words.{Text, Row, first_of, first_value, one_text, found_of, rows_of, read_as}
+use Rattle.clap.specs.Words.{Text, Row, first_of, first_value, one_text, rows_of, read_as}
 use Rattle.clap.specs.Walk.{one_of, row_of, row_text}
 use Rattle.clap.specs.Facts.{Entry}
 use Rattle.clap.specs.declared.parser.matches.Found.{Found}

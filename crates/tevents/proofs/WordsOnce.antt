@@ -1,27 +1,29 @@
 -- Words say one thing.
-use Rattle.std.proofs.Common.{◌≡◌, ◌∙◌, ℕ, List, [], ◌∷◌, Some, None, Option, refl, ap, sym, subst, slice_index, codes, arith, inl, inr}
+use Rattle.std.proofs.Common.{◌≡◌, ◌∙◌, ℕ, List, Some, refl, ap, sym, subst, slice_index, codes, inl, inr, nat_eq, if◌then◌else◌}
 use Rattle.std.specs.Str.Parse.{digits_value, without_leading_plus}
 use Rattle.clap.specs.Words.{Text}
 use Rattle.tevents.specs.declared.words.Words.{Words}
 use Rattle.tevents.specs.declared.words.Mode.{Mode}
 use Rattle.tevents.specs.declared.words.Mode.TheVariants as modes
 use Rattle.tevents.specs.Words.{mode_name, HasNumber, Says, AreRefused}
-use Rattle.tevents.specs.Causes.{IsSerialAnswer, IsPrintAnswer, AnswersIn, Answers}
-use Rattle.tevents.specs.Summaries.{IsSummary}
+use Rattle.tevents.specs.Causes.{AnswersIn, Answers}
 
-first_letter : (m n : Mode) → mode_name m ≡ mode_name n → slice_index (mode_name m) 0 ≡ slice_index (mode_name n) 0
-first_letter m n e = ap (λ (t : Text). slice_index t 0) e
+-- the first letters of the modes differ
+abbrev letter : Mode → ℕ
+letter m = slice_index (mode_name m) 0
+
+abbrev mode_of_letter : ℕ → Mode
+mode_of_letter n = if nat_eq n 115 then modes.Serial else (if nat_eq n 112 then modes.Print else (if nat_eq n 103 then modes.Gen else (if nat_eq n 99 then modes.Check else modes.Lift)))
+
+letter_tells : (m : Mode) → mode_of_letter (letter m) ≡ m
+letter_tells modes.Serial = refl
+letter_tells modes.Print = refl
+letter_tells modes.Gen = refl
+letter_tells modes.Check = refl
+letter_tells modes.Lift = refl
 
 mode_once : (m n : Mode) → mode_name m ≡ mode_name n → m ≡ n
-mode_once modes.Serial modes.Serial e = refl
-mode_once modes.Serial modes.Print e = let bad : 115 ≡ 112 = first_letter modes.Serial modes.Print e in absurd (omega (arith, bad))
-mode_once modes.Serial modes.Gen e = let bad : 115 ≡ 103 = first_letter modes.Serial modes.Gen e in absurd (omega (arith, bad))
-mode_once modes.Print modes.Serial e = let bad : 112 ≡ 115 = first_letter modes.Print modes.Serial e in absurd (omega (arith, bad))
-mode_once modes.Print modes.Print e = refl
-mode_once modes.Print modes.Gen e = let bad : 112 ≡ 103 = first_letter modes.Print modes.Gen e in absurd (omega (arith, bad))
-mode_once modes.Gen modes.Serial e = let bad : 103 ≡ 115 = first_letter modes.Gen modes.Serial e in absurd (omega (arith, bad))
-mode_once modes.Gen modes.Print e = let bad : 103 ≡ 112 = first_letter modes.Gen modes.Print e in absurd (omega (arith, bad))
-mode_once modes.Gen modes.Gen e = refl
+mode_once m n e = sym (letter_tells m) ∙ ap (λ (t : Text). mode_of_letter (slice_index t 0)) e ∙ letter_tells n
 
 some_once : (a b : Text) → Some a ≡ Some b → a ≡ b
 some_once a b e = cc
@@ -48,26 +50,7 @@ not_refused words w says (inr none) = none w.mode says.mode_is
 
 -- ---- what is answered to them
 
-pub serial_answers : (w v : Words) (read written : List ℕ) (status : ℕ) → w ≡ v → v.mode ≡ modes.Serial → IsSerialAnswer v.budget read written status → Answers w read written status
-serial_answers w v read written status is mode answer = subst (λ (u : Words). Answers u read written status) (sym is) (go v.mode mode answer)
-  where
-    go : (m : Mode) → m ≡ modes.Serial → IsSerialAnswer v.budget read written status → AnswersIn m v.budget v.number read written status
-    go modes.Serial e a = a
-    go modes.Print e a = cc
-    go modes.Gen e a = cc
-
-pub print_answers : (w v : Words) (read written : List ℕ) (status : ℕ) → w ≡ v → v.mode ≡ modes.Print → IsPrintAnswer read written status → Answers w read written status
-print_answers w v read written status is mode answer = subst (λ (u : Words). Answers u read written status) (sym is) (go v.mode mode answer)
-  where
-    go : (m : Mode) → m ≡ modes.Print → IsPrintAnswer read written status → AnswersIn m v.budget v.number read written status
-    go modes.Serial e a = cc
-    go modes.Print e a = a
-    go modes.Gen e a = cc
-
-pub gen_answers : (w v : Words) (read written : List ℕ) (status : ℕ) → w ≡ v → v.mode ≡ modes.Gen → IsSummary v.number v.budget written status → Answers w read written status
-gen_answers w v read written status is mode answer = subst (λ (u : Words). Answers u read written status) (sym is) (go v.mode mode answer)
-  where
-    go : (m : Mode) → m ≡ modes.Gen → IsSummary v.number v.budget written status → AnswersIn m v.budget v.number read written status
-    go modes.Serial e a = cc
-    go modes.Print e a = cc
-    go modes.Gen e a = a
+-- what is answered in the mode at hand
+pub answers_in : (w v : Words) (m : Mode) (read written : List ℕ) (status : ℕ) → w ≡ v → v.mode ≡ m → AnswersIn m v.budget v.number read written status → Answers w read written status
+answers_in w v m read written status is mode answer = subst (λ (u : Words). Answers u read written status) (sym is)
+    (subst (λ (n : Mode). AnswersIn n v.budget v.number read written status) (sym mode) answer)

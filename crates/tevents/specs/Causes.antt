@@ -1,5 +1,5 @@
 -- When a call of this program answers which status, and what it may have written. This project's own.
-use Rattle.std.specs.Prelude.{◌≡◌, ◌⊎◌, ℕ, List}
+use Rattle.std.specs.Prelude.{◌≡◌, ◌⊎◌, ℕ, List, []}
 use Rattle.te_script.specs.Scripts.{Program}
 use Rattle.te_reader.specs.Text.{Text}
 use Rattle.te_reader.specs.Canonical.{canonical_text}
@@ -14,6 +14,8 @@ use Rattle.tevents.specs.declared.words.Mode.TheVariants as modes
 use Rattle.tevents.specs.Summaries.{IsSummary}
 use Rattle.tevents.specs.FaultLines.{fault_line}
 use Rattle.tevents.specs.SerialRuns.{IsRunReport}
+use Rattle.tevents.specs.Parts.{AreParts}
+use Rattle.tevents.specs.Checks.{IsDecided, IsLifted}
 
 -- ---- statuses
 
@@ -25,9 +27,13 @@ IsDone status = (status ≡ 0) ⊎ (status ≡ 1)
 abbrev pub HasStopped : ℕ → Type 0
 HasStopped status = (status ≡ 6) ⊎ (status ≡ 7)
 
+-- the bytes are faulty, and the line of the fault was written
+abbrev pub IsFaulty : ℕ → Type 0
+IsFaulty status = (status ≡ 5) ⊎ (status ≡ 8)
+
 -- what was to be written is written
 abbrev pub IsTold : ℕ → Type 0
-IsTold status = IsDone status ⊎ ((status ≡ 5) ⊎ HasStopped status)
+IsTold status = IsDone status ⊎ (IsFaulty status ⊎ HasStopped status)
 
 -- the source holds nothing any more
 abbrev pub IsReadWhole : ℕ → Type 0
@@ -69,15 +75,40 @@ IsPrinted script written status = (written ≡ canonical_text script) × (status
 abbrev pub IsTask : Task → Type 0
 IsTask (tasks.Run budget) = IsBudget budget
 IsTask tasks.Print = Unit {0}
+IsTask (tasks.Check budget) = IsBudget budget
+IsTask tasks.Lift = Unit {0}
 
--- what a task tells of a script
-abbrev pub Tells : Task → Program → List ℕ → ℕ → Type 0
-Tells (tasks.Run budget) = IsRunReport budget
-Tells tasks.Print = IsPrinted
+-- the most bytes that a task reads: of a script; or of a script, a rule and a report
+abbrev pub most_of : Task → ℕ
+most_of (tasks.Run budget) = 1048576
+most_of tasks.Print = 1048576
+most_of (tasks.Check budget) = 68157444
+most_of tasks.Lift = 68157444
+
+-- the part of the bytes that should be a text of a script, and that which should be its report, where the task wants one
+abbrev pub PartsFor : Task → List ℕ → List ℕ → List ℕ → Type 0
+PartsFor (tasks.Run budget) read upper lower = (read ≡ upper) × (lower ≡ [])
+PartsFor tasks.Print read upper lower = (read ≡ upper) × (lower ≡ [])
+PartsFor (tasks.Check budget) read upper lower = AreParts read upper lower
+PartsFor tasks.Lift read upper lower = AreParts read upper lower
+
+-- what a task tells of a script, and of the bytes that should be its report
+abbrev pub Tells : Task → List ℕ → Program → List ℕ → ℕ → Type 0
+Tells (tasks.Run budget) lower = IsRunReport budget
+Tells tasks.Print lower = IsPrinted
+Tells (tasks.Check budget) lower = λ script. IsDecided budget script lower
+Tells tasks.Lift lower = λ script. IsLifted script lower
+
+-- what a task tells of these parts
+abbrev pub AnswersParts : Task → List ℕ → List ℕ → List ℕ → ℕ → Type 0
+AnswersParts task upper lower written status = IsOf (Tells task lower) upper written status ⊎ ReportsFault upper written status
 
 -- a text that a task may write at these bytes, and the status that it then has
-abbrev pub IsAnswer : Task → List ℕ → List ℕ → ℕ → Type 0
-IsAnswer task read written status = IsOf (Tells task) read written status ⊎ ReportsFault read written status
+pub record IsAnswer (task : Task) (read written : List ℕ) (status : ℕ) : Type 0 where
+  pub upper : List ℕ
+  pub lower : List ℕ
+  pub parts : PartsFor task read upper lower
+  pub told : AnswersParts task upper lower written status
 
 abbrev pub IsSerialAnswer : ℕ → List ℕ → List ℕ → ℕ → Type 0
 IsSerialAnswer budget = IsAnswer (tasks.Run budget)
@@ -85,10 +116,18 @@ IsSerialAnswer budget = IsAnswer (tasks.Run budget)
 abbrev pub IsPrintAnswer : List ℕ → List ℕ → ℕ → Type 0
 IsPrintAnswer = IsAnswer tasks.Print
 
+abbrev pub IsCheckAnswer : ℕ → List ℕ → List ℕ → ℕ → Type 0
+IsCheckAnswer budget = IsAnswer (tasks.Check budget)
+
+abbrev pub IsLiftAnswer : List ℕ → List ℕ → ℕ → Type 0
+IsLiftAnswer = IsAnswer tasks.Lift
+
 -- what a call writes by what its words say
 abbrev pub AnswersIn : Mode → ℕ → ℕ → List ℕ → List ℕ → ℕ → Type 0
 AnswersIn modes.Serial budget number read written status = IsSerialAnswer budget read written status
 AnswersIn modes.Print budget number read written status = IsPrintAnswer read written status
+AnswersIn modes.Check budget number read written status = IsCheckAnswer budget read written status
+AnswersIn modes.Lift budget number read written status = IsLiftAnswer read written status
 AnswersIn modes.Gen budget number read written status = IsSummary number budget written status
 
 abbrev pub Answers : Words → List ℕ → List ℕ → ℕ → Type 0

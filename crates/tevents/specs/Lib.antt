@@ -6,3 +6,7 @@ pub mod Headline
 pub mod Summaries
 pub mod FaultLines
 pub mod Causes
+pub mod Parts
+pub mod ReportLines
+pub mod Checks
+pub mod Inputs

@@ -1,5 +1,4 @@
 -- Scripts of the first version of the language: without a repeat. This project's own.
-use Rattle.std.specs.Prelude.{List}
 use Rattle.std.specs.List.{AllByRecursion}
 use Rattle.te_script.specs.Scripts.{Statement, sync, emit, repeat, Thread, Program}
 

@@ -1,5 +1,5 @@
 -- What `tevents gen` writes: how many entries of each kind a run of a generated script has, or that its budget was used up. This project's own.
-use Rattle.std.specs.Prelude.{◌≡◌, ℕ, zero, suc, List, [], ◌∷◌, ◌++◌, length, codes}
+use Rattle.std.specs.Prelude.{◌≡◌, ℕ, suc, List, [], ◌∷◌, ◌++◌, length, codes}
 use Rattle.std.specs.Fmt.{decimal}
 use Rattle.te_script.specs.Generated.{generated}
 use Rattle.te_history.specs.declared.entry.Entry.{Entry}

@@ -1,5 +1,5 @@
 -- What words say, by the definition of `clap`.
-use Rattle.std.specs.Prelude.{◌≡◌, ◌≢◌, ◌⊎◌, ◌≤◌, ◌<◌, ℕ, List, [], ◌∷◌, length, codes, true, false, Option, Some, None}
+use Rattle.std.specs.Prelude.{◌≡◌, ◌≢◌, ◌⊎◌, ◌≤◌, ℕ, List, [], ◌∷◌, codes, true, Some, None}
 use Rattle.std.specs.Str.Parse.{digits_value, without_leading_plus}
 use Rattle.clap.specs.Words.{App, Rule, Text, new_app, new_rule, with_rule, first_of, found_of, one_text, first_value, matches_of, IsUnsignedIn}
 use Rattle.clap.specs.Walk.{one_of}
@@ -42,6 +42,8 @@ abbrev pub mode_name : Mode → Text
 mode_name modes.Serial = codes "serial"
 mode_name modes.Print = codes "print"
 mode_name modes.Gen = codes "gen"
+mode_name modes.Check = codes "check"
+mode_name modes.Lift = codes "lift"
 
 -- the option has this number, of this range
 pub record HasNumber (words : List Text) (name : Text) (low high n : ℕ) : Type 0 where

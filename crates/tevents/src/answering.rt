@@ -5,9 +5,11 @@ ghost use Rattle.te_script.specs.Scripts.{IsProgram};
 ghost use Rattle.te_search.specs.Findings.{IsBudget};
 ghost use Rattle.tevents.specs.SerialRuns.{IsRunReport, IsStatusAt};
 ghost use Rattle.tevents.specs.FaultLines.{fault_line};
-ghost use Rattle.tevents.specs.Causes.{Tells, IsAnswer, IsTask, IsPrinted};
+ghost use Rattle.tevents.specs.Causes.{Tells, PartsFor, IsAnswer, IsTask, IsPrinted};
 
+use crate::checking::{check, lift};
 use crate::faults::put_fault;
+use crate::parting::part;
 use crate::reporting::{has_stuck_end, report_of};
 use crate::running::run_rounds;
 use crate::task::Task;
@@ -32,8 +34,9 @@ pub(crate) fn answer(alloc: Global, task: Task, bytes: &[u8]) -> Result<Written,
     requires { IsTask task }
     ensures { IfOk result (λ told. IsAnswer task bytes.now told.text told.status) }
 {
-    match read_script(alloc, bytes) {
-        Ok(script) => tell(alloc, task, &script),
+    let (upper, lower) = parts_for(task, bytes);
+    match read_script(alloc, upper) {
+        Ok(script) => tell(alloc, task, &script, lower),
         Err(told) => match told {
             ScriptFault::Memory => Err(NoMemory),
             _ => fault(alloc, told),
@@ -41,15 +44,29 @@ pub(crate) fn answer(alloc: Global, task: Task, bytes: &[u8]) -> Result<Written,
     }
 }
 
-// What a task tells of a script.
-fn tell(alloc: Global, task: Task, script: &Script) -> Result<Written, NoMemory>
+// The part of the bytes that should be a text of a script, and that which should be its report.
+fn parts_for(task: Task, bytes: &[u8]) -> (&[u8], &[u8])
+    ensures { PartsFor task bytes.now result.0.now result.1.now }
+{
+    match task {
+        Task::Run { .. } => (bytes, &[]),
+        Task::Print => (bytes, &[]),
+        Task::Check { .. } => part(bytes),
+        Task::Lift => part(bytes),
+    }
+}
+
+// What a task tells of a script, and of what should be its report.
+fn tell(alloc: Global, task: Task, script: &Script, lower: &[u8]) -> Result<Written, NoMemory>
     requires task { IsTask task }
     requires program { IsProgram script.now }
-    ensures { IfOk result (λ told. Tells task script.now told.text told.status) }
+    ensures { IfOk result (λ told. Tells task lower.now script.now told.text told.status) }
 {
     match task {
         Task::Run { budget } => run_and_report(alloc, script, budget),
         Task::Print => print(alloc, script),
+        Task::Check { budget } => check(alloc, budget, script, lower),
+        Task::Lift => lift(alloc, script, lower),
     }
 }
 

@@ -26,7 +26,8 @@ fn which_text(which: Which) -> &'static [u8]
     }
 }
 
-fn put_number(out: &mut Vec<u8>, n: u64) -> Result<(), NoMemory>
+/// Appends a number.
+pub(crate) fn put_number(out: &mut Vec<u8>, n: u64) -> Result<(), NoMemory>
     ensures { OnOk result (out.new.items ≡ out.old.items ++ decimal n) }
 {
     out.extend_from_slice(Buffer::new().format(n).as_bytes())?;

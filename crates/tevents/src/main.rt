@@ -2,9 +2,11 @@
 #![tactic(auto)]
 
 mod answering;
+mod checking;
 mod faults;
 mod generating;
 mod modes;
+mod parting;
 mod program;
 mod reporting;
 mod running;

@@ -9,10 +9,11 @@ ghost use Rattle.tevents.specs.Words.{Says, AreRefused};
 ghost use Rattle.tevents.specs.Headline.{IsHeadline};
 ghost use Rattle.tevents.specs.FaultLines.{fault_line};
 ghost use Rattle.tevents.specs.Summaries.{IsSummary};
+ghost use Rattle.tevents.specs.Inputs.{HasLegalReport, IsCheckedInput, HasReport, IsLiftedInput};
 ghost use Rattle.tevents.specs.Causes.{IsStatus, IsDone, HasStopped, IsTold, IsReadWhole, IsSilent, IsScriptText, Answers};
 
 use crate::generating::gen_run;
-use crate::modes::{print_run, serial_run};
+use crate::modes::{check_run, lift_run, print_run, serial_run};
 use crate::words::{Mode, WordFault, read_words};
 use std::alloc::Global;
 use te_io::{Sink, Source};
@@ -26,6 +27,8 @@ use te_io::{Sink, Source};
 /// | `serial` | reads a script from the source, runs its threads in rounds, and writes the report of the run |
 /// | `print` | reads a script from the source, and writes its canonical text |
 /// | `gen` | runs the generated script of the number in rounds, and writes a summary |
+/// | `check` | reads a script, a line `---` and a report, and decides whether the report is one of a whole legal run of the script |
+/// | `lift` | reads the same, and writes the report in the second version |
 ///
 /// | status | when | written |
 /// |---|---|---|
@@ -36,7 +39,8 @@ use te_io::{Sink, Source};
 /// | 4 | the sink failed | a prefix of a text that the call could have written |
 /// | 5 | the bytes are no text of a script | the line of its fault, as `script fault 3 at 1:14` |
 /// | 6 | `serial`: the history had no room for a post and all that may follow it | the report of what was done by then |
-/// | 7 | `serial`, `gen`: a search has used up its budget | the report of what was done by then, or the summary |
+/// | 7 | `serial`, `gen`, `check`: a search has used up its budget | the report of what was done by then, the summary, or a line that tells it |
+/// | 8 | `check`, `lift`: the bytes behind the script are no report that the mode asks for | the line of the fault, as `report fault 3 at line 4` |
 /// | 9 | want of memory | nothing |
 pub fn tevents<S: Source, K: Sink>(
     alloc: Global,
@@ -52,7 +56,15 @@ pub fn tevents<S: Source, K: Sink>(
         → (written : List ℕ) × IsHeadline read written result
         × GrewBy (K.bytes_held sink.old) (K.bytes_held sink.new) written }
 
-    // 0, 1, 5, 6 and 7: what is written is what the mode tells of the bytes that were read.
+    // 0 of `check` and `lift`: the first part is a script, and the other a report of it.
+    ensures checked { result ≡ 0 → (w : Words) → Says (map string_bytes words.now) w → w.mode ≡ modes.Check
+        → (read : List ℕ) → S.bytes_left source.old ≡ Some read
+        → IsCheckedInput read (λ written. GrewBy (K.bytes_held sink.old) (K.bytes_held sink.new) written) }
+    ensures lifted { result ≡ 0 → (w : Words) → Says (map string_bytes words.now) w → w.mode ≡ modes.Lift
+        → (read : List ℕ) → S.bytes_left source.old ≡ Some read
+        → IsLiftedInput read (λ written. GrewBy (K.bytes_held sink.old) (K.bytes_held sink.new) written) }
+
+    // 0, 1, 5, 6, 7 and 8: what is written is what the mode tells of the bytes that were read.
     ensures told { IsTold result → (w : Words) → Says (map string_bytes words.now) w
         → (read : List ℕ) → S.bytes_left source.old ≡ Some read
         → (written : List ℕ) × Answers w read written result
@@ -102,6 +114,14 @@ pub fn tevents<S: Source, K: Sink>(
         → (read : List ℕ) → S.bytes_left source.old ≡ Some read → IsScriptText read
         → ¬ Rose (S.faults source.old) (S.faults source.new) → ¬ Rose (K.faults sink.old) (K.faults sink.new)
         → result ≢ 9 → result ≡ 0 }
+    ensures checks { (w : Words) → Says (map string_bytes words.now) w → w.mode ≡ modes.Check
+        → (read : List ℕ) → S.bytes_left source.old ≡ Some read → HasLegalReport read
+        → ¬ Rose (S.faults source.old) (S.faults source.new) → ¬ Rose (K.faults sink.old) (K.faults sink.new)
+        → result ≢ 9 → (result ≡ 0) ⊎ (result ≡ 7) }
+    ensures lifts { (w : Words) → Says (map string_bytes words.now) w → w.mode ≡ modes.Lift
+        → (read : List ℕ) → S.bytes_left source.old ≡ Some read → HasReport read
+        → ¬ Rose (S.faults source.old) (S.faults source.new) → ¬ Rose (K.faults sink.old) (K.faults sink.new)
+        → result ≢ 9 → result ≡ 0 }
     ensures generates { (w : Words) → Says (map string_bytes words.now) w → w.mode ≡ modes.Gen
         → ¬ Rose (K.faults sink.old) (K.faults sink.new)
         → result ≢ 9 → (result ≡ 0) ⊎ (result ≡ 7) }
@@ -110,6 +130,8 @@ pub fn tevents<S: Source, K: Sink>(
         Ok(said) => match said.mode {
             Mode::Serial => serial_run(alloc, said.budget, source, sink),
             Mode::Print => print_run(alloc, source, sink),
+            Mode::Check => check_run(alloc, said.budget, source, sink),
+            Mode::Lift => lift_run(alloc, source, sink),
             Mode::Gen => gen_run(alloc, said.number as u32, said.budget, sink),
         },
         Err(WordFault::Refused) => 2,

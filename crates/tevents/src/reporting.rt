@@ -2,7 +2,7 @@ ghost use Rattle.std.specs.Prelude.{◌≡◌, ◌<◌, ◌≤◌, length, IfOk,
 ghost use Rattle.te_script.specs.Scripts.{IsProgram};
 ghost use Rattle.te_report.specs.Report.{second, IsReport};
 ghost use Rattle.te_report.specs.OfScript.{IsOfScript};
-ghost use Rattle.te_history.specs.Follows.{IsLegal};
+ghost use Rattle.te_history.specs.Follows.{IsLoose};
 ghost use Rattle.tevents.specs.StuckEnds.{IsStuckEnd, IsStuckAt};
 
 use std::alloc::Global;
@@ -11,7 +11,7 @@ use te_report::{Ending, channels_are_of_the_script, write_report};
 use te_script::Script;
 use te_terms::{NoMemory, Rows};
 
-/// The report of a run of the script. The one refusal is want of memory.
+/// The report of a history of the script. The one refusal is want of memory.
 pub(crate) fn report_of(
     alloc: Global,
     script: &Script,
@@ -20,7 +20,7 @@ pub(crate) fn report_of(
 ) -> Result<Rows<u8>, NoMemory>
     requires callers { hist.now.callers ≡ length script.now.threads }
     requires program { IsProgram script.now }
-    requires legal { IsLegal (length script.now.threads) hist.now.entries }
+    requires loose { IsLoose (length script.now.threads) hist.now.entries }
     requires of_script { IsOfScript script.now hist.now.entries }
     requires few { length hist.now.entries ≤ 200000 }
     ensures { IfOk result (λ text. IsReport second script.now hist.now.entries ending text) }

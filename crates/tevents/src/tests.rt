@@ -1,3 +1,5 @@
+mod budgets;
+mod checks;
 mod modes;
 mod printing;
 mod reading;

@@ -18,6 +18,8 @@ pub(crate) enum Mode {
     Serial,
     Print,
     Gen,
+    Check,
+    Lift,
 }
 
 /// What the words of a call say: the mode, the budget of each search, and the number of a generated script.
@@ -116,6 +118,8 @@ fn mode_of(text: &str) -> Option<Mode>
         "serial" => Some(Mode::Serial),
         "print" => Some(Mode::Print),
         "gen" => Some(Mode::Gen),
+        "check" => Some(Mode::Check),
+        "lift" => Some(Mode::Lift),
         _ => None,
     }
 }

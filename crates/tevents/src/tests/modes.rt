@@ -1,18 +1,22 @@
 // Scripts of the whole language by `serial`, and what `gen` and `print` write.
 
+use super::checks::BRANCHES;
 use super::{serial, words};
 use crate::program::tevents;
 use std::alloc::Global;
 use std::test::Fail;
 use te_io::{SteadySink, SteadySource};
 
+// Three threads that pass a number round: no two of them can commit.
+pub(super) const RING: &[u8] =
+    b"channels p q r; thread a { x <- sync do { u <- send p (1); recv r }; emit x; } \
+    thread b { x <- sync do { u <- recv p; w <- send q (u.0 + 1); always u }; emit x; } \
+    thread c { x <- sync do { u <- recv q; w <- send r (u.0 + 1); always u }; emit x; }";
+
 // Scripts, each with its status and its report without the head.
 const REPORTS: &[(&[u8], u8, &[u8])] = &[
-    // Three threads that pass a number round: no two of them can commit.
     (
-        b"channels p q r; thread a { x <- sync do { u <- send p (1); recv r }; emit x; } \
-            thread b { x <- sync do { u <- recv p; w <- send q (u.0 + 1); always u }; emit x; } \
-            thread c { x <- sync do { u <- recv q; w <- send r (u.0 + 1); always u }; emit x; }",
+        RING,
         0,
         b"1 post a 0 at 1.0\n2 post b 0 at 1.0\n3 post c 0 at 1.0\n\
             4 commit a: a.0[]=(3) b.0[]=(1) c.0[]=(2); a>b b>c c>a\n\
@@ -43,10 +47,8 @@ const REPORTS: &[(&[u8], u8, &[u8])] = &[
             3 commit a: a.0[]=(5) b.0[]=(@a.0.0); a>b b>a\n4 take a 0 =(5)\n5 take b 0 =(@a.0.0)\n\
             6 end a done (5)\n7 end b done (@a.0.0)\nclosed 7\n",
     ),
-    // a needs c's left branch and b its right one, so none of the three can commit.
     (
-        b"channels p q m; thread a { x <- sync do { u <- recv p; send m () }; } \
-            thread b { x <- sync do { u <- recv q; recv m }; } thread c { x <- sync choose { send p () | send q () }; }",
+        BRANCHES,
         1,
         b"1 post a 0 at 1.0\n2 post b 0 at 1.0\n3 post c 0 at 1.0\n\
             4 stuck a\n5 end a stuck\n6 end b stuck\n7 end c stuck\nclosed 7\n",
@@ -143,7 +145,7 @@ fn generated_scripts_have_these_summaries(rt: HostRuntime) -> Result<(), Fail> {
 #[test]
 fn a_budget_that_is_used_up_is_told(rt: HostRuntime) -> Result<(), Fail> {
     let words = words(rt.alloc(), &["serial", "--budget=1"])?;
-    let mut source = SteadySource::new(rt.alloc(), REPORTS[0].0)?;
+    let mut source = SteadySource::new(rt.alloc(), RING)?;
     let mut sink = SteadySink::new(rt.alloc(), 1_000)?;
     let status = tevents(rt.alloc(), words.as_slice(), &mut source, &mut sink);
     assert_eq!(rt;

@@ -1,4 +1,4 @@
-use Rattle.std.proofs.Common.{◌≡◌, List, ℕ, sym, subst, Result, Ok, Err}
+use Rattle.std.proofs.Common.{◌≡◌, List, ℕ, sym, subst, Result}
 use Rattle.std.specs.Prelude.{IfOk}
 use Rattle.te_script.specs.Scripts.{Program}
 use Rattle.tevents.specs.declared.task.Task.{Task}
@@ -7,10 +7,21 @@ use Rattle.tevents.specs.Causes.{Tells}
 use Rattle.tevents.proofs.answering.tell.Goals as goal
 
 -- what the task at hand tells
-told_so : {W E : Type 0} (text : W → List ℕ) (status : W → ℕ) (r : Result W E) (task other : Task) (script : Program)
-    → task ≡ other → IfOk r (λ told. Tells other script (text told) (status told))
-    → IfOk r (λ told. Tells task script (text told) (status told))
-told_so text status r task other script is h = subst (λ (t : Task). IfOk r (λ told. Tells t script (text told) (status told))) (sym is) h
+told_so : {W E : Type 0} (text : W → List ℕ) (status : W → ℕ) (r : Result W E) (task other : Task) (lower : List ℕ)
+    (script : Program) → task ≡ other → IfOk r (λ told. Tells other lower script (text told) (status told))
+    → IfOk r (λ told. Tells task lower script (text told) (status told))
+told_so text status r task other lower script is h =
+    subst (λ (t : Task). IfOk r (λ told. Tells t lower script (text told) (status told))) (sym is) h
 
 pub returns-in-Run : goal.returns-in-Run
-returns-in-Run c = told_so (λ told. told.text) (λ told. told.status) c.run_and_report.result c.args.task (tasks.Run c.in-Run.budget) c.args.script.now c.in-Run.is c.run_and_report.ensures
+returns-in-Run c = told_so (λ told. told.text) (λ told. told.status) c.run_and_report.result c.args.task
+    (tasks.Run c.in-Run.budget) c.args.lower.now c.args.script.now c.in-Run.is c.run_and_report.ensures
+
+pub returns-in-Print : goal.returns-in-Print
+returns-in-Print c = told_so (λ told. told.text) (λ told. told.status) c.print.result c.args.task tasks.Print c.args.lower.now c.args.script.now c.in-Print.is c.print.ensures
+
+pub returns-in-Check : goal.returns-in-Check
+returns-in-Check c = told_so (λ told. told.text) (λ told. told.status) c.check.result c.args.task (tasks.Check c.in-Check.budget) c.args.lower.now c.args.script.now c.in-Check.is c.check.ensures
+
+pub returns-in-Lift : goal.returns-in-Lift
+returns-in-Lift c = told_so (λ told. told.text) (λ told. told.status) c.lift.result c.args.task tasks.Lift c.args.lower.now c.args.script.now c.in-Lift.is c.lift.ensures

@@ -1,4 +1,4 @@
-use Rattle.std.proofs.Common.{◌≡◌, ◌∙◌, ap, sym, ℕ, ◌+◌, take}
+use Rattle.std.proofs.Common.{◌∙◌, ap, sym, ℕ, ◌+◌, take}
 use Rattle.tevents.specs.Summaries.{commits_in}
 use Rattle.tevents.proofs.EntriesCounted.{commits_next}
 use Rattle.tevents.proofs.generating.commit_at.Goals as goal

@@ -1,8 +1,6 @@
-use Rattle.std.proofs.Common.{◌≡◌, ◌∙◌, ap, sym, subst, ℕ, List, length}
+use Rattle.std.proofs.Common.{◌∙◌, ap, subst, ℕ, List, length}
 use Rattle.te_script.specs.Scripts.{Program, IsProgram}
-use Rattle.te_script.specs.Generated.{generated}
 use Rattle.te_history.specs.declared.entry.Entry.{Entry}
-use Rattle.tevents.specs.SerialRuns.{RunEndsSo}
 use Rattle.tevents.specs.Summaries.{summary_text}
 use Rattle.tevents.proofs.GeneratedScripts.{summarised}
 use Rattle.tevents.proofs.generating.generate_and_run.Goals as goal

@@ -1,4 +1,4 @@
-use Rattle.std.proofs.Common.{◌≡◌, ◌∙◌, ap, sym, ℕ, ◌+◌, take}
+use Rattle.std.proofs.Common.{◌∙◌, ap, sym, ℕ, ◌+◌, take}
 use Rattle.tevents.specs.Summaries.{posts_in}
 use Rattle.tevents.proofs.EntriesCounted.{posts_next}
 use Rattle.tevents.proofs.generating.post_at.Goals as goal

@@ -1,11 +1,19 @@
 -- What is answered to the bytes that were read is an answer to all bytes, and its status tells what was written.
-use Rattle.std.proofs.Common.{◌≡◌, ◌≢◌, ◌⊎◌, ℕ, List, subst, sym, ◌∙◌, inl, inr, arith}
+use Rattle.std.proofs.Common.{◌≡◌, ◌≢◌, ◌⊎◌, ◌+◌, ◌≤◌, ℕ, List, length, take, subst, sym, ◌∙◌, inl, inr, arith}
 use Rattle.te_io.specs.Stream.{GrewBy}
 use Rattle.std.specs.Prelude.{Option}
-use Rattle.tevents.specs.Causes.{IsAnswer, IsTold, IsSilent, IsStatus}
-use Rattle.tevents.proofs.AnswersTold.{answer_to_all, told_of_answer, told_apart, line_of_five}
+use Rattle.tevents.specs.declared.task.Task.{Task}
+use Rattle.tevents.specs.Causes.{IsAnswer, IsTold, IsSilent, IsReadWhole, most_of}
+use Rattle.tevents.proofs.AnswersTold.{told_of_answer, told_apart, line_of_five, whole_has_size, as_told}
+use Rattle.tevents.proofs.PartsRead.{answer_to_all}
 use Rattle.tevents.proofs.PostsCounted.{same_or_apart}
 use Rattle.tevents.proofs.modes.task_run.Goals as goal
+
+-- what is answered to the first bytes, one more than the task reads at most, is answered to all
+answered_to_all : (read given : List ℕ) (most : ℕ) (task : Task) (written : List ℕ) (status : ℕ) → most ≡ most_of task
+    → given ≡ take (most + 1) read → (length given ≤ most → given ≡ read) → IsAnswer task given written status → IsAnswer task read written status
+answered_to_all read given most task written status is first whole answer = answer_to_all read given task written status
+    (subst (λ (n : ℕ). given ≡ take (n + 1) read) is first) (λ few. whole (subst (λ (n : ℕ). length given ≤ n) (sym is) few)) answer
 
 -- the status of what is told is the answer, but where the sink failed
 as_written : (status result : ℕ) → IsTold status → (result ≢ 4 → result ≡ status) → (result ≡ 4) ⊎ IsTold result
@@ -31,9 +39,9 @@ returns-in-Ok-answer-clause-statuses g c =
 pub returns-in-Ok-answer-clause-told : goal.returns-in-Ok-answer-clause-told
 returns-in-Ok-answer-clause-told g c = λ told read left.
     let answered = rw c.as_slice.ensures at c.in-Ok-answer.ensures in
-    let answer = answer_to_all read c.in-Ok.bytes (c.in-Ok.ensures.first read left).0
-    (λ few. (c.in-Ok.ensures.whole few read left).0) c.args.task c.in-Ok-answer.told.text
-    c.in-Ok-answer.told.status answered in
+    let answer = answered_to_all read c.in-Ok.bytes c.most.result c.args.task c.in-Ok-answer.told.text
+    c.in-Ok-answer.told.status c.most.ensures (c.in-Ok.ensures.first read left).0
+    (λ few. (c.in-Ok.ensures.whole few read left).0) answered in
     let whole = c.write.ensures.whole (told_apart c.write.result told).0 in
     (c.in-Ok-answer.told.text, subst (λ (s : ℕ). IsAnswer c.args.task read c.in-Ok-answer.told.text s) (sym whole.0) answer, whole.1)
 
@@ -66,12 +74,20 @@ returns-in-Ok-answer-clause-sink_failed g c = λ four.
 pub returns-in-Ok-answer-clause-cut_short : goal.returns-in-Ok-answer-clause-cut_short
 returns-in-Ok-answer-clause-cut_short g c = λ four read left.
     let answered = rw c.as_slice.ensures at c.in-Ok-answer.ensures in
-    let answer = answer_to_all read c.in-Ok.bytes (c.in-Ok.ensures.first read left).0
-    (λ few. (c.in-Ok.ensures.whole few read left).0) c.args.task c.in-Ok-answer.told.text
-    c.in-Ok-answer.told.status answered in
+    let answer = answered_to_all read c.in-Ok.bytes c.most.result c.args.task c.in-Ok-answer.told.text
+    c.in-Ok-answer.told.status c.most.ensures (c.in-Ok.ensures.first read left).0
+    (λ few. (c.in-Ok.ensures.whole few read left).0) answered in
     elim (c.write.ensures.failed four) [
       | inl status ↦ absurd
           ((told_apart c.in-Ok-answer.told.status (told_of_answer _ _ _ _ c.in-Ok-answer.ensures)).0 status)
       | inr failed ↦
           (c.in-Ok-answer.told.text, c.in-Ok-answer.told.status, answer, failed.1)
     ]
+
+pub returns-in-Ok-answer-clause-read_to_the_end : goal.returns-in-Ok-answer-clause-read_to_the_end
+returns-in-Ok-answer-clause-read_to_the_end g c = λ whole read left.
+    let answered = rw c.as_slice.ensures at c.in-Ok-answer.ensures in
+    let status = (c.write.ensures.whole (told_apart c.write.result (as_told c.write.result whole)).0).0 in
+    let few : length c.in-Ok.bytes ≤ most_of c.args.task = whole_has_size c.args.task c.in-Ok.bytes c.in-Ok-answer.told.text
+    c.in-Ok-answer.told.status answered (subst IsReadWhole status whole) in
+    (c.in-Ok.ensures.whole (subst (λ (n : ℕ). length c.in-Ok.bytes ≤ n) (sym c.most.ensures) few) read left).1

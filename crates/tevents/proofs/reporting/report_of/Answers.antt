@@ -1,8 +1,6 @@
-use Rattle.std.proofs.Common.{ℕ, List, length, sym, subst}
-use Rattle.te_history.proofs.Growing.{legal_is_loose}
 use Rattle.tevents.proofs.reporting.report_of.Goals as goal
 
 pub write_report-requires-clause-channels : goal.write_report-requires-clause-channels
 write_report-requires-clause-channels c =
-    c.channels_are_of_the_script.ensures c.args.script.now c.args.hist.now.entries c.requires.program
-    (legal_is_loose (length c.args.script.now.threads) c.args.hist.now.entries c.requires.legal) c.requires.of_script
+    c.channels_are_of_the_script.ensures c.args.script.now c.args.hist.now.entries c.requires.program c.requires.loose
+    c.requires.of_script

@@ -1,5 +1,5 @@
 use Rattle.std.proofs.Common.{rules, ◌≡◌, ◌∙◌, ap, map, []}
-use Rattle.te_script.specs.Scripts.{Thread, Program}
+use Rattle.te_script.specs.Scripts.{Program}
 use Rattle.te_script.specs.Cores.{core_after}
 use Rattle.te_report.proofs.FirstCores.{take_past}
 use Rattle.tevents.proofs.FirstRun.{fresh_cores, of_texts}

@@ -1,6 +1,4 @@
-use Rattle.std.proofs.Common.{rules, ◌≡◌, ◌∙◌, ◌≤◌, ap, refl, sym, subst, length, List, ℕ, arith, []}
-use Rattle.te_script.specs.Scripts.{Thread}
-use Rattle.te_script.specs.Cores.{At}
+use Rattle.std.proofs.Common.{◌≡◌, ◌∙◌, ◌≤◌, ap, sym, subst, length, ℕ, arith, []}
 use Rattle.te_board.specs.Boards.{BoardLog}
 use Rattle.te_report.specs.declared.ending.Ending.{Ending}
 use Rattle.te_serial.specs.Finishing.{HasCause}

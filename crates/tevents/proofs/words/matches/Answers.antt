@@ -1,4 +1,4 @@
-use Rattle.std.proofs.Common.{◌≡◌, ◌∙◌, ap, sym, subst, refl, true, [], map, inl, inr}
+use Rattle.std.proofs.Common.{◌≡◌, ◌∙◌, ap, sym, subst, refl, true, map, inl, inr}
 use Rattle.std.specs.String.{string_bytes}
 use Rattle.clap.specs.Words.{App, is_simple, matches_of, is_simple_and_free, Kinds, IsAmong, kind_of}
 use Rattle.clap.specs.Faults.{fault_of}

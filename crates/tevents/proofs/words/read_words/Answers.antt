@@ -1,5 +1,5 @@
-use Rattle.std.proofs.Common.{◌≡◌, ◌∙◌, ap, sym, refl, inl, inr, codes, List, ℕ}
-use Rattle.clap.specs.Words.{Row, found_of, first_of, Text}
+use Rattle.std.proofs.Common.{◌∙◌, ap, sym, refl, inr, codes}
+use Rattle.clap.specs.Words.{found_of, first_of}
 use Rattle.clap.specs.Walk.{one_of}
 use Rattle.tevents.proofs.RowsFound.{first_is, one_is}
 use Rattle.tevents.proofs.words.read_words.Goals as goal
