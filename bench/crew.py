@@ -8,7 +8,7 @@ look taken twice, which tells the share of the looks. Each time is the least of 
 take turns.
 
 blocked   one thread receives from each of 14 or 15 others, which each choose what to send, and can't go on with any sum:
-          65,575 or 131,113 paths, of which each is compared with two ends at most.
+          65,575 or 131,114 paths, of which each is compared with two ends at most.
 apart     2^8 to 2^12 ends each for sending and for receiving on one channel, of which each agrees with one of the others.
 """
 import argparse
