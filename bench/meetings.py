@@ -3,8 +3,8 @@
 
     bench/meetings.py [--yardstick PATH] [--runs N]
 
-It proves and builds the program of bench/meetings over copies of te_terms, te_path, te_trail and te_pair in a temporary
-folder. The program makes all paths of the list of `blocked` in bench/search.py: one thread receives from each of M others,
+It proves and builds the program of bench/meetings, whose files end in .rattle so that no check of the repository takes them
+for a crate of its own, over copies of te_terms, te_path, te_trail and te_pair in a temporary folder. The program makes all paths of the list of `blocked` in bench/search.py: one thread receives from each of M others,
 which each choose what to send, and can't go on with any sum. It plants, branches and meets, and keeps each path that waits.
 
 The instructions are those that valgrind's callgrind counts, less those of a run with no thread. The time is the least of N
@@ -37,6 +37,9 @@ def build(folder):
         name = line.partition(":")[0]
         from_folder = os.path.join(TOP, "bench" if name == "meetings" else "crates", name)
         shutil.copytree(from_folder, os.path.join(crates, name), ignore=shutil.ignore_patterns("out", "must-fail"))
+    for at, _, files in os.walk(os.path.join(crates, "meetings")):
+        for file in files:
+            os.rename(os.path.join(at, file), os.path.join(at, file.removesuffix(".rattle")))
     with open(os.path.join(folder, "crates.txt"), "w") as file:
         file.write("\n".join(CRATES) + "\n")
     subprocess.run(["git", "init", "-q", folder], check=True)
