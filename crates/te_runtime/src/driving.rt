@@ -17,6 +17,7 @@ use crate::comparing::are_same;
 use crate::fault::SyncFault;
 use crate::looking::look;
 use crate::runtime::TeRuntime;
+use crate::waking::members_of;
 use std::alloc::Global;
 use te_board::{Board, BoardFault, Snapshot};
 use te_cert::Cert;
@@ -103,7 +104,7 @@ fn declare(
 }
 
 /// Does what was found in the snapshot's list.
-fn act(
+pub(crate) fn act(
     alloc: Global,
     board: &mut Board,
     by: u32,
@@ -198,8 +199,10 @@ impl TeRuntime {
     {
         let by = Turn::caller(pass);
         let mut board = self.enter(pass)?;
+        let members = members_of(&found);
         let driven = act(alloc, &mut board, by, found, snapshot);
         self.exit(pass, board);
+        self.wake_after(by, &driven, &members);
         driven
     }
 }
