@@ -8,3 +8,4 @@ pub mod TicketsHeld
 pub mod TurnsOfSync
 pub mod RoundsOfSync
 pub mod StuckCallers
+pub mod EndsRefused

@@ -141,7 +141,7 @@ module _ (budget ticket : ℕ) {p m : Knowledge Entry} (q : Knowledge Entry) (c 
   parted_after reason (Err fault) (inl (is, d)) holds why =
       subst (λ (f : SyncFault). FailsLater budget ticket p q [] f) (sym is)
       (fails_so budget ticket p q reason (between_later (entries.Withdraw q.caller ticket ∷ []) c d, why d))
-  parted_after reason (Err fault) (inr (is, (d, stuck))) holds why =
+  parted_after reason (Err fault) (inr (is, d, stuck)) holds why =
       subst (λ (f : SyncFault). FailsLater budget ticket p q [] f) (sym is)
       (record { stuck = stuck; parks = left_parked q ticket [] d stuck (holds d); appended = inl (between_later [] c d) })
 
@@ -152,13 +152,13 @@ module _ (budget ticket : ℕ) {p m : Knowledge Entry} (q : Knowledge Entry) (c 
   -- what was done with what was found
   pub acted : (d : Driven) → IsActed m q d → ((mine : List Entry) → Called m q mine → AllByRecursion StaysPut mine → HoldsTicket (state_of (board_of q)) q.caller ticket)
       → IsStageOf budget ticket p q (after_driven d)
-  acted (driven.Committed front) (front_is, (e, (commit, d))) holds =
+  acted (driven.Committed front) (front_is, (e, commit, d)) holds =
       between_after [] [] (between_plain [] c) (record { commits = e ∷ []; tight = (commit, tt); called = d })
   acted (driven.Moved from front) moved holds = between_later [] c moved.called
   acted (driven.Blocked front) blocked holds = between_later [] c blocked.called
   acted driven.Stuck d holds =
       let there = last_read [] (entries.Stuck q.caller) d in
-      let stuck : HasStuck (board_of q) = (there.0, (q.caller, there.1)) in
+      let stuck : HasStuck (board_of q) = (there.0, q.caller, there.1) in
       record {
         stuck = stuck;
         parks = left_parked q ticket (entries.Stuck q.caller ∷ []) d stuck (holds (entries.Stuck q.caller ∷ []) d (tt, tt));
@@ -180,7 +180,7 @@ parted_at_once budget ticket p q reason (Err fault) shows (inl (is, d)) holds =
     by_reason (faults.Spent front paths groups) shows' = absurd shows'
     by_reason faults.Full shows' = absurd shows'
     by_reason (faults.Busy word) shows' = absurd shows'
-parted_at_once budget ticket p q reason (Err fault) shows (inr (is, (d, stuck))) holds =
+parted_at_once budget ticket p q reason (Err fault) shows (inr (is, d, stuck)) holds =
     subst (λ (f : SyncFault). FailsLater budget ticket p q [] f) (sym is)
     (record { stuck = stuck; parks = left_parked q ticket [] d stuck (holds d); appended = inl (between_plain [] d) })
 
@@ -219,10 +219,10 @@ all_stay : (k : ℕ) (es : List Entry) → AllByRecursion (IsTightCommit k) es �
 all_stay k es tight = subst (AllByRecursion StaysPut) (sym (append-nil es)) (all_with (IsTightCommit k) StaysPut es (commit_stays k) tight)
 
 -- a round after which the caller goes on
-pub goes_on : {p m q : Knowledge Entry} (ticket : ℕ) (event : Term) → CommitsBetween p m (entries.Post m.caller ticket event ∷ []) []
+pub round_on : {p m q : Knowledge Entry} (ticket : ℕ) (event : Term) → CommitsBetween p m (entries.Post m.caller ticket event ∷ []) []
     → CommitsBetween m q [] [] → HoldsTicket (state_of (board_of m)) m.caller ticket
     → CommitsBetween p q (entries.Post q.caller ticket event ∷ []) [] × HoldsTicket (state_of (board_of q)) q.caller ticket
-goes_on {p} {m} {q} ticket event g h holds = (
+round_on {p} {m} {q} ticket event g h holds = (
   between_after (entries.Post q.caller ticket event ∷ []) [] (posted_by ticket event h.called.same.1 g) h,
   holds_called ticket (h.commits ++ []) g.called.whole h.called (all_stay q.caller h.commits h.tight) holds,
 )

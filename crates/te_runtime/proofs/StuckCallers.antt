@@ -30,7 +30,7 @@ use Rattle.te_terms.proofs.Lists.{get_some}
 
 -- the list has an end of this caller
 HasEnd : ℕ → List Entry → Type 0
-HasEnd t h = (k : ℕ) (how : How) × (slice_get h k ≡ Some (End t how))
+HasEnd t h = (k : ℕ) × (how : How) × (slice_get h k ≡ Some (End t how))
 
 -- another standing was put, so the caller had ended before
 was_ended : (s : State) (by t : ℕ) (x : Standing) → x ≢ ended → Stands (with_standing by x s) t ended → Stands s t ended
@@ -90,7 +90,8 @@ stuck_stands budget {p} {q} event f low refused is = by_turn (subst (λ (g : Syn
         let own : q.own ≡ p.own = c.own ∙ append-nil p.own in
         inr (
           mine.0,
-          (there.1, ap (λ (l : List Entry). slice_get l mine.0) (sym own) ∙ mine.1 ∙ ap (λ (k : ℕ). Some (End k there.1)) c.same.1),
+          there.1,
+          ap (λ (l : List Entry). slice_get l mine.0) (sym own) ∙ mine.1 ∙ ap (λ (k : ℕ). Some (End k there.1)) c.same.1,
         )
     by_standing c idle at stuck =
         absurd (stuck_waits q.lock.callers q.read (legal_is_loose q.lock.callers q.read c.law.legal) ((stuck_exactly q.lock.callers q.read).1 stuck) q.caller idle at)

@@ -1,6 +1,6 @@
 -- A caller that holds a ticket holds it still, whatever others append and it commits itself.
 use Rattle.std.proofs.Common.{◌≡◌, ◌≢◌, ◌==◌, ◌⊎◌, inl, inr, ℕ, Bool, true, false, cond, List, [], ◌∷◌, ◌++◌, Some, refl, ap, sym, ◌∙◌, subst, append_assoc, eq-eqb, ne_eqb}
-use Rattle.std.specs.List.{AllByRecursion}
+use Rattle.std.specs.List.{AllByRecursion, slice_get}
 use Rattle.std.proofs.lemmas.List.{append-nil, append_cancel_left}
 use mathlib.Core.List.{IsPrefix}
 use Rattle.te_terms.specs.declared.event.Outcome.{Outcome}
@@ -19,6 +19,7 @@ use Rattle.te_history.proofs.Commits.{same_or_other, stands_put, stands_other, T
 use Rattle.te_history.proofs.Growing.{legal_is_loose, later_part}
 use Rattle.te_history.proofs.Lasting.{stuck_waits}
 use Rattle.te_board.specs.Boards.{BoardLog, state_of}
+use Rattle.te_terms.proofs.Lists.{same_item}
 use Rattle.te_runtime.specs.Calls.{Called, board_of}
 use Rattle.te_runtime.specs.Turns.{Entered}
 use Rattle.te_runtime.specs.Answers.{IsTightCommit}
@@ -117,9 +118,9 @@ holds_longer callers k ticket before after own mine (more, is) legal was now sta
 
 -- ---- calls and turns
 
-as_after : {p q : Knowledge Entry} (ticket : ℕ) → q.lock ≡ p.lock → q.caller ≡ p.caller → HoldsTicket (state_of (board_of p)) p.caller ticket
+as_after : (p q : Knowledge Entry) (ticket : ℕ) → q.lock ≡ p.lock → q.caller ≡ p.caller → HoldsTicket (state_of (board_of p)) p.caller ticket
     → HoldsTicket (state q.lock.callers p.read) q.caller ticket
-as_after {p} {q} ticket lock caller holds =
+as_after p q ticket lock caller holds =
     subst (λ (k : ℕ). HoldsTicket (state q.lock.callers p.read) k ticket) (sym caller)
     (subst (λ (n : ℕ). HoldsTicket (state n p.read) p.caller ticket) (ap (λ l. l.callers) (sym lock)) holds)
 
@@ -127,14 +128,14 @@ pub holds_called : {p q : Knowledge Entry} (ticket : ℕ) (mine : List Entry) �
     → AllByRecursion StaysPut mine → HoldsTicket (state_of (board_of p)) p.caller ticket → HoldsTicket (state_of (board_of q)) q.caller ticket
 holds_called {p} {q} ticket mine whole c stay holds =
     holds_longer q.lock.callers q.caller ticket p.read q.read p.own mine c.begins c.law.legal
-    (subst (λ (k : ℕ). entries_by caller_of k p.read ≡ p.own) (sym c.same.1) whole) (c.whole ∙ c.own) stay (as_after ticket c.same.0 c.same.1 holds)
+    (subst (λ (k : ℕ). entries_by caller_of k p.read ≡ p.own) (sym c.same.1) whole) (c.whole ∙ c.own) stay (as_after p q ticket c.same.0 c.same.1 holds)
 
 pub holds_entered : {p q : Knowledge Entry} {b : BoardLog} (ticket : ℕ) → entries_by caller_of p.caller p.read ≡ p.own → Entered p q b
     → HoldsTicket (state_of (board_of p)) p.caller ticket → HoldsTicket (state_of b) q.caller ticket
 holds_entered {p} {q} {b} ticket whole e holds =
     let now = holds_longer q.lock.callers q.caller ticket p.read q.read p.own [] e.begins e.law.legal
     (subst (λ (k : ℕ). entries_by caller_of k p.read ≡ p.own) (sym e.same.1) whole) (e.whole ∙ e.own ∙ sym (append-nil p.own)) tt
-    (as_after ticket e.same.0 e.same.1 holds) in
+    (as_after p q ticket e.same.0 e.same.1 holds) in
     subst (λ (s : State). HoldsTicket s q.caller ticket) (λ i. state (sym e.callers i) (sym e.list i)) now
 
 -- who has just posted
@@ -150,30 +151,27 @@ holds_posted callers h by ticket event legal =
 
 -- ---- what a ticket tells of a caller
 
-pub stands_once : (s : State) (k : ℕ) (x y : Standing) → Stands s k x → Stands s k y → x ≡ y
-stands_once s k x y at also = let both : Some x ≡ Some y = sym at ∙ also in cc
-
 pub ticket_parked : (s : State) (k ticket held : ℕ) → HoldsTicket s k ticket → HasStatus s k (statuses.Parked held) → held ≡ ticket
 ticket_parked s k ticket held (inl (event, at)) (x, also, is) =
-    let same : x ≡ parked ticket event = stands_once s k x (parked ticket event) also at in
+    let same : x ≡ parked ticket event = same_item x (parked ticket event) (slice_get s.callers k) also at in
     let both : statuses.Parked held ≡ statuses.Parked ticket = is ∙ ap status_of same in cc
 ticket_parked s k ticket held (inr (outcome, at)) (x, also, is) =
-    let same : x ≡ given ticket outcome = stands_once s k x (given ticket outcome) also at in
+    let same : x ≡ given ticket outcome = same_item x (given ticket outcome) (slice_get s.callers k) also at in
     let both : statuses.Parked held ≡ statuses.Given ticket outcome = is ∙ ap status_of same in absurd cc
 
 pub ticket_given : (s : State) (k ticket held : ℕ) (due : Outcome) → HoldsTicket s k ticket → HasStatus s k (statuses.Given held due) → held ≡ ticket
 ticket_given s k ticket held due (inl (event, at)) (x, also, is) =
-    let same : x ≡ parked ticket event = stands_once s k x (parked ticket event) also at in
+    let same : x ≡ parked ticket event = same_item x (parked ticket event) (slice_get s.callers k) also at in
     let both : statuses.Given held due ≡ statuses.Parked ticket = is ∙ ap status_of same in absurd cc
 ticket_given s k ticket held due (inr (outcome, at)) (x, also, is) =
-    let same : x ≡ given ticket outcome = stands_once s k x (given ticket outcome) also at in
+    let same : x ≡ given ticket outcome = same_item x (given ticket outcome) (slice_get s.callers k) also at in
     let both : statuses.Given held due ≡ statuses.Given ticket outcome = is ∙ ap status_of same in cc
 
 -- who isn't given an outcome is parked
 pub parked_still : (s : State) (k ticket held : ℕ) → HoldsTicket s k ticket → HasStatus s k (statuses.Parked held) → ParkedUnder s k ticket
 parked_still s k ticket held (inl under) has = under
 parked_still s k ticket held (inr (outcome, at)) (x, also, is) =
-    let same : x ≡ given ticket outcome = stands_once s k x (given ticket outcome) also at in
+    let same : x ≡ given ticket outcome = same_item x (given ticket outcome) (slice_get s.callers k) also at in
     let both : statuses.Parked held ≡ statuses.Given ticket outcome = is ∙ ap status_of same in absurd cc
 
 -- on a stuck board too

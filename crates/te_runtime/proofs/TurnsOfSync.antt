@@ -41,8 +41,8 @@ parting_keeps b after by ticket reason (Err fault) (inr (at, same, stuck)) =
 
 -- a reason that the board shows stays one
 reason_stays : (b after : BoardLog) (reason : SyncFault) (more : List Entry) → after.entries ≡ b.entries ++ more → IsReason b reason → IsReason after reason
-reason_stays b after faults.Resting more is (k, (by, at)) =
-    (k, (by, subst (λ (l : List Entry). slice_get l k ≡ Some (entries.Rest by)) (sym is) (get-longer b.entries more k (entries.Rest by) at)))
+reason_stays b after faults.Resting more is (k, by, at) =
+    (k, by, subst (λ (l : List Entry). slice_get l k ≡ Some (entries.Rest by)) (sym is) (get-longer b.entries more k (entries.Rest by) at))
 reason_stays b after faults.Memory more is reason = tt
 reason_stays b after (faults.Other status) more is reason = absurd reason
 reason_stays b after faults.Stuck more is reason = absurd reason
@@ -62,11 +62,12 @@ looked {p} {q} {r} {b} after by ticket (outlooks.Search seen) e s l is =
       },
       subst (λ (x : BoardLog). ParkedUnder (state_of x) r.caller ticket) (sym board) (subst (λ (k : ℕ). ParkedUnder (state_of b) k ticket) at s.parks),
     )
-looked {p} {q} {r} {b} after by ticket (outlooks.Over answer) e (reason, (shows, parts)) l is =
+looked {p} {q} {r} {b} after by ticket (outlooks.Over answer) e (reason, shows, parts) l is =
     let kept = parting_keeps b after by ticket reason answer parts in
     let now = reason_stays b after reason kept.1.0 kept.1.1 shows in (
       reason,
-      (subst (λ (x : BoardLog). IsReason x reason) (sym (board_is e kept.0 l)) now, parted after by ticket reason answer e parts l is),
+      subst (λ (x : BoardLog). IsReason x reason) (sym (board_is e kept.0 l)) now,
+      parted after by ticket reason answer e parts l is,
     )
 
 pub posted : {p q r : Knowledge Entry} {b after : BoardLog} (by ticket : ℕ) (event : Term) → Entered p q b → Appends b after (entries.Post by ticket event)
@@ -78,3 +79,9 @@ posted {p} {q} {r} {b} {after} by ticket event e a l is =
     let holds = holds_posted r.lock.callers b.entries by ticket event law.legal in
     subst (λ (k : ℕ). HoldsTicket (state r.lock.callers r.read) k ticket) at
     (subst (λ (l : List Entry). HoldsTicket (state r.lock.callers l) by ticket) (sym read) holds)
+
+-- an entry that was read stands in the board of a later turn
+pub stuck_entered : {p q : Knowledge Entry} {b : BoardLog} → Entered p q b → HasStuck (board_of p) → HasStuck b
+stuck_entered {p} {q} {b} e (k, by, at) =
+    let longer = get-longer p.read e.begins.0 k (entries.Stuck by) at in
+    (k, by, subst (λ (l : List Entry). slice_get l k ≡ Some (entries.Stuck by)) (e.begins.1 ∙ sym e.list) longer)

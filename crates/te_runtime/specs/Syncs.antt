@@ -14,7 +14,7 @@ use Rattle.te_board.specs.Boards.{state_of}
 use Rattle.te_search.specs.Findings.{IsUsedUp}
 use Rattle.te_runtime.specs.declared.fault.SyncFault.{SyncFault}
 use Rattle.te_runtime.specs.declared.fault.SyncFault.TheVariants as faults
-use Rattle.te_runtime.specs.Calls.{Called, board_of}
+use Rattle.te_runtime.specs.Calls.{Called, RefusedAfterWait, board_of}
 use Rattle.te_runtime.specs.Answers.{IsTightCommit, parked_at}
 use Rattle.te_runtime.specs.Refusals.{HasStuck, HasRest, RefusesOffer}
 
@@ -71,7 +71,7 @@ FailsLater budget ticket before after first fault = HasWithdrawn budget ticket b
 -- it was refused at its first turn, where it appended nothing, or it failed once it had posted the event
 abbrev pub IsSyncRefused : ℕ → Knowledge Entry → Knowledge Entry → Term → SyncFault → Type 0
 IsSyncRefused budget before after event fault =
-    (Called before after [] × RefusesOffer (board_of after) after.caller fault)
+    RefusedAfterWait RefusesOffer before after fault
     ⊎ ((ticket : ℕ) × FailsLater budget ticket before after (entries.Post after.caller ticket event ∷ []) fault)
 
 -- ---- whose board is stuck
@@ -82,4 +82,4 @@ HasParkedEvent p = (ticket : ℕ) × ParkedUnder (state_of (board_of p)) p.calle
 
 -- its own entries have its end
 abbrev pub HasEnded : Knowledge Entry → Type 0
-HasEnded p = (k : ℕ) (how : How) × (slice_get p.own k ≡ Some (entries.End p.caller how))
+HasEnded p = (k : ℕ) × (how : How) × (slice_get p.own k ≡ Some (entries.End p.caller how))

@@ -1,11 +1,11 @@
 // A caller ends.
 
-ghost use Rattle.std.specs.Prelude.{◌≡◌, ◌<◌, ◌∷◌, [], false, IfErr, OnOk, OnErr};
+ghost use Rattle.std.specs.Prelude.{◌≡◌, ◌<◌, ◌↔◌, ◌∷◌, [], false, IsTrue, IfErr, OnOk, OnErr};
 ghost use Rattle.te_lock.specs.Lock.{IsSamePass};
 ghost use Rattle.te_history.specs.declared.entry.Entry.TheVariants as entries;
 ghost use Rattle.te_history.specs.declared.status.How.TheVariants as ways;
 ghost use Rattle.te_board.specs.Boards.{Appends};
-ghost use Rattle.te_runtime.specs.Calls.{Called, Refused, board_of};
+ghost use Rattle.te_runtime.specs.Calls.{Called, RefusedAfterWait, board_of};
 ghost use Rattle.te_runtime.specs.Turns.{GrowsBy};
 ghost use Rattle.te_runtime.specs.Refusals.{HasStuck, RefusesEnding};
 
@@ -18,6 +18,16 @@ use te_history::{How, Status};
 use te_lock::{Pass, Turn};
 use te_terms::Outcome;
 
+/// Whether this is to end as stuck.
+fn is_as_stuck(how: &How) -> bool
+    ensures { IsTrue result ↔ (how.now ≡ ways.Stuck) }
+{
+    match how {
+        How::Stuck => true,
+        _ => false,
+    }
+}
+
 /// Ends the caller: an idle one on a running board, a parked one on a stuck board.
 fn end(board: &mut Board, by: u32, how: How) -> Result<(), SyncFault>
     requires caller { by < board.old.callers }
@@ -29,11 +39,8 @@ fn end(board: &mut Board, by: u32, how: How) -> Result<(), SyncFault>
 {
     // The checker knows the types within a fault only where the body names them.
     let _named: Option<(Status, Outcome)> = None;
-    if is_stuck(board) {
-        match &how {
-            How::Stuck => {}
-            _ => return Err(SyncFault::Stuck),
-        }
+    if is_stuck(board) && !is_as_stuck(&how) {
+        return Err(SyncFault::Stuck);
     }
     match board.end(by, how) {
         Ok(()) => Ok(()),
@@ -56,7 +63,7 @@ impl TeRuntime {
         ensures same { IsSamePass pass.old pass.new }
         ensures turn { pass.new.has_turn ≡ false }
         ensures ok { OnOk result (Called pass.old pass.new (entries.End pass.new.caller how ∷ [])) }
-        ensures refused { IfErr result (Refused (RefusesEnding how) pass.old pass.new) }
+        ensures refused { IfErr result (RefusedAfterWait (RefusesEnding how) pass.old pass.new) }
     {
         let by = Turn::caller(pass);
         let mut board = self.wait_in(rt, pass);

@@ -4,7 +4,7 @@ ghost use Rattle.std.specs.Prelude.{◌≡◌, ◌<◌, ◌∷◌, [], false, If
 ghost use Rattle.te_lock.specs.Lock.{IsSamePass};
 ghost use Rattle.te_history.specs.declared.entry.Entry.TheVariants as entries;
 ghost use Rattle.te_board.specs.Boards.{Appends};
-ghost use Rattle.te_runtime.specs.Calls.{Called, Refused};
+ghost use Rattle.te_runtime.specs.Calls.{Called, RefusedAfterWait};
 ghost use Rattle.te_runtime.specs.Turns.{GrowsBy};
 ghost use Rattle.te_runtime.specs.Refusals.{RefusesResting};
 
@@ -52,7 +52,7 @@ impl TeRuntime {
         ensures same { IsSamePass pass.old pass.new }
         ensures turn { pass.new.has_turn ≡ false }
         ensures ok { OnOk result (Called pass.old pass.new (entries.Rest pass.new.caller ∷ [])) }
-        ensures refused { IfErr result (Refused (λ board _. RefusesResting board) pass.old pass.new) }
+        ensures refused { IfErr result (RefusedAfterWait (λ board _. RefusesResting board) pass.old pass.new) }
     {
         let by = Turn::caller(pass);
         let mut board = self.wait_in(rt, pass);

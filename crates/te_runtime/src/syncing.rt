@@ -1,6 +1,6 @@
 // A caller posts its event, and looks, searches and acts in rounds until it has its outcome.
 
-ghost use Rattle.std.specs.Prelude.{◌≡◌, ◌∷◌, [], false, IfOk, IfErr};
+ghost use Rattle.std.specs.Prelude.{◌≡◌, ◌⊎◌, ◌∷◌, [], false, IfOk, IfErr};
 ghost use Rattle.te_lock.specs.Entries.{entries_by};
 ghost use Rattle.te_lock.specs.Lock.{IsSamePass};
 ghost use Rattle.te_history.specs.declared.entry.Entry.TheVariants as entries;
@@ -9,7 +9,7 @@ ghost use Rattle.te_board.specs.Boards.{state_of};
 ghost use Rattle.te_search.specs.Findings.{IsBudget};
 ghost use Rattle.te_runtime.specs.declared.fault.SyncFault.TheVariants as faults;
 ghost use Rattle.te_runtime.specs.Refusals.{RefusesOffer, RefusesTurn};
-ghost use Rattle.te_runtime.specs.Calls.{Called, Refused, board_of};
+ghost use Rattle.te_runtime.specs.Calls.{Called, RefusedAfterWait, board_of};
 ghost use Rattle.te_runtime.specs.Syncs.{IsSynced, IsSyncRefused, HasEnded, HasParkedEvent};
 ghost use Rattle.te_runtime.specs.Acts.{IsFoundIn, IsSnapshotOf, IsActed};
 ghost use Rattle.te_runtime.specs.Rounds.{HoldsTicket, HasPartedIn, HasLookedIn, IsStageOf, unfound, after_driven};
@@ -78,8 +78,7 @@ impl TeRuntime {
         ensures ok { IfOk result (λ ticket. Called pass.old pass.new
             (entries.Post pass.new.caller ticket event.now ∷ [])) }
         ensures holds { IfOk result (HoldsTicket (state_of (board_of pass.new)) pass.new.caller) }
-        ensures refused { IfErr result (λ fault. Called pass.old pass.new []
-            × RefusesOffer (board_of pass.new) pass.new.caller fault) }
+        ensures refused { IfErr result (RefusedAfterWait RefusesOffer pass.old pass.new) }
     {
         let by = Turn::caller(pass);
         let mut board = self.wait_in(rt, pass);
@@ -123,7 +122,7 @@ impl TeRuntime {
         requires seen { IsSnapshotOf pass.old snapshot.now }
         requires found { IsFoundIn snapshot.now.parked found }
         ensures ok { IfOk result (IsActed pass.old pass.new) }
-        ensures refused { IfErr result (λ fault. Called pass.old pass.new [] × RefusesTurn (board_of pass.new) fault) }
+        ensures refused { IfErr result (RefusedAfterWait (λ board _. RefusesTurn board) pass.old pass.new) }
     {
         let by = Turn::caller(pass);
         let mut board = self.wait_in(rt, pass);
