@@ -22,6 +22,8 @@ use Rattle.te_runtime.specs.declared.fault.SyncFault.{SyncFault}
 use Rattle.te_runtime.specs.declared.fault.SyncFault.TheVariants as faults
 use Rattle.te_runtime.specs.declared.answers.Driven.{Driven}
 use Rattle.te_runtime.specs.declared.answers.Driven.TheVariants as driven
+use Rattle.te_runtime.specs.declared.syncing.Stage.{Stage}
+use Rattle.te_runtime.specs.declared.syncing.Stage.TheVariants as stages
 use Rattle.te_runtime.specs.Calls.{Called, board_of}
 use Rattle.te_runtime.specs.Refusals.{HasStuck}
 use Rattle.te_runtime.specs.Answers.{IsTightCommit, parked_at}
@@ -207,6 +209,31 @@ why_unfound budget ticket {p} {m} {q} seen list more (search.Spent paths groups)
       parks = subst (λ (k : ℕ). ParkedUnder (state q.lock.callers (take seen.front q.read)) k ticket) (sym d.same.1)
           (subst (λ (s : State). ParkedUnder s m.caller ticket) at parks);
     }
+
+-- ---- what is left to do after a turn that looked
+
+module _ (budget ticket : ℕ) {m : Knowledge Entry} (q : Knowledge Entry) (whole : entries_by caller_of m.caller m.read ≡ m.own)
+    (holds : HoldsTicket (state_of (board_of m)) m.caller ticket) where
+  pub stage_acted : (d : Driven) → IsActed m q d → (p : Knowledge Entry) → Called p m [] → IsStageOf budget ticket p q (after_driven d)
+  stage_acted d is p c = acted budget ticket q c d is (λ mine call stay. holds_called ticket mine whole call stay holds)
+
+  pub stage_stuck : Called m q [] → HasStuck (board_of q) → (p : Knowledge Entry) → Called p m [] → IsStageOf budget ticket p q (stages.Over (Err faults.Stuck))
+  stage_stuck d stuck p c = stuck_after budget ticket q c d stuck (holds_called ticket [] whole d tt holds)
+
+  -- the search came to no end
+  pub stage_unfound : (seen : Snapshot) (list : List Parked) (f : SearchFault) (answer : Result Outcome SyncFault) → IsSnapshotOf m seen → list ≡ seen.parked
+      → ParkedUnder (state_of (board_of m)) m.caller ticket → IsUnfound list budget f → HasPartedIn m q ticket (unfound seen.front f) answer
+      → (p : Knowledge Entry) → Called p m [] → IsStageOf budget ticket p q (stages.Over answer)
+  stage_unfound seen list f answer of is parks used parts p c =
+      parted_after budget ticket q c (unfound seen.front f) answer parts (λ d. holds_called ticket [] whole d tt holds)
+      (λ d. why_unfound budget ticket seen list (entries.Withdraw q.caller ticket ∷ []) f c of is parks used d)
+
+  -- there was no memory to act
+  pub stage_unacted : (k : Knowledge Entry) (answer : Result Outcome SyncFault) → Called m k [] → HasPartedIn k q ticket faults.Memory answer
+      → (p : Knowledge Entry) → Called p m [] → IsStageOf budget ticket p q (stages.Over answer)
+  stage_unacted k answer d parts p c =
+      parted_after budget ticket q (called_then [] [] c d) faults.Memory answer parts
+      (λ call. holds_called ticket [] d.whole call tt (holds_called ticket [] whole d tt holds)) (λ call. tt)
 
 -- ---- rounds
 

@@ -1,8 +1,10 @@
 // A caller posts its event, and looks, searches and acts in rounds until it has its outcome.
 
 ghost use Rattle.std.specs.Prelude.{◌≡◌, ◌⊎◌, ◌∷◌, [], false, IfOk, IfErr};
+ghost use Rattle.te_terms.specs.Joint.{IsGroup, as_group};
 ghost use Rattle.te_lock.specs.Entries.{entries_by};
-ghost use Rattle.te_lock.specs.Lock.{IsSamePass};
+ghost use Rattle.te_lock.specs.Lock.{Knowledge, IsSamePass};
+ghost use Rattle.te_history.specs.declared.entry.Entry.{Entry};
 ghost use Rattle.te_history.specs.declared.entry.Entry.TheVariants as entries;
 ghost use Rattle.te_history.specs.Follows.{caller_of};
 ghost use Rattle.te_board.specs.Boards.{state_of};
@@ -10,8 +12,8 @@ ghost use Rattle.te_search.specs.Findings.{IsBudget};
 ghost use Rattle.te_runtime.specs.declared.fault.SyncFault.TheVariants as faults;
 ghost use Rattle.te_runtime.specs.Refusals.{RefusesOffer, RefusesTurn};
 ghost use Rattle.te_runtime.specs.Calls.{Called, RefusedAfterWait, board_of};
-ghost use Rattle.te_runtime.specs.Syncs.{IsSynced, IsSyncRefused, HasEnded, HasParkedEvent};
-ghost use Rattle.te_runtime.specs.Acts.{IsFoundIn, IsSnapshotOf, IsActed};
+ghost use Rattle.te_runtime.specs.Syncs.{ParkedUnder, IsSynced, IsSyncRefused, HasEnded, HasParkedEvent};
+ghost use Rattle.te_runtime.specs.Acts.{IsFoundIn, IsUnfound, IsSnapshotOf, IsActed};
 ghost use Rattle.te_runtime.specs.Rounds.{HoldsTicket, HasPartedIn, HasLookedIn, IsStageOf, unfound, after_driven};
 
 use crate::answers::Driven;
@@ -26,7 +28,7 @@ use std::sync::Wait;
 use te_board::{Board, Snapshot};
 use te_lock::{Pass, Turn};
 use te_search::{Found, SearchFault, find};
-use te_terms::{Event, Outcome};
+use te_terms::{Event, Outcome, Parked};
 
 /// What a round leaves to do.
 #[derive(Clone, Copy)]
@@ -37,6 +39,16 @@ pub enum Stage {
     Sleep,
     /// Nothing: this is what the caller is answered.
     Over(Result<Outcome, SyncFault>),
+}
+
+// Searches a list of parked events, on the caller's own thread.
+fn find_alone(alloc: Global, parked: &[Parked], budget: u64) -> Result<Found, SearchFault>
+    requires rising { IsGroup (as_group parked.now) }
+    requires budget { IsBudget budget }
+    ensures found { IfOk result (IsFoundIn parked.now) }
+    ensures refused { IfErr result (IsUnfound parked.now budget) }
+{
+    find(alloc, parked, budget)
 }
 
 // What a caller is told of a search that came to no end.
@@ -154,7 +166,39 @@ impl TeRuntime {
         answer
     }
 
-    // One round: the caller looks, searches and acts.
+    // The rest of a round, after the turn that looked: the caller searches, and acts on what it finds.
+    fn search_after<R: Wait>(
+        &self,
+        rt: &R,
+        alloc: Global,
+        pass: &mut Pass<Board>,
+        ticket: u32,
+        snapshot: &Snapshot,
+        budget: u64,
+    ) -> Stage
+        requires here { pass.old.lock ≡ self.now }
+        requires idle { pass.old.has_turn ≡ false }
+        requires whole { entries_by caller_of pass.old.caller pass.old.read ≡ pass.old.own }
+        requires holds { HoldsTicket (state_of (board_of pass.old)) pass.old.caller ticket }
+        requires seen { IsSnapshotOf pass.old snapshot.now }
+        requires parks { ParkedUnder (state_of (board_of pass.old)) pass.old.caller ticket }
+        requires budget { IsBudget budget }
+        ensures { (first : Knowledge Entry) → Called first pass.old [] → IsStageOf budget ticket first pass.new result }
+    {
+        match find_alone(alloc, snapshot.parked.as_slice(), budget) {
+            Ok(found) => match self.act_after(rt, alloc, pass, found, snapshot) {
+                Ok(driven) => after_driven(driven),
+                Err(SyncFault::Stuck) => Stage::Over(Err(SyncFault::Stuck)),
+                Err(_) => Stage::Over(self.part_after(rt, pass, ticket, SyncFault::Memory)),
+            },
+            Err(fault) => {
+                let reason = unfound(snapshot.front, fault);
+                Stage::Over(self.part_after(rt, pass, ticket, reason))
+            }
+        }
+    }
+
+    // One round: the caller looks, and searches where it is parked still.
     fn round<R: Wait>(
         &self,
         rt: &R,
@@ -170,20 +214,11 @@ impl TeRuntime {
         requires budget { IsBudget budget }
         ensures { IsStageOf budget ticket pass.old pass.new result }
     {
-        let snapshot = match self.look_after(rt, alloc, pass, ticket) {
-            Outlook::Search(snapshot) => snapshot,
-            Outlook::Over(answer) => return Stage::Over(answer),
-        };
-        match find(alloc, snapshot.parked.as_slice(), budget) {
-            Ok(found) => match self.act_after(rt, alloc, pass, found, &snapshot) {
-                Ok(driven) => after_driven(driven),
-                Err(SyncFault::Stuck) => Stage::Over(Err(SyncFault::Stuck)),
-                Err(_) => Stage::Over(self.part_after(rt, pass, ticket, SyncFault::Memory)),
-            },
-            Err(fault) => {
-                let reason = unfound(snapshot.front, fault);
-                Stage::Over(self.part_after(rt, pass, ticket, reason))
+        match self.look_after(rt, alloc, pass, ticket) {
+            Outlook::Search(snapshot) => {
+                self.search_after(rt, alloc, pass, ticket, &snapshot, budget)
             }
+            Outlook::Over(answer) => Stage::Over(answer),
         }
     }
 
