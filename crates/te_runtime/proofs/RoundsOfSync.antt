@@ -78,24 +78,24 @@ between_later last c d = between_plain last (called_then [] last c d)
 -- ---- why an event was taken back
 
 -- a later call's reason is the longer call's
-why_after : (budget ticket : ℕ) {p m : Knowledge Entry} (q : Knowledge Entry) (first later : ℕ) (f : SyncFault) → length p.read ≤ length m.read
+why_after : (budget ticket : ℕ) (p m q : Knowledge Entry) (first later : ℕ) (f : SyncFault) → length p.read ≤ length m.read
     → first / 2 ≤ length m.read → WhyWithdrawn budget ticket later m q f → WhyWithdrawn budget ticket first p q f
-why_after budget ticket q first later faults.Resting long reaches why = why
-why_after budget ticket q first later faults.Memory long reaches why = tt
-why_after budget ticket q first later (faults.Spent front paths groups) long reaches why =
+why_after budget ticket p m q first later faults.Resting long reaches why = why
+why_after budget ticket p m q first later faults.Memory long reaches why = tt
+why_after budget ticket p m q first later (faults.Spent front paths groups) long reaches why =
     let since = why.since in
     record { since = omega (arith, long, since); fresh = omega (arith, reaches, since); within = why.within; used_up = why.used_up; parks = why.parks }
-why_after budget ticket q first later (faults.Other status) long reaches why = absurd why
-why_after budget ticket q first later faults.Stuck long reaches why = absurd why
-why_after budget ticket q first later faults.Full long reaches why = absurd why
-why_after budget ticket q first later (faults.Busy word) long reaches why = absurd why
+why_after budget ticket p m q first later (faults.Other status) long reaches why = absurd why
+why_after budget ticket p m q first later faults.Stuck long reaches why = absurd why
+why_after budget ticket p m q first later faults.Full long reaches why = absurd why
+why_after budget ticket p m q first later (faults.Busy word) long reaches why = absurd why
 
 pub withdrawn_after : (budget ticket : ℕ) {p m : Knowledge Entry} (q : Knowledge Entry) (first : List Entry) (f : SyncFault) → CommitsBetween p m first []
     → HasWithdrawn budget ticket m q [] f → HasWithdrawn budget ticket p q first f
-unfolding (between_after, called_as, called_then)
+unfolding between_after called_as called_then
 withdrawn_after budget ticket {p} {m} q first f g (w, why) = (
   between_after first (entries.Withdraw q.caller ticket ∷ []) g w,
-  why_after budget ticket q g.called.looked.first w.called.looked.first f (prefix_length p.read m.read g.called.begins) g.called.looked.reaches why,
+  why_after budget ticket p m q g.called.looked.first w.called.looked.first f (prefix_length p.read m.read g.called.begins) g.called.looked.reaches why,
 )
 
 pub fails_after : (budget ticket : ℕ) {p m : Knowledge Entry} (q : Knowledge Entry) (first : List Entry) (f : SyncFault) → CommitsBetween p m first []
@@ -138,7 +138,7 @@ module _ (budget ticket : ℕ) {p m : Knowledge Entry} (q : Knowledge Entry) (c 
   pub parted_after : (reason : SyncFault) (answer : Result Outcome SyncFault) → HasPartedIn m q ticket reason answer
       → (Called m q [] → HoldsTicket (state_of (board_of q)) q.caller ticket)
       → (Called m q (entries.Withdraw q.caller ticket ∷ []) → WhyWithdrawn budget ticket c.looked.first p q reason) → IsAnsweredSo budget ticket p q [] answer
-  unfolding (between_later, between_plain, called_then)
+  unfolding between_later between_plain called_then
   parted_after reason (Ok outcome) d holds why = between_later (entries.Take q.caller ticket outcome ∷ []) c d
   parted_after reason (Err fault) (inl (is, d)) holds why =
       subst (λ (f : SyncFault). FailsLater budget ticket p q [] f) (sym is)

@@ -29,7 +29,7 @@ use Rattle.te_terms.proofs.Lists.{get_some}
 -- ---- whoever has ended has an end in the history
 
 -- the list has an end of this caller
-HasEnd : ℕ → List Entry → Type 0
+abbrev HasEnd : ℕ → List Entry → Type 0
 HasEnd t h = (k : ℕ) × (how : How) × (slice_get h k ≡ Some (End t how))
 
 -- another standing was put, so the caller had ended before
@@ -62,7 +62,6 @@ ended_by s (End by how) t stands = by_caller (same_or_other by t)
     by_caller (inr apart) = inl (sym (stands_other s by t ended apart) ∙ stands)
 
 ended_from : (s : State) (h : List Entry) (t : ℕ) → Stands (state_from s h) t ended → Stands s t ended ⊎ HasEnd t h
-unfolding HasEnd
 ended_from s [] t stands = inl stands
 ended_from s (e ∷ es) t stands = elim (ended_from (changed s e) es t stands) [
   | inl now ↦ elim (ended_by s e t now) [ inl was ↦ inl was | inr at ↦ inr (0, at.0, ap (λ (x : Entry). Some x) at.1) ]
@@ -71,7 +70,7 @@ ended_from s (e ∷ es) t stands = elim (ended_from (changed s e) es t stands) [
 
 has_end : (callers : ℕ) (h : List Entry) (t : ℕ) → Stands (state callers h) t ended → HasEnd t h
 has_end callers h t stands = elim (ended_from (opening callers) h t stands) [
-  | inl was ↦ absurd (let is = all_idle callers t ended was in cc)
+  | inl was ↦ let is = all_idle callers t ended was in absurd cc
   | inr there ↦ there
 ]
 
@@ -79,7 +78,6 @@ has_end callers h t stands = elim (ended_from (opening callers) h t stands) [
 
 pub stuck_stands : (budget : ℕ) {p q : Knowledge Entry} (event : Term) (f : SyncFault) → q.caller < q.lock.callers → IsSyncRefused budget p q event f
     → f ≡ faults.Stuck → HasParkedEvent q ⊎ HasEnded p
-unfolding HasEnd
 stuck_stands budget {p} {q} event f low refused is = by_turn (subst (λ (g : SyncFault). IsSyncRefused budget p q event g) is refused)
   where
     by_standing : Called p q [] → (x : Standing) → Stands (state q.lock.callers q.read) q.caller x → HasStuck (board_of q) → HasParkedEvent q ⊎ HasEnded p

@@ -136,12 +136,16 @@ fn all_synchronise<R: Threads + Wait + Sync>(
             requires here { (a.lock ≡ shared.now) × (b.lock ≡ shared.now) × (c.lock ≡ shared.now) }
             requires idle { (a.has_turn ≡ false) × (b.has_turn ≡ false) × (c.has_turn ≡ false) }
         {
-            let one = scope.spawn(move || -> Result<Outcome, SyncFault>
-                requires { (a.lock ≡ shared.now) × (a.has_turn ≡ false) }
-            { shared.sync(rt, alloc, &mut a, &first, 1_000) });
-            let other = scope.spawn(move || -> Result<Outcome, SyncFault>
-                requires { (b.lock ≡ shared.now) × (b.has_turn ≡ false) }
-            { shared.sync(rt, alloc, &mut b, &second, 1_000) });
+            let one = scope.spawn(
+                move || -> Result<Outcome, SyncFault>
+                    requires { (a.lock ≡ shared.now) × (a.has_turn ≡ false) }
+                { shared.sync(rt, alloc, &mut a, &first, 1_000) },
+            );
+            let other = scope.spawn(
+                move || -> Result<Outcome, SyncFault>
+                    requires { (b.lock ≡ shared.now) × (b.has_turn ≡ false) }
+                { shared.sync(rt, alloc, &mut b, &second, 1_000) },
+            );
             match (one, other) {
                 (Ok(one), Ok(other)) => {
                     let last = shared.sync(rt, alloc, &mut c, &third, 1_000);
