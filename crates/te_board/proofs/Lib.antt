@@ -1,4 +1,3 @@
 pub mod Reserving
 pub mod ParkedLists
 pub mod TakesFollow
-pub mod OneNever

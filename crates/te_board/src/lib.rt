@@ -10,6 +10,3 @@ mod snapshot;
 pub use board::Board;
 pub use fault::BoardFault;
 pub use snapshot::Snapshot;
-
-#[cfg(test)]
-mod tests;

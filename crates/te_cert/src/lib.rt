@@ -15,6 +15,3 @@ pub use checking::{check, check_in};
 pub use laws::{advances_end, checks_accept, checks_are_one, plays_reduce, reductions_play};
 pub use lent::Lent;
 pub use room::Room;
-
-#[cfg(test)]
-mod tests;

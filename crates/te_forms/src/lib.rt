@@ -17,6 +17,3 @@ pub use handing::handed;
 pub use pair::Handed;
 pub use privacy::is_private;
 pub use ring::Ring;
-
-#[cfg(test)]
-mod tests;

@@ -23,6 +23,3 @@ pub use laws::{
     room_goes_by_entries, stuck_boards_wait, tickets_are_given_once,
 };
 pub use status::{How, Phase, Status};
-
-#[cfg(test)]
-mod tests;

@@ -9,8 +9,6 @@ mod sink;
 mod source;
 mod std_ends;
 mod steady;
-#[cfg(test)]
-mod tests;
 mod writing;
 
 pub use fault::{Failed, ReadFault};

@@ -15,6 +15,3 @@ pub use kept::Kept;
 pub use note::Note;
 pub use pass::{Busy, Pass};
 pub use turn::Turn;
-
-#[cfg(test)]
-mod tests;

@@ -6,8 +6,3 @@ mod places;
 mod waiting;
 
 pub use waiting::Waiting;
-
-#[cfg(test)]
-mod checked;
-#[cfg(test)]
-mod tests;

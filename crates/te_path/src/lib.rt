@@ -18,6 +18,3 @@ pub use laws::spots_stay;
 pub use path::PathState;
 pub use posted::Posted;
 pub use spot::{Spot, Stop};
-
-#[cfg(test)]
-mod tests;

@@ -39,9 +39,9 @@ place_some (pos n) d e = by (nat_le n 3) refl e where
   by false f e = absurd cc
 place_some (negsuc n) d e = absurd cc
 
-pub place_read : (d : ℕ) (ts rest : List Token) → read_place ts ≡ Some (d, rest) → spells_integer (pos d) ts rest × (d ≤ 3)
+pub place_is_read : (d : ℕ) (ts rest : List Token) → read_place ts ≡ Some (d, rest) → spells_integer (pos d) ts rest × (d ≤ 3)
 unfolding read_place
-place_read d ts rest e =
+place_is_read d ts rest e =
     let a = bind_some (integer_first ts) _ _ e in
     let b = bind_some (place_read (integer_value a.0.0)) _ _ a.2 in
     let at = place_some (integer_value a.0.0) b.0 b.1 in
@@ -94,7 +94,7 @@ module _ (m : ℕ) (s : Names) (many : length s.channels ≤ m) where
       → IsVariable (scope_of m s) x → sign_first signs.Dot middle ≡ Some behind → read_place behind ≡ Some (d, rest)
       → ReadPrimitive (part x d) ts rest
   part_is x d ts middle behind rest h scoped dot e =
-      let place = place_read d behind rest e in
+      let place = place_is_read d behind rest e in
       record { spelled = (place.1, (middle, h, (behind, sign_is signs.Dot middle behind dot, place.0))); scoped = (scoped, omega (arith, place.1)) }
 
   inner_part_read : (p : Primitive) (ts rest : List Token) → read_inner_part s ts ≡ Some (p, rest) → ReadPrimitive p ts rest

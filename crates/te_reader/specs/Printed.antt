@@ -1,5 +1,5 @@
 -- What printing is handed, as the canonical text sees it. Contracts inside this crate cite it.
-use Rattle.te_reader.specs.declared.printing.Standing.{EventPlace as At}
+use Rattle.te_reader.specs.declared.printing.Standing.{Standing as At}
 use Rattle.te_reader.specs.declared.printing.Standing.TheVariants as places
 use Rattle.te_reader.specs.declared.printing.Names.{Names}
 use Rattle.te_reader.specs.Grammar.{EventPlace, alone, in_do, in_choose}

@@ -31,8 +31,6 @@ mod stack;
 mod statement;
 mod sync;
 mod telling;
-#[cfg(test)]
-mod tests;
 mod thread;
 mod token;
 

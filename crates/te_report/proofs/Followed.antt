@@ -44,19 +44,6 @@ core_back h k (suc t) (x ∷ xs) c is =
     let n : suc k + t ≡ k + suc t = omega arith in
     (rest.0, rest.1, rest.2 ∙ ap (λ (m : ℕ). core_after rest.0 (taken m h)) n)
 
--- what the core of a thread wishes is wished
-pub core_wished : (script : Program) (hist : History) (cores : List At) (by : ℕ) (c : At) (e : Entry) → AreFollowed script hist cores → slice_get cores by ≡ Some c
-    → caller_of e ≡ by → ((outs : List Outcome) → c ≡ core_after c.thread outs → IsWished (wish c.thread outs) e)
-    → WishedBy (slice_get script.threads (caller_of e)) (taken (caller_of e) hist.entries) e
-core_wished script hist cores by c e so_far is caller wished =
-    let back = core_back hist.entries 0 by script.threads c (ap (λ (cs : List At). slice_get cs by) (sym so_far.cores_are) ∙ is) in
-    let at : c ≡ core_after back.0 (taken by hist.entries) = back.2 ∙ ap (λ (m : ℕ). core_after back.0 (taken m hist.entries)) (zero-add by) in
-    let thread : c.thread ≡ back.0 = ap (λ (a : At). a.thread) at in
-    let own : c ≡ core_after c.thread (taken by hist.entries) = at ∙ ap (λ (x : Thread). core_after x (taken by hist.entries)) (sym thread) in
-    let w : IsWished (wish back.0 (taken by hist.entries)) e = subst (λ (x : Thread). IsWished (wish x (taken by hist.entries)) e) thread (wished (taken by hist.entries) own) in
-    subst (λ (t : ℕ). WishedBy (slice_get script.threads t) (taken t hist.entries) e) (sym caller)
-    (subst (λ (o : Option Thread). WishedBy o (taken by hist.entries) e) (sym back.1) w)
-
 -- an entry that needs no wish is wished by each thread
 pub unwished : (o : Option Thread) (x : Thread) (outs : List Outcome) (e : Entry) → o ≡ Some x → IsUnwished e → WishedBy o outs e
 unwished o x outs e is h = subst (λ (p : Option Thread). WishedBy p outs e) (sym is) (of_kind e h)

@@ -19,15 +19,15 @@ pub grows : (so_far : ℕ) (ds : List ℕ) → so_far ≤ decimal_value so_far d
 grows so_far [] = omega arith
 grows so_far (d ∷ ds) = omega (arith, grows (so_far * 10 + (d - 48)) ds)
 
-decimal_value : (n : ℕ) → n < 2 ^ 64 → decimal_value 0 (decimal n) ≡ n
-decimal_value n few = digits_value-decimal own n few
+decimal_told : (n : ℕ) → n < 2 ^ 64 → decimal_value 0 (decimal n) ≡ n
+decimal_told n few = digits_value-decimal own n few
 
 below_is : (bound n : ℕ) → n < bound → below bound n ≡ n
 below_is bound n h = let yes_below : nat_lt n bound ≡ true = grind (arith, nat_tests) in rw yes_below refl
 
 pub number_told : (n : ℕ) → n < 2 ^ 64 → said_number (decimal n) ≡ n
 unfolding said_number
-number_told n few = ap (below (2 ^ 64)) (decimal_value n few) ∙ below_is (2 ^ 64) n few
+number_told n few = ap (below (2 ^ 64)) (decimal_told n few) ∙ below_is (2 ^ 64) n few
 
 pub ticket_told : (n : ℕ) → n < 2 ^ 32 → said_ticket (decimal n) ≡ n
 ticket_told n few = ap (below (2 ^ 32)) (number_told n (omega arith)) ∙ below_is (2 ^ 32) n few
@@ -82,10 +82,10 @@ pub integer_told : (z : ℤ) → fits_i64 z ≡ true → said_integer (signed_de
 integer_told (pos n) h =
     let few : n < 2 ^ 64 = grind (arith, nat_tests, h) in
     let is = (decimal_is_IsNumeral n few).0 in
-    digits_told n (decimal n) is.0 is.1 (decimal_value n few) h
+    digits_told n (decimal n) is.0 is.1 (decimal_told n few) h
 integer_told (negsuc n) h =
     let few : suc n < 2 ^ 64 = grind (arith, nat_tests, h) in
-    minus_told n (decimal (suc n)) (decimal_value (suc n) few) h
+    minus_told n (decimal (suc n)) (decimal_told (suc n) few) h
 
 pub integer_lacks : (c : ℕ) (z : ℤ) → is_word_byte c ≡ false → (45 == c) ≡ false → fits_i64 z ≡ true → lacks c (signed_decimal z) ≡ true
 integer_lacks c (pos n) sign minus h = let few : n < 2 ^ 64 = grind (arith, nat_tests, h) in number_lacks c n sign few

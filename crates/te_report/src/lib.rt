@@ -15,11 +15,7 @@ mod lines;
 mod names;
 mod numbers;
 mod reading;
-#[cfg(test)]
-mod reading_tests;
 mod saying;
-#[cfg(test)]
-mod tests;
 mod values;
 mod values_told;
 mod writing;

@@ -19,11 +19,13 @@ use crate::looking::look;
 use crate::runtime::TeRuntime;
 use crate::waking::members_of;
 use std::alloc::Global;
+use std::thread::Threads;
 use te_board::{Board, BoardFault, Snapshot};
 use te_cert::Cert;
+use te_crew::find_with;
 use te_history::Status;
 use te_lock::{Pass, Turn};
-use te_search::{Found, SearchFault, find};
+use te_search::{Found, SearchFault};
 use te_terms::{Outcome, Parked};
 
 /// Commits the group that was found in the snapshot's list, where its members are still parked so.
@@ -127,13 +129,16 @@ pub(crate) fn act(
 impl TeRuntime {
     /// Tries the turn once, takes a snapshot of the parked events, and gives the turn back. It searches them without the
     /// turn, and tries it once more to do what was found: to commit a group, or to declare the board stuck where no group
-    /// can commit and every caller is parked or has ended, this one parked. It waits for no other caller. Conditions: the
-    /// pass is of this runtime, and hasn't the turn; the budget of the search is 1 to 1,000,000 paths and partial groups.
+    /// can commit and every caller is parked or has ended, this one parked. It waits for no other caller, only for the
+    /// threads of its search, of which there are at most as many as the runtime has workers. Conditions: the pass is of this
+    /// runtime, and hasn't the turn; the budget of the search is 1 to 1,000,000 paths and partial groups.
     ///
     /// The refusals: `Busy` where another caller has the turn, at the first or at the second try; `Stuck` where the board is
-    /// stuck; `Spent` where the search has used up its budget; `Memory`. Nothing is then appended.
-    pub fn drive(
+    /// stuck; `Spent` where the search has used up its budget, which is less than `enough` of the list that is parked at
+    /// `front`; `Memory`. Nothing is then appended.
+    pub fn drive<R: Threads + Sync>(
         &self,
+        rt: &R,
         alloc: Global,
         pass: &mut Pass<Board>,
         budget: u64,
@@ -147,7 +152,7 @@ impl TeRuntime {
         ensures refused { IfErr result (RefusedOnce (RefusesDrive budget) pass.old pass.new) }
     {
         let snapshot = self.look_in(alloc, pass)?;
-        match self.search(alloc, snapshot.parked.as_slice(), budget) {
+        match self.search(rt, alloc, snapshot.parked.as_slice(), budget) {
             Ok(found) => self.act_in(alloc, pass, found, &snapshot),
             Err(SearchFault::Spent { paths, groups }) => Err(SyncFault::Spent {
                 front: snapshot.front,
@@ -158,14 +163,20 @@ impl TeRuntime {
         }
     }
 
-    // Searches a list of parked events.
-    fn search(&self, alloc: Global, parked: &[Parked], budget: u64) -> Result<Found, SearchFault>
+    // Searches a list of parked events, by the runtime's workers.
+    fn search<R: Threads + Sync>(
+        &self,
+        rt: &R,
+        alloc: Global,
+        parked: &[Parked],
+        budget: u64,
+    ) -> Result<Found, SearchFault>
         requires rising { IsGroup (as_group parked.now) }
         requires budget { IsBudget budget }
         ensures found { IfOk result (IsFoundIn parked.now) }
         ensures refused { IfErr result (IsUnfound parked.now budget) }
     {
-        find(alloc, parked, budget)
+        find_with(rt, alloc, parked, budget, self.workers)
     }
 
     // The first turn: it only looks.

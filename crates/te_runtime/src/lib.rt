@@ -20,8 +20,3 @@ mod waking;
 pub use answers::{Driven, Polled};
 pub use fault::SyncFault;
 pub use runtime::TeRuntime;
-
-#[cfg(test)]
-mod tests;
-#[cfg(test)]
-mod waiting_tests;

@@ -2,12 +2,8 @@
 #![tactic(auto)]
 
 mod generator;
-#[cfg(test)]
-mod generator_tests;
 mod limits;
 mod script;
-#[cfg(test)]
-mod tests;
 mod wish;
 
 pub use generator::generate;

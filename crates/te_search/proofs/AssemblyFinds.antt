@@ -206,7 +206,7 @@ past_side side (got s r) h x (inr (inl a)) = past_side side s (λ i j k. h i j (
 past_side side (got s r) h x (inr (inr b)) = past_side side r (λ i j k. h i j (inr (inr k))) x b
 
 -- a meeting in a view_of is in the labels
-view_found : (t i j : ℕ) (w a c : List Label) → view_of t w ≡ a ++ (meeting i j ∷ c) → (u : List Label) × (v : List Label) × (w ≡ u ++ (meeting i j ∷ v))
+pub view_found : (t i j : ℕ) (w a c : List Label) → view_of t w ≡ a ++ (meeting i j ∷ c) → (u : List Label) × (v : List Label) × (w ≡ u ++ (meeting i j ∷ v))
 view_found t i j [] a c e = absurd (no_label i j a c e)
 view_found t i j (l ∷ w) a c e = go (λ a2 f. view_found t i j w a2 c f) (touches t l) a e
   where
@@ -314,7 +314,7 @@ last_of test (z ∷ xs) x h t = go (some_in test xs) (λ y k u. last_of test xs 
     go (inr none) ih (inl e) = record { front = []; start = z; rest = xs; is = refl; passes = subst (λ q. test q ≡ true) e t; none = none }
     go (inr none) ih (inr k) = absurd (none x k t)
 
-has_split : (front rest : List Path) (start x : Path) → Holds (front ++ (start ∷ rest)) x → Holds (front ++ (start ∷ [])) x ⊎ Holds rest x
+pub has_split : (front rest : List Path) (start x : Path) → Holds (front ++ (start ∷ rest)) x → Holds (front ++ (start ∷ [])) x ⊎ Holds rest x
 has_split [] rest start x (inl e) = inl (inl e)
 has_split [] rest start x (inr h) = inr h
 has_split (z ∷ front) rest start x (inl e) = inl (inl e)

@@ -88,7 +88,7 @@ grown_next n f c s x y m =
     ∙ ap (λ k. min k m) (mul_assoc n (3 ^ c * f ^ s) (3 ^ x * f ^ y) ∙ ap (λ k. n * k) (swap (3 ^ c) (f ^ s) (3 ^ x) (f ^ y)
     ∙ ap₂ (λ i j. i * j) (sym (pow-add 3 c x)) (sym (pow-add f s y))))
 
-as_long : (ps : List Parked) → length (as_group ps) ≡ length ps
+pub as_long : (ps : List Parked) → length (as_group ps) ≡ length ps
 as_long [] = refl
 as_long (p ∷ ps) = ap suc (as_long ps)
 

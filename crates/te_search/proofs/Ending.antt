@@ -326,10 +326,9 @@ pub stop_chooses : (w : Work) (p : ℕ) (stop : Stop) → IsStop w.store p stop 
 stop_chooses w p stop h by x m ex st = (let a = h x ex in let one : a.0 ≡ m = (let k : Some a.0 ≡ Some m = sym a.1.state ∙ st in cc) in subst (λ k. IsChoice k.term) one (by a.0.term a.2))
 
 -- a path that does nothing more
-pub dead_done : (old new : Work) (p : ℕ) (x : Path) (stop : Stop) → slice_get old.store.paths p ≡ Some x → IsWorkOn old p → IsStop old.store p stop
-    → ((t : Term) → StandsAt t stop → head t ≡ never) → new ≡ old → IsWork new
-dead_done old new p x stop ex w h by same = subst IsWork (sym same)
-    (work_gained old old p x [] ex w gains w.search.ups (λ l m u st c. absurd (no_choice l m u st c)) meets_not final_not (λ q l n. absurd n) (λ q r n. n))
+pub nothing_more : (old : Work) (p : ℕ) (x : Path) → slice_get old.store.paths p ≡ Some x → IsWorkOn old p
+    → (m : Member) × (path_state old.store.events x ≡ Some m) × (head m.term ≡ never) → IsWork old
+nothing_more old p x ex w st0 = work_gained old old p x [] ex w gains w.search.ups (λ l m u st c. absurd (no_choice l m u st c)) meets_not final_not (λ q l n. absurd n) (λ q r n. n)
   where
     gains : Gains old old []
     gains = record {
@@ -343,9 +342,6 @@ dead_done old new p x stop ex w h by same = subst IsWork (sym same)
       finals = refl;
       groups = refl;
     }
-
-    st0 : (m : Member) × (path_state old.store.events x ≡ Some m) × (head m.term ≡ never)
-    st0 = (let a = h x ex in (a.0, a.1.state, by a.0.term a.2))
 
     alone : Rests st0.0 st0.0.term × ((left : Bool) → after_choice left st0.0.term ≡ None) × (sending st0.0.term ≡ None) × (receiving st0.0.term ≡ None)
     alone = never_is_alone st0.0 st0.0.term st0.2
@@ -370,6 +366,10 @@ dead_done old new p x stop ex w h by same = subst IsWork (sym same)
 
     final_not : ¬ IsFinal old.store.events x
     final_not f = none_at (outcome_of f.member.term) f.outcome (ap (λ z. outcome_of z.term) (sym (the_one f.member f.state)) ∙ alone.0.1) f.ends
+
+pub dead_done : (old new : Work) (p : ℕ) (x : Path) (stop : Stop) → slice_get old.store.paths p ≡ Some x → IsWorkOn old p → IsStop old.store p stop
+    → ((t : Term) → StandsAt t stop → head t ≡ never) → new ≡ old → IsWork new
+dead_done old new p x stop ex w h by same = subst IsWork (sym same) (nothing_more old p x ex w (let a = h x ex in (a.0, a.1.state, by a.0.term a.2)))
 
 -- ---- how much work is left
 

@@ -37,3 +37,13 @@ pub mod NamesAreFew
 pub mod CappedCounts
 pub mod StoresGrow
 pub mod GroupsNamed
+pub mod LeftTogether
+pub mod GoneOn
+pub mod EndsMet
+pub mod PastsToCome
+pub mod PathsEnd
+pub mod BatchesTaken
+pub mod EndsKept
+pub mod LooksStay
+pub mod BatchSteps
+pub mod SearchSeen

@@ -106,11 +106,11 @@ meeting_starts old p x sends others w = record {
 }
 
 -- the receiver's path and the sender's path of a pair
-abbrev sender_of : Bool → Path → Path → Path
+abbrev pub sender_of : Bool → Path → Path → Path
 sender_of true x y = x
 sender_of false x y = y
 
-abbrev receiver_of : Bool → Path → Path → Path
+abbrev pub receiver_of : Bool → Path → Path → Path
 receiver_of true x y = y
 receiver_of false x y = x
 
@@ -186,7 +186,7 @@ pub other_low : (w : Work) (pending : List Path) (channel : ℕ) (sends : Bool) 
 other_low w pending channel sends k j q e = (let t : IsThere w.waiting channel (not sends) q = end_of_other w.waiting channel (not sends) j q e in
     subst (λ n. n < length w.store.paths) t.path (end_low w pending k t.place t.end t.is))
 
-can_meet : (store : Trail) (p q : ℕ) (x y : Path) (a b : Member) → slice_get store.paths p ≡ Some x → slice_get store.paths q ≡ Some y → path_state store.events x ≡ Some a
+pub can_meet : (store : Trail) (p q : ℕ) (x y : Path) (a b : Member) → slice_get store.paths p ≡ Some x → slice_get store.paths q ≡ Some y → path_state store.events x ≡ Some a
     → path_state store.events y ≡ Some b → FaceEachOther a b → Agree x y → (¬ Holds store.paths (sent x y)) → CanMeet store p q
 can_meet store p q x y a b ex ey sa sb face ag un = record {
   stand = λ u v c d eu ev su sv. (let one : x ≡ u = same_got store.paths p x u ex eu in let two : y ≡ v = same_got store.paths q y v ey ev in let s : a ≡ c = same_some
@@ -221,8 +221,8 @@ own_of true P x y a b = a
 own_of false P x y a b = b
 
 -- the two haven't met yet
-still_unmet : (old cur : Work) (p : ℕ) (x y : Path) (sends : Bool) (others : List ℕ) (n q : ℕ) → IsWorkOn old p → slice_get old.store.paths p ≡ Some x
-    → slice_get old.store.paths q ≡ Some y → slice_get others n ≡ Some q → IsDistinct nat_eq others
+pub still_unmet : (old cur : Work) (p : ℕ) (x y : Path) (sends : Bool) (others : List ℕ) (n q : ℕ) → IsWorkOn old p → slice_get old.store.paths p ≡ Some x
+    → slice_get old.store.paths q ≡ Some y → slice_get others n ≡ Some q → ((i j r : ℕ) → slice_get others i ≡ Some r → slice_get others j ≡ Some r → i ≡ j)
     → IsMeeting old cur x sends others n → ¬ Holds cur.store.paths (sent (sender_of sends x y) (receiver_of sends x y))
 still_unmet old cur p x y sends others n q w ex ey en once m h = elim
     (holds_which old.store.paths m.news (sent (sender_of sends x y) (receiver_of sends x y))
@@ -243,7 +243,7 @@ still_unmet old cur p x y sends others n q w ex ey en once m h = elim
     nothing (j, r, v, jn, er, ev, ag, hm) =
         let s : v ≡ y = in_pair sends x y v hm in
         let same : r ≡ q = w.search.store.once r q y (ev ∙ ap Some s) ey in
-        let place : j ≡ n = distinct_places others once j n q (er ∙ ap Some same) en in
+        let place : j ≡ n = once j n q (er ∙ ap Some same) en in
         absurd (omega (arith, place, jn))
 
 pub same_channel : (g : List Member) (y : Path) (c d : ℕ) (s t : Bool) → c ≡ d → s ≡ t → WaitsOn g y c s → WaitsOn g y d t
@@ -263,7 +263,7 @@ meeting_ready old cur p x y channel true n q w ex ey stands en once m ag =
     can_meet cur.store p q x y stands.member other.member (ap (λ k. slice_get k p) m.gains.paths ∙ get-longer old.store.paths m.news p x ex)
     (ap (λ k. slice_get k q) m.gains.paths ∙ get-longer old.store.paths m.news q y ey)
     (ap (λ g. path_state g x) m.gains.events ∙ stands.state) (ap (λ g. path_state g y) m.gains.events ∙ other.state) (face_by old.store.events x y channel stands other) ag
-    (still_unmet old cur p x y true (others_of old channel true) n q w ex ey en once m)
+    (still_unmet old cur p x y true (others_of old channel true) n q w ex ey en (distinct_places (others_of old channel true) once) m)
 meeting_ready old cur p x y channel false n q w ex ey stands en once m ag =
     let other : WaitsOn old.store.events y channel true = other_stands old (pending_of old ++ (path_at old.store.paths p ∷ [])) channel false w n q y en ey in
     let hx : Holds old.store.paths x = held old.store.paths p x ex in
@@ -271,7 +271,8 @@ meeting_ready old cur p x y channel false n q w ex ey stands en once m ag =
     can_meet cur.store q p y x other.member stands.member (ap (λ k. slice_get k q) m.gains.paths ∙ get-longer old.store.paths m.news q y ey)
     (ap (λ k. slice_get k p) m.gains.paths ∙ get-longer old.store.paths m.news p x ex)
     (ap (λ g. path_state g y) m.gains.events ∙ other.state) (ap (λ g. path_state g x) m.gains.events ∙ stands.state) (face_by old.store.events y x channel other stands)
-    (agree_flips x y (w.search.store.sound x hx) (w.search.store.sound y hy) ag) (still_unmet old cur p x y false (others_of old channel false) n q w ex ey en once m)
+    (agree_flips x y (w.search.store.sound x hx) (w.search.store.sound y hy) ag)
+    (still_unmet old cur p x y false (others_of old channel false) n q w ex ey en (distinct_places (others_of old channel false) once) m)
 
 -- ---- what is still there
 

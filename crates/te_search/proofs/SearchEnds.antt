@@ -54,7 +54,7 @@ some_member : (g : List Member) → g ≢ [] → (k : ℕ) × (e : Member) × (m
 some_member [] none = absurd (none refl)
 some_member (m ∷ ms) none = (m.thread, m, ap (λ o. cond o (Some m) (member_of m.thread ms)) (eq-eqb m.thread m.thread refl))
 
-commits : (parked : List Parked) → CanCommit parked → Commits (as_group parked)
+pub commits : (parked : List Parked) → CanCommit parked → Commits (as_group parked)
 commits parked c = (let m : (k : ℕ) × (e : Member) × (member_of k (part c.side (as_group parked)) ≡ Some e) = some_member (part c.side (as_group parked)) c.is_some in record {
   side = c.side;
   actions = c.reduces.actions;
@@ -68,7 +68,7 @@ commits parked c = (let m : (k : ℕ) × (e : Member) × (member_of k (part c.si
 
 -- ---- nothing is left to plant
 
-parked_at : (parked : List Parked) (i t : ℕ) → slice_get (map (λ m. m.thread) (as_group parked)) i ≡ Some t → (p : Parked) × (slice_get parked i ≡ Some p) × (p.thread ≡ t)
+pub parked_at : (parked : List Parked) (i t : ℕ) → slice_get (map (λ m. m.thread) (as_group parked)) i ≡ Some t → (p : Parked) × (slice_get parked i ≡ Some p) × (p.thread ≡ t)
 parked_at [] i t e = cc
 parked_at (p ∷ parked) zero t e = (p, refl, (let one : p.thread ≡ t = cc in one))
 parked_at (p ∷ parked) (suc i) t e = parked_at parked i t e

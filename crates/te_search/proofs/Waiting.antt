@@ -34,13 +34,13 @@ stands_alone : (g : List Member) (x : Path) (channel : ℕ) (sends : Bool) → (
 stands_alone g x channel true s = let a = send_is_alone s.member s.member.term s.stands.0 s.stands.1 in (a.0, a.1)
 stands_alone g x channel false s = let a = receive_is_alone s.member s.member.term channel s.stands in (a.0, a.1)
 
-waits_choose : (g : List Member) (x : Path) (channel : ℕ) (sends : Bool) → WaitsOn g x channel sends → (l : Bool) (m u : Member) → path_state g x ≡ Some m → chosen l m ≡ Some u → ⊥
+pub waits_choose : (g : List Member) (x : Path) (channel : ℕ) (sends : Bool) → WaitsOn g x channel sends → (l : Bool) (m u : Member) → path_state g x ≡ Some m → chosen l m ≡ Some u → ⊥
 waits_choose g x channel sends s l m u st c =
     let a : (t : Term) × (after_choice l m.term ≡ Some t) × (at_term m t ≡ u) = some_map (at_term m) (after_choice l m.term) u c in
     let one : s.member ≡ m = one_state (path_state g x) s.member m s.state st in
     never_both (after_choice l m.term) a.0 (ap (λ k. after_choice l k.term) (sym one) ∙ (stands_alone g x channel sends s).1 l) a.1
 
-waits_end : (g : List Member) (x : Path) (channel : ℕ) (sends : Bool) → WaitsOn g x channel sends → ¬ IsFinal g x
+pub waits_end : (g : List Member) (x : Path) (channel : ℕ) (sends : Bool) → WaitsOn g x channel sends → ¬ IsFinal g x
 waits_end g x channel sends s f =
     let one : s.member ≡ f.member = one_state (path_state g x) s.member f.member s.state f.state in
     never_both (outcome_of f.member.term) f.outcome (ap (λ k. outcome_of k.term) (sym one) ∙ (stands_alone g x channel sends s).0.1) f.ends
@@ -90,7 +90,7 @@ pair_is false x y q r (inl e) = inr ((let a : q ≡ y = cc in a), (let b : r ≡
 pair_is false x y q r (inr (inl e)) = cc
 pair_is false x y q r (inr (inr n)) = absurd n
 
-end_of : (ends : List End) (i n : ℕ) → slice_get (paths_kept ends) i ≡ Some n → (e : End) × (slice_get ends i ≡ Some e) × (e.path ≡ n)
+pub end_of : (ends : List End) (i n : ℕ) → slice_get (paths_kept ends) i ≡ Some n → (e : End) × (slice_get ends i ≡ Some e) × (e.path ≡ n)
 end_of [] i n e = cc
 end_of (d ∷ ends) zero n e = (d, refl, cc)
 end_of (d ∷ ends) (suc i) n e = end_of ends i n e

@@ -8,3 +8,5 @@ pub mod Plantings
 pub mod Stacks
 pub mod Picks
 pub mod Bounds
+pub mod Batches
+pub mod Batching

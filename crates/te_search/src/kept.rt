@@ -1,6 +1,6 @@
 // A search that is kept while its list changes.
 
-ghost use Rattle.std.specs.Prelude.{◌≡◌, ◌≢◌, ◌<◌, ◌≤◌, ℕ, List, length, [], Ok, Err, OnOk, OnErr, IfOk, Some, take, false};
+ghost use Rattle.std.specs.Prelude.{◌≡◌, ◌≢◌, ◌<◌, ◌≤◌, ℕ, List, length, [], Ok, Err, OnOk, OnErr, IfOk, IsTrue, ◌↔◌, Some, take, false};
 ghost use Rattle.te_terms.specs.declared.event.Outcome.{Outcome};
 ghost use Rattle.te_terms.specs.Joint.{IsGroup, as_group, CanCommit};
 ghost use Rattle.te_terms.specs.Limits.{most_threads};
@@ -48,8 +48,8 @@ fn stack_of(alloc: Global, parked: ParkedList) -> Result<Stack, NoMemory>
     })
 }
 
-// The same events once more.
-fn copies_of(alloc: Global, parked: &[Parked]) -> Result<ParkedList, NoMemory>
+/// The same events once more.
+pub(crate) fn copies_of(alloc: Global, parked: &[Parked]) -> Result<ParkedList, NoMemory>
     ensures { IfOk result (λ copies. copies ≡ parked.now) }
 {
     let mut copies = ParkedList::new(alloc);
@@ -249,6 +249,32 @@ impl KeptSearch {
                 Err(fault) => Err(fault),
             },
             None => Ok(KeptFound::Blocked),
+        }
+    }
+
+    /// Whether a thread has an event. It is public for tests alone.
+    #[doc(hidden)]
+    pub fn has_thread(&self, thread: u32) -> bool
+        ensures { IsTrue result ↔ HasThread self.now thread }
+    {
+        match &self.stack {
+            Some(stack) => match stack.parked.place(thread) {
+                Some(_) => true,
+                None => false,
+            },
+            None => false,
+        }
+    }
+
+    /// The parked events once more, which are shared. It is public for tests alone. The one refusal is want of memory.
+    #[doc(hidden)]
+    pub fn listed(&self, alloc: Global) -> Result<Vec<Parked>, NoMemory>
+        ensures same { IfOk result (λ parked. parked.items ≡ self.now) }
+        ensures rising { IfOk result (λ parked. IsGroup (as_group parked.items)) }
+    {
+        match &self.stack {
+            Some(stack) => stack.parked.copies(alloc),
+            None => Ok(Vec::new(alloc)),
         }
     }
 }

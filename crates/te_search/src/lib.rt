@@ -2,6 +2,8 @@
 #![tactic(auto)]
 
 mod assembly;
+mod batched;
+mod batches;
 mod bound;
 mod certifying;
 mod finals;
@@ -12,9 +14,8 @@ mod planted;
 mod stack;
 mod work;
 
+pub use batched::Look;
+pub use batches::Search;
 pub use bound::{enough, names_are_few};
 pub use finding::{Found, SearchFault};
 pub use kept::{KeptFound, KeptSearch, find};
-
-#[cfg(test)]
-mod tests;

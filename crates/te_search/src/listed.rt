@@ -1,6 +1,6 @@
 // Parked events in a list that is cheap to change.
 
-ghost use Rattle.std.specs.Prelude.{◌≡◌, ◌≤◌, ◌<◌, [], length, Some, slice_get, MatchOption, OnOk, OnErr};
+ghost use Rattle.std.specs.Prelude.{◌≡◌, ◌≤◌, ◌<◌, [], length, Some, slice_get, MatchOption, IfOk, OnOk, OnErr};
 ghost use Rattle.std.specs.List.{insert, remove};
 ghost use Rattle.te_search.specs.Findings.{HasThread};
 ghost use Rattle.te_search.specs.Stacks.{IsPlaceFor, IsPlaceWith};
@@ -52,6 +52,23 @@ impl ParkedList {
         ensures { slice_get self.now i ≡ Some result.now }
     {
         self.blocks[i].as_ref()
+    }
+
+    /// The same events once more, which are shared.
+    pub(crate) fn copies(&self, alloc: Global) -> Result<Vec<Parked>, NoMemory>
+        ensures { IfOk result (λ parked. parked.items ≡ self.now) }
+    {
+        let mut parked = Vec::new(alloc);
+        'parked: for i in 0..self.len() {
+            let one = self.at(i);
+            let event = one.event.copy()?;
+            parked.push(Parked {
+                thread: one.thread,
+                ticket: one.ticket,
+                event,
+            })?;
+        }
+        Ok(parked)
     }
 
     /// The place that a new thread is to have.

@@ -39,8 +39,8 @@ impl Work {
         budget - (self.store.len() as u64 + self.groups)
     }
 
-    // Makes one branch of a path, the left part for `true`.
-    fn branch_one(&mut self, p: u32, left: bool, budget: u64) -> Result<(), Refused>
+    /// Makes one branch of a path, the left part for `true`.
+    pub(crate) fn branch_one(&mut self, p: u32, left: bool, budget: u64) -> Result<(), Refused>
         requires within { IsWithinBudget self.old budget }
         requires few { budget ≤ 1000000 }
         requires path { p < length self.old.store.paths }
@@ -128,8 +128,14 @@ impl Work {
         Ok(())
     }
 
-    // Makes both paths of a meeting of the path in hand, which sends or receives, and a kept end.
-    fn meet_with(&mut self, p: u32, q: u32, sends: bool, budget: u64) -> Result<(), Refused>
+    /// Makes both paths of a meeting of the path in hand, which sends or receives, and a kept end.
+    pub(crate) fn meet_with(
+        &mut self,
+        p: u32,
+        q: u32,
+        sends: bool,
+        budget: u64,
+    ) -> Result<(), Refused>
         requires within { IsWithinBudget self.old budget }
         requires few { budget ≤ 1000000 }
         requires own { p < length self.old.store.paths }

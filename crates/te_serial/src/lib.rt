@@ -14,6 +14,3 @@ mod taking;
 pub use fault::FinishFault;
 pub use finishing::finish;
 pub use fresh::{fresh_channels_are_different, fresh_channels_are_made_by_commits};
-
-#[cfg(test)]
-mod tests;

@@ -31,6 +31,3 @@ pub use memory::NoMemory;
 pub use name::Name;
 pub use rows::Rows;
 pub use value::{Atom, Trap, Value};
-
-#[cfg(test)]
-mod tests;

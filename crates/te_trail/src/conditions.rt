@@ -1,4 +1,5 @@
-// Whether the conditions hold under which paths are made. Each of these calls looks at every path, or at every event.
+// Whether the conditions hold under which paths are made and taken away. Some of these calls look at every path, or at
+// every event.
 
 ghost use Rattle.std.specs.Prelude.{◌≡◌, ◌↔◌, ◌<◌, length, false, None, IsTrue};
 ghost use Rattle.te_terms.specs.Joint.{member_of};
@@ -15,6 +16,14 @@ impl TrailStore {
         ensures { IsTrue result ↔ (i < length self.now.events) }
     {
         (i as usize) < self.events.len()
+    }
+
+    /// Whether there is mark `i`. It is public for tests of the crates above alone.
+    #[doc(hidden)]
+    pub fn has_mark(&self, i: usize) -> bool
+        ensures { IsTrue result ↔ (i < length self.now.marks) }
+    {
+        i < self.marks.len()
     }
 
     fn count_events(&self) -> usize

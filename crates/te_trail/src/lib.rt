@@ -14,8 +14,3 @@ mod trailing;
 pub use laws::{clocks_name_the_deepest, pasts_are_chains, paths_have_names};
 pub use moves::Move;
 pub use store::TrailStore;
-
-#[cfg(test)]
-mod checked;
-#[cfg(test)]
-mod tests;

@@ -1,6 +1,7 @@
 mod modes;
 mod printing;
 mod reading;
+mod refusals;
 mod wishing;
 
 use crate::program::tevents;

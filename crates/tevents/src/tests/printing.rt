@@ -29,6 +29,10 @@ const TEXTS: &[(&[u8], &[u8])] = &[
         b"thread a {\n  repeat 2 {\n    x <- sync never;\n    x <- sync fresh;\n  }\n  repeat 10000 {\n    x <- sync never;\n  }\n  emit x;\n}\n",
     ),
     (b"thread a { } # nothing", b"thread a {\n}\n"),
+    (
+        b"thread a { x<-sync never; repeat 02 { x <- sync fresh; y <- sync always x; }emit(y.0); }",
+        b"thread a {\n  x <- sync never;\n  repeat 2 {\n    x <- sync fresh;\n    y <- sync always x;\n  }\n  emit (y.0);\n}\n",
+    ),
 ];
 
 #[test]
@@ -46,6 +50,23 @@ fn scripts_print_as_their_canonical_texts(rt: HostRuntime) -> Result<(), Fail> {
         };
         assert_eq!(rt; print_script(rt.alloc(), &again)?.as_slice(), *canonical);
     }
+    Ok(())
+}
+
+// A code has at most 16 fresh channels.
+#[test]
+fn a_thread_may_have_more_events_than_a_code_holds(rt: HostRuntime) -> Result<(), Fail> {
+    let mut text = Vec::from_slice(rt.alloc(), b"thread a {\n")?;
+    for _ in 0..40 {
+        text.extend_from_slice(b"  x <- sync choose { fresh | fresh | fresh };\n")?;
+    }
+    text.extend_from_slice(b"}\n")?;
+    let Ok(script) = read_script(rt.alloc(), text.as_slice()) else {
+        assert!(rt; false, "a text is refused");
+        return Ok(());
+    };
+    let printed = print_script(rt.alloc(), &script)?;
+    assert_eq!(rt; printed.as_slice(), text.as_slice());
     Ok(())
 }
 

@@ -401,6 +401,7 @@ fn each_fault_stands_at_its_place(rt: HostRuntime) {
         ),
         (b"thread a { emit x; }", ScriptFault::Unbound(at(1, 17))),
         (b"channels c c;", ScriptFault::Twice(at(1, 12))),
+        (b"channels c\n c;", ScriptFault::Twice(at(2, 2))),
         (
             b"channels c; thread a { c <- sync never; }",
             ScriptFault::Shadow(at(1, 24)),

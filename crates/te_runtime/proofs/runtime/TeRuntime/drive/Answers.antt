@@ -13,12 +13,12 @@ use Rattle.te_runtime.proofs.DriveAnswers.{is_driven}
 use Rattle.te_runtime.proofs.runtime.TeRuntime.drive.Goals as goal
 
 pub search-requires-clause-rising : goal.search-requires-clause-rising
-search-requires-clause-rising c =
+search-requires-clause-rising g c lives outlives =
     let seen = c.in_ok-snapshot.ensures.seen in
     subst (λ (l : List Parked). IsGroup (as_group l)) (sym (c.as_slice.ensures ∙ seen.parked)) (parked_group (state_of (board_of c.look_in.new.pass)))
 
 pub returns-in-Ok-clause-ok : goal.returns-in-Ok-clause-ok
-returns-in-Ok-clause-ok c =
+returns-in-Ok-clause-ok g c =
     let between = c.look_in.new.pass in
     let after = c.act_in.new.pass in
     IfOk-weaker
@@ -29,7 +29,7 @@ returns-in-Ok-clause-ok c =
     c.act_in.ensures.ok
 
 pub returns-in-Ok-clause-refused : goal.returns-in-Ok-clause-refused
-returns-in-Ok-clause-refused c =
+returns-in-Ok-clause-refused g c =
     let before = c.args.pass.now in
     let between = c.look_in.new.pass in
     let after = c.act_in.new.pass in

@@ -1,0 +1,2 @@
+pub mod PathsMore
+pub mod OthersMet

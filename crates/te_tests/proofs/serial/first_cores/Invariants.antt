@@ -1,0 +1,5 @@
+use Rattle.te_serial.specs.Houses.{AreFresh}
+use Rattle.te_tests.proofs.serial.first_cores.Given as goal
+
+abbrev pub invariant-loop-text : goal.invariant-loop-text
+invariant-loop-text l = AreFresh l.cores
