@@ -57,7 +57,7 @@ called_as {p} {q} is c = record {
 unfoldable pub between_plain : {p q : Knowledge Entry} (last : List Entry) → Called p q last → CommitsBetween p q [] last
 between_plain last c = record { commits = []; tight = tt; called = c }
 
-seam : (first some more last : List Entry) → ((first ++ some) ++ []) ++ (more ++ last) ≡ (first ++ (some ++ more)) ++ last
+pub seam : (first some more last : List Entry) → ((first ++ some) ++ []) ++ (more ++ last) ≡ (first ++ (some ++ more)) ++ last
 seam first some more last =
     ap (λ (l : List Entry). l ++ (more ++ last)) (append-nil (first ++ some)) ∙ sym (append_assoc (first ++ some) more last)
     ∙ ap (λ (l : List Entry). l ++ last) (append_assoc first some more)

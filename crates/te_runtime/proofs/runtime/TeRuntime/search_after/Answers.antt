@@ -1,4 +1,4 @@
-use Rattle.std.proofs.Common.{◌≡◌, sym, ◌∙◌, subst, List}
+use Rattle.std.proofs.Common.{◌≡◌, [], sym, ◌∙◌, subst, List}
 use Rattle.te_terms.specs.declared.event.Parked.{Parked}
 use Rattle.te_terms.specs.Joint.{IsGroup, as_group}
 use Rattle.te_board.specs.Boards.{state_of}
