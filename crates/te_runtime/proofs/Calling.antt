@@ -4,7 +4,7 @@ use Rattle.std.proofs.lemmas.List.{append-nil, take_at}
 use Rattle.std.proofs.lemmas.List.Elements.{All-cons, All-nil, All-weaker, All-contains, Contains-append_right}
 use mathlib.Core.List.{IsPrefix}
 use Rattle.te_lock.specs.Entries.{entries_by}
-use Rattle.te_lock.specs.Lock.{Knowledge}
+use Rattle.te_lock.specs.Lock.{Knowledge, WaitsFor}
 use Rattle.te_lock.proofs.Beginnings.{prefix_longer, prefix_length, all_by, entries_by-append}
 use Rattle.te_history.specs.declared.entry.Entry.{Entry}
 use Rattle.te_history.specs.Follows.{caller_of}
@@ -30,6 +30,22 @@ looked_once before after read grew most = record {
   reaches = reached (length read) before after [] (2 * length read) grew most;
   free = (before, 2 * length read, grew, omega arith);
 }
+
+-- a wait: the first of the words that it added, of which the last found the turn free
+pub looked_waiting : (before after : List ℕ) (read : List Entry) → WaitsFor (2 * length read) before after → All (λ word. word / 2 ≤ length read) after
+    → Looked before after read
+looked_waiting before after read ([], odd, is) most =
+    let grew : after ≡ before ++ (2 * length read) ∷ [] = is ∙ ap (λ (l : List ℕ). l ++ (2 * length read) ∷ []) (append-nil before) in
+    looked_once before after read grew most
+looked_waiting before after read (w ∷ ws, odd, is) most =
+    let grew : after ≡ before ++ w ∷ (ws ++ (2 * length read) ∷ []) = is ∙ append_assoc before (w ∷ ws) ((2 * length read) ∷ []) in
+    record {
+      first = w;
+      others = ws ++ (2 * length read) ∷ [];
+      grew = grew;
+      reaches = reached (length read) before after (ws ++ (2 * length read) ∷ []) w grew most;
+      free = (before ++ w ∷ ws, 2 * length read, is, omega arith);
+    }
 
 -- ---- what was appended
 

@@ -3,3 +3,9 @@ pub mod Refusing
 pub mod PollAnswers
 pub mod DriveAnswers
 pub mod ParkedLists
+pub mod OwnEntries
+pub mod TicketsHeld
+pub mod TurnsOfSync
+pub mod RoundsOfSync
+pub mod StuckCallers
+pub mod EndsRefused

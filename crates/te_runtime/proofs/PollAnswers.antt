@@ -46,7 +46,7 @@ is_polled {p} {q} {r} {b} after by (polled.Waiting front) e polls l is =
 -- ---- who waits is told so
 
 -- what was put into a list is there
-set_there : {X : Type 0} (xs : List X) (i : ℕ) (v x : X) → slice_get (slice_set xs i v) i ≡ Some x → x ≡ v
+pub set_there : {X : Type 0} (xs : List X) (i : ℕ) (v x : X) → slice_get (slice_set xs i v) i ≡ Some x → x ≡ v
 set_there [] i v x is = absurd cc
 set_there (y ∷ ys) zero v x is = cc
 set_there (y ∷ ys) (suc i) v x is = set_there ys i v x is

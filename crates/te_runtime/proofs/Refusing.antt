@@ -16,7 +16,7 @@ use Rattle.te_board.specs.declared.fault.BoardFault.TheVariants as board
 use Rattle.te_runtime.specs.declared.fault.SyncFault.{SyncFault}
 use Rattle.te_runtime.specs.declared.fault.SyncFault.TheVariants as faults
 use Rattle.te_runtime.specs.Refusals.{HasNothing, RefusesTurn, RefusesDrive}
-use Rattle.te_runtime.specs.Calls.{Called, IsBusy, Refused, RefusedOnce, board_of}
+use Rattle.te_runtime.specs.Calls.{Called, IsBusy, Refused, RefusedAfterWait, RefusedOnce, board_of}
 use Rattle.te_runtime.specs.Turns.{Entered, Left}
 use Rattle.te_runtime.proofs.Calling.{called_same, called_then, board_same}
 use Rattle.te_history.proofs.RefusalsAreOne.{statuses_are_one}
@@ -61,17 +61,26 @@ busy_refused refuses p q _ held = absurd held
 abbrev pub IsNoTurn : (BoardLog → ℕ → SyncFault → Type 0) → Type 0
 IsNoTurn refuses = (b : BoardLog) (by word : ℕ) → refuses b by (faults.Busy word) → ⊥
 
+-- what was refused on the board of the turn is so of what was read
+pub refused_wait : (refuses : BoardLog → ℕ → SyncFault → Type 0) → {p q r : Knowledge Entry} {b after : BoardLog} (by : ℕ) (f : SyncFault) → Entered p q b
+    → after ≡ b → Left q r after.entries → by ≡ p.caller → refuses b by f → RefusedAfterWait refuses p r f
+refused_wait refuses {p} {q} {r} {b} by f e same l is cause =
+    let at : by ≡ r.caller = is ∙ sym e.same.1 ∙ sym l.same.1 in (
+      called_same e same l,
+      subst (λ (x : BoardLog). refuses x r.caller f) (sym (board_same e same l)) (subst (λ (k : ℕ). refuses b k f) at cause),
+    )
+
+pub refused_after_wait : {A : Type 0} (refuses : BoardLog → ℕ → SyncFault → Type 0) (answer : Result A SyncFault) → {p q r : Knowledge Entry} {b : BoardLog}
+    (after : BoardLog) (by : ℕ) → Entered p q b → Left q r after.entries → by ≡ p.caller → OnErr answer (after ≡ b) → IfErr answer (refuses b by)
+    → IfErr answer (RefusedAfterWait refuses p r)
+refused_after_wait refuses (Ok x) after by e l is same cause = tt
+refused_after_wait refuses (Err f) after by e l is same cause = refused_wait refuses by f e same l is cause
+
 pub refused : (refuses : BoardLog → ℕ → SyncFault → Type 0) → IsNoTurn refuses
     → {p q r : Knowledge Entry} {b after : BoardLog} (by : ℕ) (f : SyncFault) → Entered p q b → after ≡ b
     → Left q r after.entries → by ≡ p.caller → refuses b by f → Refused refuses p r f
-refused refuses other {p} {q} {r} {b} {after} by f e same l is cause = either f (called_same e same l) shown
+refused refuses other {p} {q} {r} {b} {after} by f e same l is cause = let shown = refused_wait refuses by f e same l is cause in either f shown.0 shown.1
   where
-    at : by ≡ r.caller
-    at = is ∙ sym e.same.1 ∙ sym l.same.1
-
-    shown : refuses (board_of r) r.caller f
-    shown = subst (λ (x : BoardLog). refuses x r.caller f) (sym (board_same e same l)) (subst (λ (k : ℕ). refuses b k f) at cause)
-
     either : (g : SyncFault) → Called p r [] → refuses (board_of r) r.caller g → Refused refuses p r g
     either (faults.Other status) c s = (c, s)
     either faults.Stuck c s = (c, s)

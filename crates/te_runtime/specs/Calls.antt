@@ -72,3 +72,7 @@ FoundHeldOnce before after word = FoundHeld before after word ⊎ ((between : Kn
 abbrev pub RefusedOnce : (BoardLog → SyncFault → Type 0) → Knowledge Entry → Knowledge Entry → SyncFault → Type 0
 RefusedOnce refuses before after (faults.Busy word) = FoundHeldOnce before after word
 RefusedOnce refuses before after fault = Called before after [] × refuses (board_of after) fault
+
+-- a refusal of a call that waits for its turn: what was read shows the cause, and nothing was appended
+abbrev pub RefusedAfterWait : (BoardLog → ℕ → SyncFault → Type 0) → Knowledge Entry → Knowledge Entry → SyncFault → Type 0
+RefusedAfterWait refuses before after fault = Called before after [] × refuses (board_of after) after.caller fault

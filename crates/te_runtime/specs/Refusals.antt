@@ -1,6 +1,8 @@
 -- Why a runtime refuses a call, as the history that was read shows it: the first cause that holds. This project's own.
 use Rattle.std.specs.Prelude.{◌≡◌, ◌≢◌, ℕ, false, Some, slice_get, length}
 use Rattle.te_history.specs.declared.entry.Entry.TheVariants as entries
+use Rattle.te_history.specs.declared.status.How.{How}
+use Rattle.te_history.specs.declared.status.How.TheVariants as ways
 use Rattle.te_history.specs.declared.status.Status.{Status}
 use Rattle.te_history.specs.declared.status.Status.TheVariants as statuses
 use Rattle.te_history.specs.State.{parked_list}
@@ -59,3 +61,16 @@ RefusesTurn b _ = ⊥
 abbrev pub RefusesDrive : ℕ → BoardLog → SyncFault → Type 0
 RefusesDrive budget b (faults.Spent front paths groups) = (front ≡ length b.entries) × IsUsedUp (parked_list (state_of b)) budget paths groups
 RefusesDrive budget b fault = RefusesTurn b fault
+
+-- an end as stuck needs a parked caller, on a stuck board; every other end an idle one, on a running board
+abbrev pub RefusesEnding : How → BoardLog → ℕ → SyncFault → Type 0
+RefusesEnding ways.Stuck b by (faults.Other status) = HasStuck b × HasStatus (state_of b) by status × IsNotParked status
+RefusesEnding ways.Stuck b by _ = ⊥
+RefusesEnding how b by faults.Stuck = HasStuck b
+RefusesEnding how b by (faults.Other status) = CallerStandsAs b by status × (status ≢ statuses.Idle)
+RefusesEnding how b by _ = ⊥
+
+abbrev pub RefusesResting : BoardLog → SyncFault → Type 0
+RefusesResting b faults.Stuck = HasStuck b
+RefusesResting b faults.Resting = IsRunning (state_of b) × HasRest b
+RefusesResting b _ = ⊥

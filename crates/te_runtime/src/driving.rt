@@ -17,6 +17,7 @@ use crate::comparing::are_same;
 use crate::fault::SyncFault;
 use crate::looking::look;
 use crate::runtime::TeRuntime;
+use crate::waking::members_of;
 use std::alloc::Global;
 use std::thread::Threads;
 use te_board::{Board, BoardFault, Snapshot};
@@ -105,7 +106,7 @@ fn declare(
 }
 
 /// Does what was found in the snapshot's list.
-fn act(
+pub(crate) fn act(
     alloc: Global,
     board: &mut Board,
     by: u32,
@@ -209,8 +210,10 @@ impl TeRuntime {
     {
         let by = Turn::caller(pass);
         let mut board = self.enter(pass)?;
+        let members = members_of(&found);
         let driven = act(alloc, &mut board, by, found, snapshot);
         self.exit(pass, board);
+        self.wake_after(by, &driven, &members);
         driven
     }
 }

@@ -4,13 +4,18 @@
 mod answers;
 mod comparing;
 mod driving;
+mod ending;
 mod fault;
 mod looking;
 mod offering;
+mod parting;
 mod polling;
 mod recalling;
+mod resting;
 mod runtime;
+mod syncing;
 mod turns;
+mod waking;
 
 pub use answers::{Driven, Polled};
 pub use fault::SyncFault;

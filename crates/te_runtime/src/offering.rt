@@ -66,6 +66,7 @@ impl TeRuntime {
         let mut board = self.enter(pass)?;
         let answer = post(&mut board, by, event);
         self.exit(pass, board);
+        self.wake_others(by);
         answer
     }
 }

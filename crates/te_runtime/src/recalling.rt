@@ -54,6 +54,7 @@ impl TeRuntime {
         let mut board = self.enter(pass)?;
         let answer = withdraw(&mut board, by);
         self.exit(pass, board);
+        self.wake_others(by);
         answer
     }
 }

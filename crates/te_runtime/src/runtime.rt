@@ -6,8 +6,10 @@ ghost use Rattle.te_lock.specs.Lock.{new_passes};
 ghost use Rattle.te_history.specs.Follows.{caller_of};
 ghost use Rattle.te_board.specs.Boards.{IsLawful};
 
+use crate::waking::parkers_for;
 use std::alloc::Global;
 use std::marker::Model;
+use std::thread::Parker;
 use te_board::Board;
 use te_lock::{Pass, Turn};
 use te_terms::NoMemory;
@@ -18,17 +20,18 @@ use te_terms::NoMemory;
 pub struct TeRuntime {
     pub(crate) lock: Turn<Board>,
     pub(crate) workers: u32,
+    pub(crate) parkers: Vec<Parker>,
 }
 
 impl Model for TeRuntime {
-    ghost use Rattle.std.specs.Prelude.{◌≤◌};
+    ghost use Rattle.std.specs.Prelude.{◌≡◌, ◌≤◌, length};
     ghost use Rattle.te_lock.specs.Lock.{Lock};
 
     ghost Value = { Lock };
 
     ghost view = { λ r. r.lock };
 
-    ghost invariant = { λ r. (1 ≤ r.workers) × (r.workers ≤ 16) };
+    ghost invariant = { λ r. (1 ≤ r.workers) × (r.workers ≤ 16) × (length r.parkers.items ≡ r.lock.callers) };
 }
 
 impl TeRuntime {
@@ -45,9 +48,17 @@ impl TeRuntime {
         ensures callers { IfOk result (λ made. made.0.callers ≡ callers) }
         ensures passes { IfOk result (λ made. made.1.items ≡ new_passes made.0 callers) }
     {
+        let parkers = parkers_for(alloc, callers)?;
         let board = Board::new(alloc, callers)?;
         let (lock, passes) = Turn::new(alloc, board, callers)?;
-        Ok((TeRuntime { lock, workers }, passes))
+        Ok((
+            TeRuntime {
+                lock,
+                workers,
+                parkers,
+            },
+            passes,
+        ))
     }
 
     /// Ends the runtime, with all its passes, of which none has the turn, and gives its board.
@@ -65,7 +76,11 @@ impl TeRuntime {
         ensures reaches { All (λ p. p.front ≤ length result.entries) passes.items }
         ensures own { All (λ p. entries_by caller_of p.caller result.entries ≡ p.own) passes.items }
     {
-        let TeRuntime { lock, workers: _ } = self;
+        let TeRuntime {
+            lock,
+            workers: _,
+            parkers: _,
+        } = self;
         lock.close(passes)
     }
 }

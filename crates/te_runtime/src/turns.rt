@@ -6,6 +6,7 @@ ghost use Rattle.te_runtime.specs.Turns.{Entered, TurnGoesOn, Left};
 
 use crate::fault::SyncFault;
 use crate::runtime::TeRuntime;
+use std::sync::Wait;
 use te_board::Board;
 use te_lock::{Kept, Pass, Turn};
 
@@ -23,6 +24,15 @@ impl TeRuntime {
             Ok(board) => Ok(board),
             Err(busy) => Err(SyncFault::Busy { word: busy.word }),
         }
+    }
+
+    /// Waits for the turn.
+    pub(crate) fn wait_in<R: Wait>(&self, rt: &R, pass: &mut Pass<Board>) -> Board
+        requires here { pass.old.lock ≡ self.now }
+        requires idle { pass.old.has_turn ≡ false }
+        ensures { Entered pass.old pass.new result }
+    {
+        self.lock.turn(rt, pass)
     }
 
     /// Gives the turn back, with a board that has entries of this caller more.

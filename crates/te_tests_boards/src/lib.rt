@@ -15,3 +15,5 @@ mod report;
 mod runtime;
 #[cfg(test)]
 mod serial;
+#[cfg(test)]
+mod waiting;

@@ -16,7 +16,7 @@ fn seven() -> Value {
     Value::of(&[Atom::Int(7)]).unwrap_or_default()
 }
 
-fn event(alloc: Global, node: Node) -> Result<Event, Fail> {
+pub(crate) fn event(alloc: Global, node: Node) -> Result<Event, Fail> {
     let mut code = EventCode::new(alloc);
     let root = code.push(node).ok().ok_or("a node")?;
     let code = Arc::new(alloc, code)?;
@@ -34,12 +34,12 @@ fn receives(alloc: Global) -> Result<Event, Fail> {
     event(alloc, Node::Recv(Prim::Chan(0)))
 }
 
-fn nevers(alloc: Global) -> Result<Event, Fail> {
+pub(crate) fn nevers(alloc: Global) -> Result<Event, Fail> {
     event(alloc, Node::Never)
 }
 
 // A runtime of one caller, with its pass.
-fn one(alloc: Global) -> Result<(TeRuntime, Pass<Board>), Fail>
+pub(crate) fn one(alloc: Global) -> Result<(TeRuntime, Pass<Board>), Fail>
     ensures here { IfOk result (λ made. made.1.lock ≡ made.0) }
     ensures idle { IfOk result (λ made. made.1.has_turn ≡ false) }
 {
