@@ -1,7 +1,7 @@
-ghost use Rattle.std.specs.Prelude.{◌≡◌, IsTrue};
+ghost use Rattle.std.specs.Prelude.{◌≡◌};
 ghost use Rattle.te_forms.specs.Commits.{is_commit};
-ghost use Rattle.te_terms.specs.Joint.{RiseFrom, IsGroup, as_group};
 
+use crate::grouping::group;
 use std::alloc::Global;
 use std::sync::Arc;
 use std::test::Fail;
@@ -9,10 +9,7 @@ use te_board::Board;
 use te_cert::{Cert, Meeting, Member};
 use te_forms::*;
 use te_history::{Entry, Hist, Status};
-use te_search::{Found, find};
-use te_terms::{
-    Atom, Calc, Calcs, Event, EventCode, Expr, Node, Outcome, Parked, Prim, Rows, Test, Value,
-};
+use te_terms::{Atom, Calc, Calcs, Event, EventCode, Expr, Node, Outcome, Prim, Rows, Test, Value};
 
 fn number(z: i64) -> Value {
     Value::of(&[Atom::Int(z)]).unwrap_or_default()
@@ -101,38 +98,6 @@ fn commit(alloc: Global, board: &mut Board, cert: Cert) -> Result<(), Fail> {
     match board.commit(alloc, 0, cert) {
         Ok(()) => Ok(()),
         Err(_) => Err("a commit".into()),
-    }
-}
-
-fn rise_from(low: u32, parked: &[Parked]) -> bool
-    ensures { IsTrue result → RiseFrom low (as_group parked.now) }
-{
-    match parked {
-        [] => true,
-        [first, rest @ ..] => low < first.thread && rise_from(first.thread, rest),
-    }
-}
-
-fn rise(parked: &[Parked]) -> bool
-    ensures { IsTrue result → IsGroup (as_group parked.now) }
-{
-    match parked {
-        [] => true,
-        [first, rest @ ..] => rise_from(first.thread, rest),
-    }
-}
-
-// The group that is found among the parked events, where there is one.
-fn group(alloc: Global, board: &Board) -> Result<Option<Cert>, Fail> {
-    let snapshot = board.snapshot(alloc)?;
-    let parked = snapshot.parked.as_slice();
-    if !rise(parked) {
-        Err("threads in order")?;
-    }
-    match find(alloc, parked, 100_000) {
-        Ok(Found::Group(cert)) => Ok(Some(cert)),
-        Ok(Found::Blocked) => Ok(None),
-        Err(_) => Err("a search".into()),
     }
 }
 
