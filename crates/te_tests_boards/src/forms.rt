@@ -3,6 +3,7 @@ ghost use Rattle.te_forms.specs.Commits.{is_commit};
 
 use crate::grouping::group;
 use std::alloc::Global;
+use std::process::Abort;
 use std::sync::Arc;
 use std::test::Fail;
 use te_board::Board;
@@ -211,7 +212,7 @@ fn are_told(
 }
 
 fn swap_by_three(
-    rt: &HostRuntime,
+    rt: &impl Abort,
     alloc: Global,
     board: &mut Board,
     ring: &Ring,
@@ -243,7 +244,7 @@ fn three_swap(rt: HostRuntime) -> Result<(), Fail> {
 }
 
 fn wait_by_three(
-    rt: &HostRuntime,
+    rt: &impl Abort,
     alloc: Global,
     board: &mut Board,
     ring: &Ring,
@@ -268,7 +269,7 @@ fn three_wait_for_each_other(rt: HostRuntime) -> Result<(), Fail> {
     wait_by_three(&rt, rt.alloc(), &mut board, &ring)
 }
 
-fn take_what_is_tested(rt: &HostRuntime, alloc: Global, board: &mut Board) -> Result<(), Fail> {
+fn take_what_is_tested(rt: &impl Abort, alloc: Global, board: &mut Board) -> Result<(), Fail> {
     post(board, 0, guarded(alloc, 0, 0, Test::Less, 3)?)?;
     post(board, 1, sends(alloc, 0, 2)?)?;
     assert!(rt; group(alloc, board)?.is_none(), "3 isn't less than 2");
@@ -287,7 +288,7 @@ fn guard_takes_only_what_it_tests(rt: HostRuntime) -> Result<(), Fail> {
 }
 
 fn go_round_first(
-    rt: &HostRuntime,
+    rt: &impl Abort,
     alloc: Global,
     board: &mut Board,
     first: &Ring,
@@ -330,7 +331,7 @@ fn one_ring_after_another(rt: HostRuntime) -> Result<(), Fail> {
     Ok(())
 }
 
-fn cross(rt: &HostRuntime, alloc: Global, board: &mut Board, ring: &Ring) -> Result<(), Fail> {
+fn cross(rt: &impl Abort, alloc: Global, board: &mut Board, ring: &Ring) -> Result<(), Fail> {
     for (by, role, offer) in [(0, 0, 10), (1, 0, 20), (2, 1, 30), (3, 1, 40)] {
         post_swap(alloc, board, ring, by, role, offer)?;
     }
@@ -352,7 +353,7 @@ fn two_of_each_role_may_cross(rt: HostRuntime) -> Result<(), Fail> {
 }
 
 fn go_round_the_longest(
-    rt: &HostRuntime,
+    rt: &impl Abort,
     alloc: Global,
     board: &mut Board,
     ring: &Ring,

@@ -2,6 +2,7 @@
 
 use crate::grouping::group;
 use std::alloc::Global;
+use std::process::Abort;
 use std::sync::Arc;
 use std::test::Fail;
 use te_board::{Board, BoardFault};
@@ -103,7 +104,7 @@ fn commit(alloc: Global, board: &mut Board, cert: Cert) -> Result<Option<BoardFa
     Ok(board.commit(alloc, 0, cert).err())
 }
 
-fn leave(rt: &HostRuntime, alloc: Global, board: &mut Board, by: u32) -> Result<(), Fail> {
+fn leave(rt: &impl Abort, alloc: Global, board: &mut Board, by: u32) -> Result<(), Fail> {
     let cert = ring(alloc, board)?;
     withdraw(board, by)?;
     let stale = commit(alloc, board, cert)?;
@@ -121,7 +122,7 @@ fn a_group_is_stale_once_a_member_has_left(rt: HostRuntime) -> Result<(), Fail> 
 }
 
 fn leave_and_come_back(
-    rt: &HostRuntime,
+    rt: &impl Abort,
     alloc: Global,
     board: &mut Board,
     by: u32,
@@ -147,7 +148,7 @@ fn a_group_is_stale_once_a_member_has_posted_again(rt: HostRuntime) -> Result<()
     Ok(())
 }
 
-fn stranger_leaves(rt: &HostRuntime, alloc: Global, board: &mut Board) -> Result<(), Fail> {
+fn stranger_leaves(rt: &impl Abort, alloc: Global, board: &mut Board) -> Result<(), Fail> {
     post(board, 3, never(alloc)?)?;
     let cert = ring(alloc, board)?;
     withdraw(board, 3)?;
@@ -162,7 +163,7 @@ fn a_group_commits_though_another_has_left(rt: HostRuntime) -> Result<(), Fail> 
     stranger_leaves(&rt, rt.alloc(), &mut board)
 }
 
-fn commit_twice(rt: &HostRuntime, alloc: Global, board: &mut Board) -> Result<(), Fail> {
+fn commit_twice(rt: &impl Abort, alloc: Global, board: &mut Board) -> Result<(), Fail> {
     let three = Value::of(&[Atom::Int(3)]).unwrap_or_default();
     let cert = ring(alloc, board)?;
     let again = ring(alloc, board)?;
