@@ -3,6 +3,7 @@ ghost use Rattle.te_terms.specs.Terms.{never};
 ghost use Rattle.te_terms.specs.Joint.{CanCommit};
 
 use std::alloc::Global;
+use std::process::Abort;
 use std::sync::Arc;
 use std::test::Fail;
 use te_board::*;
@@ -234,7 +235,7 @@ fn tells_both(alloc: Global, board: &Board) -> Result<bool, Fail> {
     Ok(is_first && snapshot.front == 2 && snapshot.parked.len() == 2)
 }
 
-fn commit_exchange(rt: &HostRuntime, alloc: Global, board: &mut Board) -> Result<(), Fail> {
+fn commit_exchange(rt: &impl Abort, alloc: Global, board: &mut Board) -> Result<(), Fail> {
     assert!(rt; tells_both(alloc, board)?);
     assert_eq!(rt; commit(alloc, board, 0, exchange(alloc)?)?, None);
     assert_eq!(rt; take(board, 0)?, Ok(Outcome::Gives(Value::unit())));
@@ -253,7 +254,7 @@ fn an_exchange_commits(rt: HostRuntime) -> Result<(), Fail> {
     commit_exchange(&rt, rt.alloc(), &mut board)
 }
 
-fn refuse_while_parked(rt: &HostRuntime, alloc: Global, board: &mut Board) -> Result<(), Fail> {
+fn refuse_while_parked(rt: &impl Abort, alloc: Global, board: &mut Board) -> Result<(), Fail> {
     let parked = Status::Parked(0);
     let idle = Status::Idle;
     let again = post(board, 0, sends(alloc)?)?;
@@ -276,7 +277,7 @@ fn posts_withdrawals_and_takes_are_refused(rt: HostRuntime) -> Result<(), Fail> 
     refuse_while_parked(&rt, rt.alloc(), &mut board)
 }
 
-fn refuse_commits(rt: &HostRuntime, alloc: Global, board: &mut Board) -> Result<(), Fail> {
+fn refuse_commits(rt: &impl Abort, alloc: Global, board: &mut Board) -> Result<(), Fail> {
     let both = [(0, 0), (1, 0)];
     let parked = Status::Parked(0);
     for (parties, meeting, want) in [
@@ -318,7 +319,7 @@ fn refuse_commits(rt: &HostRuntime, alloc: Global, board: &mut Board) -> Result<
     Ok(())
 }
 
-fn refuse_stale(rt: &HostRuntime, alloc: Global, board: &mut Board) -> Result<(), Fail> {
+fn refuse_stale(rt: &impl Abort, alloc: Global, board: &mut Board) -> Result<(), Fail> {
     assert_eq!(rt; withdraw(board, 1)?, None);
     let stale = commit(alloc, board, 0, exchange(alloc)?)?;
     assert_eq!(rt; stale, Some(BoardFault::Stale(1, Status::Idle)));
@@ -333,7 +334,7 @@ fn commits_are_refused(rt: HostRuntime) -> Result<(), Fail> {
     refuse_stale(&rt, rt.alloc(), &mut board)
 }
 
-fn live_while_one_is_idle(rt: &HostRuntime, alloc: Global, board: &mut Board) -> Result<(), Fail> {
+fn live_while_one_is_idle(rt: &impl Abort, alloc: Global, board: &mut Board) -> Result<(), Fail> {
     assert_eq!(rt; post(board, 0, nevers(alloc)?)?, None);
     let snapshot = board.snapshot(alloc)?;
     assert_eq!(rt; snapshot.front, 1);
@@ -343,7 +344,7 @@ fn live_while_one_is_idle(rt: &HostRuntime, alloc: Global, board: &mut Board) ->
 }
 
 fn moved_by_another_post(
-    rt: &HostRuntime,
+    rt: &impl Abort,
     alloc: Global,
     board: &mut Board,
     snapshot: &Snapshot,
@@ -367,7 +368,7 @@ fn a_board_is_stuck_only_on_its_own_list(rt: HostRuntime) -> Result<(), Fail> {
 }
 
 fn end_alone(
-    rt: &HostRuntime,
+    rt: &impl Abort,
     alloc: Global,
     board: &mut Board,
     snapshot: &Snapshot,
@@ -394,7 +395,7 @@ fn a_stuck_board_takes_ends_alone(rt: HostRuntime) -> Result<(), Fail> {
     end_alone(&rt, rt.alloc(), &mut board, &snapshot)
 }
 
-fn end_when_full(rt: &HostRuntime, alloc: Global, board: &mut Board) -> Result<(), Fail> {
+fn end_when_full(rt: &impl Abort, alloc: Global, board: &mut Board) -> Result<(), Fail> {
     assert_eq!(rt; board.len(), 199_994);
     assert_eq!(rt; post(board, 0, nevers(alloc)?)?, None);
     assert_eq!(rt; withdraw(board, 0)?, None);
@@ -405,7 +406,7 @@ fn end_when_full(rt: &HostRuntime, alloc: Global, board: &mut Board) -> Result<(
     Ok(())
 }
 
-fn end_stuck_when_full(rt: &HostRuntime, alloc: Global, board: &mut Board) -> Result<(), Fail> {
+fn end_stuck_when_full(rt: &impl Abort, alloc: Global, board: &mut Board) -> Result<(), Fail> {
     assert_eq!(rt; post(board, 0, nevers(alloc)?)?, None);
     assert_eq!(rt; rest(board, 0)?, None);
     let snapshot = board.snapshot(alloc)?;

@@ -1,18 +1,16 @@
-ghost use Rattle.std.specs.Prelude.{◌≡◌, IsTrue};
+ghost use Rattle.std.specs.Prelude.{◌≡◌};
 ghost use Rattle.te_forms.specs.Commits.{is_commit};
-ghost use Rattle.te_terms.specs.Joint.{RiseFrom, IsGroup, as_group};
 
+use crate::grouping::group;
 use std::alloc::Global;
+use std::process::Abort;
 use std::sync::Arc;
 use std::test::Fail;
 use te_board::Board;
 use te_cert::{Cert, Meeting, Member};
 use te_forms::*;
 use te_history::{Entry, Hist, Status};
-use te_search::{Found, find};
-use te_terms::{
-    Atom, Calc, Calcs, Event, EventCode, Expr, Node, Outcome, Parked, Prim, Rows, Test, Value,
-};
+use te_terms::{Atom, Calc, Calcs, Event, EventCode, Expr, Node, Outcome, Prim, Rows, Test, Value};
 
 fn number(z: i64) -> Value {
     Value::of(&[Atom::Int(z)]).unwrap_or_default()
@@ -101,38 +99,6 @@ fn commit(alloc: Global, board: &mut Board, cert: Cert) -> Result<(), Fail> {
     match board.commit(alloc, 0, cert) {
         Ok(()) => Ok(()),
         Err(_) => Err("a commit".into()),
-    }
-}
-
-fn rise_from(low: u32, parked: &[Parked]) -> bool
-    ensures { IsTrue result → RiseFrom low (as_group parked.now) }
-{
-    match parked {
-        [] => true,
-        [first, rest @ ..] => low < first.thread && rise_from(first.thread, rest),
-    }
-}
-
-fn rise(parked: &[Parked]) -> bool
-    ensures { IsTrue result → IsGroup (as_group parked.now) }
-{
-    match parked {
-        [] => true,
-        [first, rest @ ..] => rise_from(first.thread, rest),
-    }
-}
-
-// The group that is found among the parked events, where there is one.
-fn group(alloc: Global, board: &Board) -> Result<Option<Cert>, Fail> {
-    let snapshot = board.snapshot(alloc)?;
-    let parked = snapshot.parked.as_slice();
-    if !rise(parked) {
-        Err("threads in order")?;
-    }
-    match find(alloc, parked, 100_000) {
-        Ok(Found::Group(cert)) => Ok(Some(cert)),
-        Ok(Found::Blocked) => Ok(None),
-        Err(_) => Err("a search".into()),
     }
 }
 
@@ -246,7 +212,7 @@ fn are_told(
 }
 
 fn swap_by_three(
-    rt: &HostRuntime,
+    rt: &impl Abort,
     alloc: Global,
     board: &mut Board,
     ring: &Ring,
@@ -278,7 +244,7 @@ fn three_swap(rt: HostRuntime) -> Result<(), Fail> {
 }
 
 fn wait_by_three(
-    rt: &HostRuntime,
+    rt: &impl Abort,
     alloc: Global,
     board: &mut Board,
     ring: &Ring,
@@ -303,7 +269,7 @@ fn three_wait_for_each_other(rt: HostRuntime) -> Result<(), Fail> {
     wait_by_three(&rt, rt.alloc(), &mut board, &ring)
 }
 
-fn take_what_is_tested(rt: &HostRuntime, alloc: Global, board: &mut Board) -> Result<(), Fail> {
+fn take_what_is_tested(rt: &impl Abort, alloc: Global, board: &mut Board) -> Result<(), Fail> {
     post(board, 0, guarded(alloc, 0, 0, Test::Less, 3)?)?;
     post(board, 1, sends(alloc, 0, 2)?)?;
     assert!(rt; group(alloc, board)?.is_none(), "3 isn't less than 2");
@@ -322,7 +288,7 @@ fn guard_takes_only_what_it_tests(rt: HostRuntime) -> Result<(), Fail> {
 }
 
 fn go_round_first(
-    rt: &HostRuntime,
+    rt: &impl Abort,
     alloc: Global,
     board: &mut Board,
     first: &Ring,
@@ -365,7 +331,7 @@ fn one_ring_after_another(rt: HostRuntime) -> Result<(), Fail> {
     Ok(())
 }
 
-fn cross(rt: &HostRuntime, alloc: Global, board: &mut Board, ring: &Ring) -> Result<(), Fail> {
+fn cross(rt: &impl Abort, alloc: Global, board: &mut Board, ring: &Ring) -> Result<(), Fail> {
     for (by, role, offer) in [(0, 0, 10), (1, 0, 20), (2, 1, 30), (3, 1, 40)] {
         post_swap(alloc, board, ring, by, role, offer)?;
     }
@@ -387,7 +353,7 @@ fn two_of_each_role_may_cross(rt: HostRuntime) -> Result<(), Fail> {
 }
 
 fn go_round_the_longest(
-    rt: &HostRuntime,
+    rt: &impl Abort,
     alloc: Global,
     board: &mut Board,
     ring: &Ring,

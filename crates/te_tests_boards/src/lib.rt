@@ -8,6 +8,8 @@ mod changing;
 #[cfg(test)]
 mod forms;
 #[cfg(test)]
+mod grouping;
+#[cfg(test)]
 mod history;
 #[cfg(test)]
 mod report;
@@ -15,5 +17,7 @@ mod report;
 mod runtime;
 #[cfg(test)]
 mod serial;
+#[cfg(test)]
+mod stale;
 #[cfg(test)]
 mod waiting;

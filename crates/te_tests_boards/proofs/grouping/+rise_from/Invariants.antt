@@ -1,5 +1,5 @@
 use Rattle.std.proofs.Common.{length}
-use Rattle.te_tests_boards.proofs.forms.+rise_from.Given as goal
+use Rattle.te_tests_boards.proofs.grouping.+rise_from.Given as goal
 
 abbrev pub decreases-rise_from : goal.decreases-rise_from
 decreases-rise_from l = length l.parked.now
