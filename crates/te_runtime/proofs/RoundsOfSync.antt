@@ -29,7 +29,8 @@ use Rattle.te_runtime.specs.Refusals.{HasStuck}
 use Rattle.te_runtime.specs.Answers.{IsTightCommit, parked_at}
 use Rattle.te_runtime.specs.Acts.{IsUnfound, IsSnapshotOf, IsActed}
 use Rattle.te_runtime.specs.Syncs.{ParkedUnder, CommitsBetween, IsSynced, IsSpentUnder, WhyWithdrawn, HasWithdrawn, IsLeftStuck, FailsLater}
-use Rattle.te_runtime.specs.Rounds.{HoldsTicket, IsReason, HasPartedIn, IsAnsweredSo, IsStageOf, unfound, after_driven}
+use Rattle.te_runtime.specs.declared.parting.Outlook.TheVariants as outlooks
+use Rattle.te_runtime.specs.Rounds.{HoldsTicket, IsReason, HasPartedIn, HasLookedIn, IsAnsweredSo, IsStageOf, unfound, after_driven}
 use Rattle.te_runtime.proofs.Calling.{called_then, prefix_take}
 use Rattle.te_runtime.proofs.OwnEntries.{last_read, given_by_one}
 use Rattle.te_runtime.proofs.TicketsHeld.{StaysPut, commit_stays, holds_called, parked_on_stuck}
@@ -185,6 +186,10 @@ parted_at_once budget ticket p q reason (Err fault) shows (inl (is, d)) holds =
 parted_at_once budget ticket p q reason (Err fault) shows (inr (is, d, stuck)) holds =
     subst (λ (f : SyncFault). FailsLater budget ticket p q [] f) (sym is)
     (record { stuck = stuck; parks = left_parked q ticket [] d stuck (holds d); appended = inl (between_plain [] d) })
+
+pub answered_at_once : (budget ticket : ℕ) (p q : Knowledge Entry) (answer : Result Outcome SyncFault) → HasLookedIn p q ticket (outlooks.Over answer)
+    → (Called p q [] → HoldsTicket (state_of (board_of q)) q.caller ticket) → IsAnsweredSo budget ticket p q [] answer
+answered_at_once budget ticket p q answer (reason, shows, parted) holds = parted_at_once budget ticket p q reason answer shows parted holds
 
 -- ---- a search that came to no end
 
