@@ -97,12 +97,17 @@ fn pair(alloc: Global) -> Result<[Event; 2], Fail> {
     ])
 }
 
+// Whether the two give and get what they should.
+fn meets(alloc: Global, events: &[Event]) -> Result<bool, Fail> {
+    let met = answer(alloc, &[(0, &[]), (1, &[])], &[(0, 1)], events)?;
+    let want = [Outcome::Gives(Value::unit()), Outcome::Gives(ints(&[7]))];
+    Ok(gives(&met, &want))
+}
+
 #[test]
 fn a_pair_meets(rt: HostRuntime) -> Result<(), Fail> {
     let events = pair(rt.alloc())?;
-    let met = answer(rt.alloc(), &[(0, &[]), (1, &[])], &[(0, 1)], &events)?;
-    let want = [Outcome::Gives(Value::unit()), Outcome::Gives(ints(&[7]))];
-    assert!(rt; gives(&met, &want));
+    assert!(rt; meets(rt.alloc(), &events)?);
     Ok(())
 }
 

@@ -408,25 +408,52 @@ fn tall_to_the_right(alloc: Global) -> Result<Vec<Node>, Fail> {
     Ok(nodes)
 }
 
+// Where a path stands at its start, and at its end.
+fn first_and_last(alloc: Global, nodes: &[Node]) -> Result<(Stop, Stop), Fail> {
+    let first = stop_after(alloc, nodes, &[])?;
+    let last = stop_after(alloc, nodes, &[Step::Received(ints(&[100]))])?;
+    Ok((first, last))
+}
+
+fn stops_to_the_left(alloc: Global) -> Result<(Stop, Stop), Fail> {
+    let nodes = tall_to_the_left(alloc)?;
+    first_and_last(alloc, &nodes)
+}
+
+fn receive_thirty(path: &mut PathState) -> Result<(), Fail> {
+    for i in 0..30 {
+        make(path, Step::Received(ints(&[i])))?;
+    }
+    Ok(())
+}
+
+fn end_apart(path: &mut PathState, copy: &mut PathState) -> Result<(Stop, Stop), Fail> {
+    make(path, Step::Received(ints(&[7])))?;
+    make(copy, Step::Received(ints(&[8])))?;
+    Ok((path.stop(), copy.stop()))
+}
+
+// Where a path and its copy stand after different last steps.
+fn last_of_both(path: &mut PathState) -> Result<(Stop, Stop), Fail> {
+    receive_thirty(path)?;
+    let mut copy = path.copy()?;
+    end_apart(path, &mut copy)
+}
+
+fn stops_to_the_right(alloc: Global) -> Result<(Stop, Stop), Fail> {
+    let nodes = tall_to_the_right(alloc)?;
+    let mut path = start(alloc, &nodes)?;
+    last_of_both(&mut path)
+}
+
 #[test]
 fn the_tallest_events_are_walked(rt: HostRuntime) -> Result<(), Fail> {
-    let alloc = rt.alloc();
-    let nodes = tall_to_the_left(alloc)?;
-    let steps = [Step::Received(ints(&[100]))];
-    assert_eq!(rt; stop_after(alloc, &nodes, &[])?, Stop::Recv(0));
-    assert_eq!(rt;
-        stop_after(alloc, &nodes, &steps)?,
-        Stop::Done(ints(&[131]))
-    );
-    let mut path = start(alloc, &tall_to_the_right(alloc)?)?;
-    for i in 0..30 {
-        make(&mut path, Step::Received(ints(&[i])))?;
-    }
-    let mut copy = path.copy()?;
-    make(&mut path, Step::Received(ints(&[7])))?;
-    make(&mut copy, Step::Received(ints(&[8])))?;
-    assert_eq!(rt; path.stop(), Stop::Done(ints(&[7])));
-    assert_eq!(rt; copy.stop(), Stop::Done(ints(&[8])));
+    let (first, last) = stops_to_the_left(rt.alloc())?;
+    assert_eq!(rt; first, Stop::Recv(0));
+    assert_eq!(rt; last, Stop::Done(ints(&[131])));
+    let (path, copy) = stops_to_the_right(rt.alloc())?;
+    assert_eq!(rt; path, Stop::Done(ints(&[7])));
+    assert_eq!(rt; copy, Stop::Done(ints(&[8])));
     Ok(())
 }
 

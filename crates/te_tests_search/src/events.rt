@@ -26,6 +26,8 @@ pub(crate) enum Step {
     Never,
     /// choose { send first (1) | send second (1) }
     Either(u32, u32),
+    /// choose { always (1) | always (1) }
+    Fork,
 }
 
 fn tuple(calc: Calc) -> Expr {
@@ -49,6 +51,12 @@ fn push(code: &mut EventCode, node: Node) -> Result<u32, Fail> {
     Ok(code.push(node).ok().ok_or("a node")?)
 }
 
+fn push_fork(code: &mut EventCode) -> Result<u32, Fail> {
+    let left = push(code, Node::Always(one()))?;
+    let right = push(code, Node::Always(one()))?;
+    push(code, Node::Choose(left, right))
+}
+
 fn push_either(code: &mut EventCode, first: u32, second: u32) -> Result<u32, Fail> {
     let left = push(code, Node::Send(Prim::Chan(first), one()))?;
     let right = push(code, Node::Send(Prim::Chan(second), one()))?;
@@ -65,6 +73,7 @@ pub(crate) fn push_step(code: &mut EventCode, step: Step) -> Result<u32, Fail> {
         Step::Throw => push(code, Node::Throw(one())),
         Step::Never => push(code, Node::Never),
         Step::Either(first, second) => push_either(code, first, second),
+        Step::Fork => push_fork(code),
     }
 }
 
