@@ -34,3 +34,4 @@ pub mod SamePoints
 pub mod OneReading
 pub mod Verdicts
 pub mod AtomsTold
+pub mod PlacesIndexed

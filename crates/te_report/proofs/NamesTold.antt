@@ -11,7 +11,8 @@ use Rattle.te_terms.proofs.Lists.{all_at}
 use Rattle.te_script.specs.Names.{is_word_byte, IsIdentifier}
 use Rattle.te_script.specs.Scripts.{Thread, Program, AreDistinct, thread_names}
 use Rattle.te_report.specs.Report.{thread_name, name_of, or_nothing, channel_name}
-use Rattle.te_report.specs.Sayings.{or_first, place_of_name, said_thread}
+use Rattle.te_report.specs.FirstPlaces.{place_of_name}
+use Rattle.te_report.specs.Sayings.{or_first, said_thread}
 use Rattle.te_report.proofs.Cuts.{lacks, lacks_cons}
 
 -- ---- the first place that passes a test

@@ -20,8 +20,9 @@ use Rattle.te_report.specs.declared.saying.Said.TheVariants as says
 use Rattle.te_report.specs.ScriptChannels.{IsChannelOf}
 use Rattle.te_report.specs.Readable.{IsAtomOf, IsValueOf, IsOutcomeOf, IsHowOf, IsNumber, IsScriptThread, IsMemberOf, IsNamed, IsMeetingOf, IsEntryOf, HasSite}
 use Rattle.te_report.specs.Report.{Version, entry_text}
+use Rattle.te_report.specs.FirstPlaces.{place_of_name}
 use Rattle.te_report.specs.Sayings.{called_of, up_to, cut_behind, words, below, said_number, said_ticket}
-use Rattle.te_report.specs.Sayings.{fitting_number, or_zero, said_integer, decimal_value, or_first, place_of_name}
+use Rattle.te_report.specs.Sayings.{fitting_number, or_zero, said_integer, decimal_value, or_first}
 use Rattle.te_report.specs.Sayings.{said_thread, said_channel, atom_of, said_atom, few_atoms, said_value, said_outcome}
 use Rattle.te_report.specs.Sayings.{said_member, said_gets, said_place, said_meeting, said_members, said_outcomes}
 use Rattle.te_report.specs.Sayings.{said_meets, said_values, said_how, said_site, said_commit, said_entry, said}

@@ -9,5 +9,6 @@ pub mod Readable
 pub mod Told
 pub mod Declarations
 pub mod Sayings
+pub mod FirstPlaces
 pub mod Judging
 pub mod Answers

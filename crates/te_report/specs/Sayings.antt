@@ -2,7 +2,6 @@
 -- exactly where the text of what it says is the line. No public clause cites this module.
 use Rattle.std.specs.Prelude.{ℕ, zero, suc, ◌+◌, ◌-◌, ◌*◌, ◌%◌, ◌^◌, ◌==◌, nat_lt, nat_le, Bool, true, false, List, [], ◌∷◌, length, map, ℤ, pos, ◌-ℤ◌, Option, Some, None, if◌then◌else◌}
 use Rattle.std.specs.List.{position}
-use Rattle.std.specs.Str.{bytes_eq}
 use Rattle.te_terms.specs.declared.value.Atom.{Atom}
 use Rattle.te_terms.specs.declared.value.Atom.TheVariants.{Int, Chan}
 use Rattle.te_terms.specs.declared.event.Outcome.{Outcome}
@@ -21,6 +20,7 @@ use Rattle.te_script.specs.Scripts.{Program, thread_names}
 use Rattle.te_report.specs.Report.{Version, first, second, entry_text}
 use Rattle.te_report.specs.declared.ending.Ending.{Ending}
 use Rattle.te_report.specs.declared.ending.Ending.TheVariants as endings
+use Rattle.te_report.specs.FirstPlaces.{place_of_name}
 use Rattle.te_report.specs.declared.names.Called.{Called}
 use Rattle.te_report.specs.declared.saying.Said.{Said}
 use Rattle.te_report.specs.declared.saying.Said.TheVariants as says
@@ -83,10 +83,6 @@ said_integer (b ∷ bs) = or_zero (fitting_number (if b == 45 then pos 0 -ℤ po
 abbrev pub or_first : Option ℕ → ℕ
 or_first (Some i) = i
 or_first None = 0
-
--- the first place of a name
-unfoldable pub place_of_name : List (List ℕ) → List ℕ → Option ℕ
-place_of_name names n = position (λ x. bytes_eq x n) names
 
 -- the thread of a name; the first where there is none
 abbrev pub said_thread : List (List ℕ) → List ℕ → ℕ

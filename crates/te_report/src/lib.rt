@@ -9,6 +9,7 @@ mod ending;
 mod entries;
 mod fault;
 mod following;
+mod indexed;
 mod judging;
 mod laws;
 mod lines;

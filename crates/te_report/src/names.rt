@@ -1,7 +1,8 @@
-ghost use Rattle.std.specs.Prelude.{◌≡◌, ◌<◌, ◌≤◌, length, map, IfOk, IfSome};
+ghost use Rattle.std.specs.Prelude.{◌≡◌, ◌≤◌, length, map, IfOk};
 ghost use Rattle.te_script.specs.Scripts.{thread_names, IsScript};
-ghost use Rattle.te_report.specs.Sayings.{place_of_name, said_thread};
+ghost use Rattle.te_report.specs.Sayings.{said_thread};
 
+use crate::indexed::IndexedNames;
 use std::alloc::Global;
 use te_script::Script;
 use te_terms::{Name, NoMemory, Rows};
@@ -9,8 +10,8 @@ use te_terms::{Name, NoMemory, Rows};
 /// The names of a script's threads and channels, by number.
 #[derive(Drop)]
 pub(crate) struct Called {
-    pub(crate) threads: Rows<Name>,
-    pub(crate) channels: Rows<Name>,
+    pub(crate) threads: IndexedNames,
+    pub(crate) channels: IndexedNames,
 }
 
 fn thread_names(alloc: Global, script: &Script) -> Result<Rows<Name>, NoMemory>
@@ -47,16 +48,10 @@ pub(crate) fn names_of(alloc: Global, script: &Script) -> Result<Called, NoMemor
     keeps(script);
     let threads = thread_names(alloc, script)?;
     let channels = copied(alloc, script.channels.as_slice())?;
-    Ok(Called { threads, channels })
-}
-
-/// The first place of a name in a list.
-#[tactic(auto, unfolding(crate::specs::Sayings::place_of_name))]
-pub(crate) fn place_of(names: &[Name], name: &[u8]) -> Option<usize>
-    ensures value { result ≡ place_of_name names.now name.now }
-    ensures below { IfSome result (λ i. i < length names.now) }
-{
-    names.iter().position(|x| x.bytes() == name)
+    Ok(Called {
+        threads: IndexedNames::of(threads),
+        channels: IndexedNames::of(channels),
+    })
 }
 
 /// The thread of a name; the first where there is none.
@@ -64,7 +59,7 @@ pub(crate) fn thread(called: &Called, name: &[u8]) -> u32
     requires { length called.now.threads ≤ 64 }
     ensures { result ≡ said_thread called.now.threads name.now }
 {
-    match place_of(called.threads.as_slice(), name) {
+    match called.threads.place(name) {
         Some(i) => i as u32,
         None => 0,
     }

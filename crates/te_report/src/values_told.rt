@@ -4,7 +4,7 @@ ghost use Rattle.std.specs.Prelude.{◌≡◌, ◌≤◌, ◌++◌, length, map,
 ghost use Rattle.te_report.specs.Sayings.{said_channel, said_atom, said_value, said_outcome, said_values, cut_behind, words, few_atoms};
 
 use crate::cutting::{behind, cut, up_to};
-use crate::names::{Called, place_of, thread};
+use crate::names::{Called, thread};
 use crate::numbers::{integer, number, ticket};
 use std::alloc::Global;
 use te_terms::{Atom, NoMemory, Outcome, Rows, Value};
@@ -19,7 +19,7 @@ fn read_channel(called: &Called, name: &[u8], tail: &[u8]) -> Option<u32>
     ensures { result ≡ said_channel called.now name.now tail.now }
 {
     if tail.is_empty() {
-        return match place_of(called.channels.as_slice(), name) {
+        return match called.channels.place(name) {
             Some(i) => Some(i as u32),
             None => None,
         };
