@@ -123,8 +123,10 @@ pub(crate) fn post(
 /// A search of events of these steps, of threads from 0 on.
 pub(crate) fn kept(alloc: Global, events: &[&[Step]]) -> Result<KeptSearch, Fail> {
     let mut kept = KeptSearch::new(alloc);
-    for i in 0..events.len() {
-        post(alloc, &mut kept, i as u32, events[i])?;
+    let mut thread = 0u32;
+    for steps in events {
+        post(alloc, &mut kept, thread, steps)?;
+        thread = thread.saturating_add(1);
     }
     Ok(kept)
 }

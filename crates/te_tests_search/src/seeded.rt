@@ -143,7 +143,7 @@ fn commits(alloc: Global, kept: &mut KeptSearch) -> Result<bool, Fail> {
 // How many of 20 lists had a group, each made of the one before by a change and a commit.
 fn groups_of_a_run(alloc: Global, numbers: &mut Numbers) -> Result<usize, Fail> {
     let mut kept = KeptSearch::new(alloc);
-    let mut groups = 0;
+    let mut groups = 0usize;
     for ticket in 0..20 {
         change(alloc, &mut kept, numbers, ticket)?;
         let anew = found_anew(alloc, &kept)?;
@@ -151,7 +151,7 @@ fn groups_of_a_run(alloc: Global, numbers: &mut Numbers) -> Result<usize, Fail> 
             Err("the same answer")?;
         }
         if anew {
-            groups += 1;
+            groups = groups.saturating_add(1);
         }
     }
     Ok(groups)
@@ -162,9 +162,9 @@ fn a_kept_search_answers_as_one_from_nothing(rt: HostRuntime) -> Result<(), Fail
     let mut numbers = Numbers {
         state: 0x9e37_79b9_7f4a_7c15,
     };
-    let mut groups = 0;
+    let mut groups = 0usize;
     for _ in 0..100 {
-        groups += groups_of_a_run(rt.alloc(), &mut numbers)?;
+        groups = groups.saturating_add(groups_of_a_run(rt.alloc(), &mut numbers)?);
     }
     assert!(rt; groups > 100);
     assert!(rt; groups < 1800);
