@@ -9,3 +9,7 @@ pub mod TurnsOfSync
 pub mod RoundsOfSync
 pub mod StuckCallers
 pub mod EndsRefused
+pub mod OwnRuns
+pub mod WorkersGo
+pub mod JobsStarted
+pub mod HousesLeft
