@@ -2,6 +2,7 @@
 use Rattle.std.proofs.Common.{◌≡◌, ℕ, ◌≤◌, ◌+◌, List, [], ◌∷◌, ◌++◌, length, map, All, refl, sym, ap, ◌∙◌, subst, arith, append_assoc, length-append}
 use Rattle.std.specs.List.{AllZip}
 use Rattle.std.proofs.lemmas.List.{append-nil}
+use Rattle.std.proofs.lemmas.List.Elements.{All-contains, Contains-append_right}
 use Rattle.std.proofs.Math.ListN.{get_or-append}
 use Rattle.te_script.specs.Cores.{At}
 use Rattle.te_lock.specs.Lock.{Knowledge}
@@ -54,7 +55,8 @@ last_same (a ∷ rest) (b ∷ bs) x y is =
     let front : rest ≡ bs = more.0 in
     (cc, more.1)
 
-zip_push : (R : Job → Job → Type 0) (xs ys : List Job) (x y : Job) → AllZip R xs ys → R x y → AllZip R (xs ++ x ∷ []) (ys ++ y ∷ [])
+pub zip_push : {A B : Type 0} (R : A → B → Type 0) (xs : List A) (ys : List B) (x : A) (y : B) → AllZip R xs ys → R x y
+    → AllZip R (xs ++ x ∷ []) (ys ++ y ∷ [])
 zip_push R [] [] x y z r = (r, tt)
 zip_push R [] (b ∷ bs) x y z r = absurd z
 zip_push R (a ∷ rest) [] x y z r = absurd z
@@ -105,6 +107,10 @@ all_joined jobs started passes cores a none = last a.second a.begun a.jobs_are (
     last [] begun jobs_are n z = subst (λ l. AreLeft l passes cores) (sym (jobs_are ∙ append-nil a.first)) a.left
     last (j ∷ js) [] jobs_are n z = absurd z
     last (j ∷ js) (b ∷ bs) jobs_are n z = absurd (omega (arith, n, length-append (reversed bs) (b ∷ [])))
+
+-- the last of them
+pub last_of : (P : Job → Type 0) (xs : List Job) (x : Job) → All P (xs ++ x ∷ []) → P x
+last_of P xs x all = All-contains P (xs ++ x ∷ []) x all (Contains-append_right xs (x ∷ []) x (0, omega arith, refl))
 
 pub all_left : (P : Job → Type 0) (xs ys : List Job) → All P (xs ++ ys) → All P xs
 all_left P xs ys all k d low = subst P (get_or-append xs ys d k low) (all k d (omega (arith, length-append xs ys)))

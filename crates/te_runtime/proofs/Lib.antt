@@ -12,4 +12,5 @@ pub mod EndsRefused
 pub mod OwnRuns
 pub mod WorkersGo
 pub mod JobsStarted
+pub mod JobsMade
 pub mod HousesLeft

@@ -57,3 +57,10 @@ pub record Worked (i j : Job) : Type 0 where
 pub record AreJobsOf (threads : List Thread) (lock : Lock) (jobs : List Job) : Type 0 where
   pub count : length jobs ≡ length threads
   pub each : (k : ℕ) (j : Job) → slice_get jobs k ≡ Some j → IsReady lock j × (j.pass.caller ≡ k) × (slice_get threads k ≡ Some j.core.thread)
+
+-- the job of a pass that has done nothing yet, with the core of the thread of its caller's number
+pub record IsFirstJob (threads : List Thread) (p : Knowledge Entry) (j : Job) : Type 0 where
+  pub pass : j.pass ≡ p
+  pub text : slice_get threads p.caller ≡ Some j.core.thread
+  pub core : j.core ≡ core_after j.core.thread []
+  pub ticket : j.ticket ≡ 0
