@@ -1,7 +1,7 @@
 -- What the workers of all callers leave is a house.
 use Rattle.std.proofs.Common.{◌≡◌, ◌≢◌, ◌⊎◌, inl, inr, ◌≤◌, ◌<◌, ℕ, zero, suc, Bool, true, false, cond, eqb, eq-eqb, ne_eqb, List, [], ◌∷◌, ◌++◌, length, map, take, drop, Option, Some, None, All, Contains, get_or, refl, sym, ap, ◌∙◌, subst, arith, append_assoc}
 use Rattle.std.specs.List.{AllByRecursion, AllZip, filter, slice_get}
-use Rattle.std.proofs.lemmas.Option.{slice_get_within, slice_get-get_or}
+use Rattle.std.proofs.lemmas.Option.{slice_get_within}
 use Rattle.std.proofs.lemmas.List.{append-nil}
 use Rattle.std.proofs.lemmas.List.Elements.{All-contains}
 use mathlib.Core.List.{IsPrefix}
@@ -33,7 +33,7 @@ use Rattle.te_runtime.specs.Refusals.{HasStuck, HasRest}
 use Rattle.te_runtime.specs.Households.{withdrawals_by, is_withdrawal_by, IsHousehold}
 use Rattle.te_runtime.specs.Working.{WishedAlone, IsRun, IsHeld, Worked, HasStopped, AreJobsOf}
 use Rattle.te_runtime.proofs.OwnEntries.{in_whole, in_filtered}
-use Rattle.te_terms.proofs.Lists.{all_at, get_some, get-longer}
+use Rattle.te_terms.proofs.Lists.{all_at, get_at, get_some, get-longer}
 
 -- ---- one caller's part of a history
 
@@ -81,9 +81,9 @@ withdrawals_own t (e ∷ es) = elim (same_or_other (caller_of e) t) [
 -- ---- what each thread wished makes up a history of the texts
 
 -- each thread's entries are its wishes, and no other caller has any
-record AreWishes (texts : List Thread) (before h : List Entry) : Type 0 where
-  each : (t : ℕ) (text : Thread) → slice_get texts t ≡ Some text → WishedAlone text t (entries_by caller_of t before) (entries_by caller_of t h)
-  none : (t : ℕ) → slice_get texts t ≡ None → entries_by caller_of t h ≡ []
+pub record AreWishes (texts : List Thread) (before h : List Entry) : Type 0 where
+  pub each : (t : ℕ) (text : Thread) → slice_get texts t ≡ Some text → WishedAlone text t (entries_by caller_of t before) (entries_by caller_of t h)
+  pub none : (t : ℕ) → slice_get texts t ≡ None → entries_by caller_of t h ≡ []
 
 wishes_then : (texts : List Thread) (before : List Entry) (e : Entry) (es : List Entry) → AreWishes texts before (e ∷ es)
     → AreWishes texts (before ++ e ∷ []) es
@@ -185,7 +185,7 @@ are_done threads lock jobs done are z = record {
 -- ---- lists by places
 
 pub all_from : {A : Type 0} (P : A → Type 0) (xs : List A) → ((k : ℕ) (x : A) → slice_get xs k ≡ Some x → P x) → All P xs
-all_from P xs each k d low = each k (get_or xs k d) (slice_get-get_or xs k (get_or xs k d) low refl)
+all_from P xs each k d low = each k (get_or xs k d) (get_at xs k d low)
 
 all_here : {A : Type 0} (P : A → Type 0) (xs : List A) (k : ℕ) (x : A) → All P xs → slice_get xs k ≡ Some x → P x
 all_here P xs k x all at = All-contains P xs x all (contains_at xs k x at)
@@ -219,8 +219,141 @@ none_past [] k at = omega arith
 none_past (x ∷ xs) zero at = absurd cc
 none_past (x ∷ xs) (suc k) at = let past = none_past xs k at in omega (arith, past)
 
-pub passes_of : List Job → List (Knowledge Entry)
-pub passes_of done = map (λ d. d.pass) done
+-- ---- what the close shows
 
-pub cores_of : List Job → List At
-pub cores_of done = map (λ d. d.core) done
+abbrev pub passes_of : List Job → List (Knowledge Entry)
+passes_of done = map (λ d. d.pass) done
+
+abbrev pub cores_of : List Job → List At
+cores_of done = map (λ d. d.core) done
+
+module _ (threads : List Thread) (lock : Lock) (done : List Job) (are : AreDone threads lock done) where
+  pub passes_here : All (λ (p : Knowledge Entry). p.lock ≡ lock) (passes_of done)
+  passes_here = all_from (λ (p : Knowledge Entry). p.lock ≡ lock) (passes_of done) (λ k p at.
+      let from = map_from (λ (d : Job). d.pass) done k p at in
+      ap (λ (q : Knowledge Entry). q.lock) from.2 ∙ (are.each k from.0 from.1).0.here)
+
+  pub passes_idle : All (λ (p : Knowledge Entry). p.has_turn ≡ false) (passes_of done)
+  passes_idle = all_from (λ (p : Knowledge Entry). p.has_turn ≡ false) (passes_of done) (λ k p at.
+      let from = map_from (λ (d : Job). d.pass) done k p at in
+      ap (λ (q : Knowledge Entry). q.has_turn) from.2 ∙ (are.each k from.0 from.1).0.idle)
+
+  pub everyone : lock.callers ≡ length threads → (k : ℕ) → k < lock.callers → Contains (map (λ (p : Knowledge Entry). p.caller) (passes_of done)) k
+  everyone callers k low =
+      let there = get_some done k (omega (arith, low, callers, are.count)) in
+      let at : slice_get (map (λ (p : Knowledge Entry). p.caller) (passes_of done)) k ≡ Some there.0.pass.caller =
+      map_at (λ (p : Knowledge Entry). p.caller) (passes_of done) k there.0.pass (map_at (λ (d : Job). d.pass) done k there.0 there.1) in
+      contains_at (map (λ (p : Knowledge Entry). p.caller) (passes_of done)) k k (at ∙ ap (λ (n : ℕ). Some n) (are.each k there.0 there.1).1)
+
+  pub texts_are : texts_of (cores_of done) ≡ threads
+  texts_are =
+      same_places (texts_of (cores_of done)) threads
+      (map_length (λ (c : At). c.thread) (cores_of done) ∙ map_length (λ (d : Job). d.core) done ∙ are.count)
+      (λ k text at.
+      let core = map_from (λ (c : At). c.thread) (cores_of done) k text at in
+      let job = map_from (λ (d : Job). d.core) done k core.0 core.1 in
+      (are.each k job.0 job.1).2 ∙ ap (λ (x : Thread). Some x) (sym (core.2 ∙ ap (λ (c : At). c.thread) job.2)))
+
+  module _ (board : BoardLog) (count : lock.callers ≡ length threads) (callers : board.callers ≡ lock.callers)
+      (law : IsLawful lock.callers board.entries) (unmade : (k : ℕ) → lock.callers ≤ k → entries_by caller_of k board.entries ≡ [])
+      (own : All (λ (p : Knowledge Entry). entries_by caller_of p.caller board.entries ≡ p.own) (passes_of done))
+      (begins : All (λ (p : Knowledge Entry). IsPrefix p.read board.entries) (passes_of done)) where
+    pass_at : (k : ℕ) (d : Job) → slice_get done k ≡ Some d → slice_get (passes_of done) k ≡ Some d.pass
+    pass_at k d at = map_at (λ (x : Job). x.pass) done k d at
+
+    own_at : (k : ℕ) (d : Job) → slice_get done k ≡ Some d → d.pass.own ≡ entries_by caller_of k board.entries
+    own_at k d at =
+        sym (all_here (λ (p : Knowledge Entry). entries_by caller_of p.caller board.entries ≡ p.own) (passes_of done) k d.pass own (pass_at k d at))
+        ∙ ap (λ (t : ℕ). entries_by caller_of t board.entries) (are.each k d at).1
+
+    run_at : (k : ℕ) (d : Job) → slice_get done k ≡ Some d → IsRun k (entries_by caller_of k board.entries) d.core
+    run_at k d at =
+        subst (λ (l : List Entry). IsRun k l d.core) (own_at k d at) (subst (λ (t : ℕ). IsRun t d.pass.own d.core) (are.each k d at).1 (are.each k d at).0.run)
+
+    -- nobody beyond the jobs has an entry
+    none_at : (k : ℕ) → slice_get done k ≡ None → entries_by caller_of k board.entries ≡ []
+    none_at k at = let past = none_past done k at in unmade k (omega (arith, past, count, are.count))
+
+    of_texts : WishedFrom (texts_of (cores_of done)) [] board.entries
+    of_texts = wishes_from (texts_of (cores_of done)) [] board.entries (record {
+      each = λ t text at.
+          let core = map_from (λ (c : At). c.thread) (cores_of done) t text at in
+          let job = map_from (λ (d : Job). d.core) done t core.0 core.1 in
+          subst (λ (x : Thread). WishedAlone x t [] (entries_by caller_of t board.entries)) (sym (core.2 ∙ ap (λ (c : At). c.thread) job.2))
+          (run_at t job.0 job.1).wished;
+      none = λ t at.
+          let past = none_past (texts_of (cores_of done)) t at in
+          let as_many = map_length (λ (c : At). c.thread) (cores_of done) ∙ map_length (λ (d : Job). d.core) done in
+          unmade t (omega (arith, past, as_many, count, are.count));
+    })
+
+    each_stands : (t : ℕ) (core : At) → slice_get (cores_of done) t ≡ Some core → core ≡ core_after core.thread (taken t board.entries)
+    each_stands t core at =
+        let job = map_from (λ (d : Job). d.core) done t core at in
+        let run = run_at t job.0 job.1 in
+        subst (λ (c : At). c ≡ core_after c.thread (taken t board.entries)) (sym job.2)
+        (run.stands ∙ ap (core_after job.0.core.thread) (taken_own t board.entries))
+
+    -- each entry is one of its caller's
+    each_tight : (k : ℕ) (e : Entry) → slice_get board.entries k ≡ Some e → CommitsTightly e
+    each_tight k e at = by_job (slice_get done (caller_of e)) refl
+      where
+        there : (i : ℕ) × (slice_get (entries_by caller_of (caller_of e) board.entries) i ≡ Some e)
+        there = in_filtered (λ (x : Entry). eqb (caller_of x) (caller_of e)) board.entries k e at (eq-eqb (caller_of e) (caller_of e) refl)
+
+        by_job : (o : Option Job) → slice_get done (caller_of e) ≡ o → CommitsTightly e
+        by_job None is =
+            let gone : slice_get (entries_by caller_of (caller_of e) board.entries) there.0 ≡ None =
+            ap (λ (l : List Entry). slice_get l there.0) (none_at (caller_of e) is) in
+            let both : Some e ≡ None = sym there.1 ∙ gone in
+            absurd cc
+        by_job (Some d) is = all_at CommitsTightly (entries_by caller_of (caller_of e) board.entries) there.0 e (run_at (caller_of e) d is).tight there.1
+
+    withdrawn_once : (t : ℕ) → withdrawals_by t board.entries ≤ 1
+    withdrawn_once t = by_job (slice_get done t) refl
+      where
+        by_job : (o : Option Job) → slice_get done t ≡ o → withdrawals_by t board.entries ≤ 1
+        by_job None is =
+            let n : withdrawals_by t board.entries ≡ 0 = sym (withdrawals_own t board.entries) ∙ ap (withdrawals_by t) (none_at t is) in omega (arith, n)
+        by_job (Some d) is =
+            let n : withdrawals_by d.pass.caller d.pass.own ≡ withdrawals_by t board.entries =
+            ap (λ (k : ℕ). withdrawals_by k d.pass.own) (are.each t d is).1 ∙ ap (withdrawals_by t) (own_at t d is) ∙ withdrawals_own t board.entries in
+            let once = (are.each t d is).0.once in
+            omega (arith, n, once)
+
+    pub household : IsHousehold board (cores_of done)
+    household = record {
+      house = record {
+        callers = map_length (λ (d : Job). d.core) done ∙ are.count ∙ sym count ∙ sym callers;
+        stand = each_stands;
+        of_texts = of_texts;
+      };
+      tight = all_by_places CommitsTightly board.entries each_tight;
+      once = withdrawn_once;
+    }
+
+    -- what a pass has read stands in the history
+    read_there : (k : ℕ) (d : Job) (i : ℕ) (e : Entry) → slice_get done k ≡ Some d → slice_get d.pass.read i ≡ Some e → slice_get board.entries i ≡ Some e
+    read_there k d i e at is =
+        let begin = all_here (λ (p : Knowledge Entry). IsPrefix p.read board.entries) (passes_of done) k d.pass begins (pass_at k d at) in
+        subst (λ (l : List Entry). slice_get l i ≡ Some e) begin.1 (get-longer d.pass.read begin.0 i e is)
+
+    stopped_ended : (k : ℕ) (d : Job) → slice_get done k ≡ Some d → ¬ HasRest board → ¬ HasStuck board → HasStopped d.pass
+        → Stands (state board.callers board.entries) k ended
+    stopped_ended k d at awake running (inr (inl (i, by, is))) = absurd (running (i, by, read_there k d i (entries.Stuck by) at is))
+    stopped_ended k d at awake running (inr (inr (i, by, is))) = absurd (awake (i, by, read_there k d i (entries.Rest by) at is))
+    stopped_ended k d at awake running (inl (i, how, is)) =
+        let mine : slice_get (entries_by caller_of k board.entries) i ≡ Some (entries.End k how) =
+        ap (λ (l : List Entry). slice_get l i) (sym (own_at k d at)) ∙ is ∙ ap (λ (t : ℕ). Some (entries.End t how)) (are.each k d at).1 in
+        let there = in_whole (λ (x : Entry). eqb (caller_of x) k) board.entries i (entries.End k how) mine in
+        end_stands board.callers board.entries there.0 k how
+        (legal_is_loose board.callers board.entries (subst (λ (n : ℕ). IsLegal n board.entries) (sym callers) law.legal)) there.1
+
+    pub all_ended : ¬ HasRest board → ¬ HasStuck board → IsWhole board.callers board.entries
+    all_ended awake running =
+        all_by_places (λ (c : Standing). c ≡ ended) (state board.callers board.entries).callers (λ k c at.
+        let low = slice_get_within (state board.callers board.entries).callers k c at in
+        let many = length-state board.callers board.entries in
+        let there = get_some done k (omega (arith, low, many, callers, count, are.count)) in
+        let is : Some c ≡ Some ended = sym at ∙ stopped_ended k there.0 there.1 awake running (are.each k there.0 there.1).3 in
+        cc)

@@ -14,3 +14,4 @@ pub mod WorkersGo
 pub mod JobsStarted
 pub mod JobsMade
 pub mod HousesLeft
+pub mod HousesClosed
