@@ -9,3 +9,9 @@ pub mod TurnsOfSync
 pub mod RoundsOfSync
 pub mod StuckCallers
 pub mod EndsRefused
+pub mod OwnRuns
+pub mod WorkersGo
+pub mod JobsStarted
+pub mod JobsMade
+pub mod HousesLeft
+pub mod HousesClosed

@@ -5,3 +5,7 @@ pub mod Syncs
 pub mod Turns
 pub mod Acts
 pub mod Rounds
+pub mod Households
+pub mod HouseholdCode
+pub mod Working
+pub mod Started

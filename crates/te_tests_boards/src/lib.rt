@@ -20,4 +20,6 @@ mod serial;
 #[cfg(test)]
 mod stale;
 #[cfg(test)]
+mod threads;
+#[cfg(test)]
 mod waiting;
