@@ -1,0 +1,5 @@
+use Rattle.std.proofs.Common.{◌≤◌, length}
+use Rattle.te_example.proofs.events.swaps.Given as goal
+
+abbrev pub invariant-role : goal.invariant-role
+invariant-role l = length l.events.items ≤ l.role
