@@ -4,7 +4,7 @@ use Rattle.std.proofs.lemmas.List.Elements.{All-append, All-contains, Contains-a
 use Rattle.std.proofs.Math.ListN.{get_or-append}
 use Rattle.te_lock.specs.Lock.{Knowledge, Lock, new_pass, new_passes}
 use Rattle.te_history.specs.declared.entry.Entry.{Entry}
-use Rattle.te_example.specs.Passes.{IsFree}
+use Rattle.te_example.specs.Passes.{IsFreePass}
 
 abbrev passes_to : Lock → ℕ → List (Knowledge Entry)
 passes_to lock n = new_passes lock n
@@ -12,11 +12,11 @@ passes_to lock n = new_passes lock n
 abbrev pass_to : Lock → ℕ → Knowledge Entry
 pass_to lock n = new_pass lock n
 
-pub all_free : (lock : Lock) (n : ℕ) → All (IsFree lock) (passes_to lock n)
+pub all_free : (lock : Lock) (n : ℕ) → All (IsFreePass lock) (passes_to lock n)
 all_free lock zero = λ k d low. absurd (omega (arith, low))
-all_free lock (suc n) = All-append (IsFree lock) (passes_to lock n) (pass_to lock n ∷ []) (all_free lock n) one
+all_free lock (suc n) = All-append (IsFreePass lock) (passes_to lock n) (pass_to lock n ∷ []) (all_free lock n) one
   where
-    one : All (IsFree lock) (pass_to lock n ∷ [])
+    one : All (IsFreePass lock) (pass_to lock n ∷ [])
     one zero d low = (refl, refl)
     one (suc k) d low = absurd (omega (arith, low))
 

@@ -4,5 +4,5 @@ use Rattle.te_lock.specs.Lock.{Knowledge, Lock}
 use Rattle.te_history.specs.declared.entry.Entry.{Entry}
 
 -- the pass is of this runtime, and hasn't the turn
-abbrev pub IsFree : Lock → Knowledge Entry → Type 0
-IsFree runtime pass = (pass.lock ≡ runtime) × (pass.has_turn ≡ false)
+abbrev pub IsFreePass : Lock → Knowledge Entry → Type 0
+IsFreePass runtime pass = (pass.lock ≡ runtime) × (pass.has_turn ≡ false)

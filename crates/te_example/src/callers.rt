@@ -2,7 +2,7 @@
 
 ghost use Rattle.std.specs.Prelude.{◌≡◌, ◌≤◌, ◌+◌, All, IfOk, length, vec_len};
 ghost use Rattle.std.specs.Vec.{vec_capacity};
-ghost use Rattle.te_example.specs.Passes.{IsFree};
+ghost use Rattle.te_example.specs.Passes.{IsFreePass};
 
 use std::alloc::Global;
 use std::sync::Wait;
@@ -20,9 +20,9 @@ pub type Answer = Result<Outcome, SyncFault>;
 // come back. The passes of the others, and its own.
 fn open(alloc: Global, callers: u32) -> Result<(TeRuntime, Vec<Pass<Board>>, Pass<Board>), NoMemory>
     requires { callers ≤ 63 }
-    ensures free { IfOk result (λ made. All (IsFree made.0) made.1.items) }
+    ensures free { IfOk result (λ made. All (IsFreePass made.0) made.1.items) }
     ensures count { IfOk result (λ made. length made.1.items ≡ callers) }
-    ensures host { IfOk result (λ made. IsFree made.0 made.2) }
+    ensures host { IfOk result (λ made. IsFreePass made.0 made.2) }
 {
     let (runtime, mut passes) = TeRuntime::new(alloc, callers + 1, 1)?;
     match passes.pop() {
@@ -40,9 +40,9 @@ fn synchronise_all<R: Threads + Wait + Sync>(
     passes: Vec<Pass<Board>>,
     host: Pass<Board>,
 ) -> Result<Vec<Answer>, NoMemory>
-    requires free { All (IsFree runtime.now) passes.items }
+    requires free { All (IsFreePass runtime.now) passes.items }
     requires count { length passes.items ≡ length events.now }
-    requires host { IsFree runtime.now host }
+    requires host { IsFreePass runtime.now host }
 {
     let mut begun = Vec::new(alloc);
     begun.reserve(events.len())?;
@@ -52,9 +52,9 @@ fn synchronise_all<R: Threads + Wait + Sync>(
         thread::scope_env(),
         rt,
         |scope| -> Vec<Answer>
-            requires free { All (IsFree runtime.now) passes.items }
+            requires free { All (IsFreePass runtime.now) passes.items }
             requires count { length passes.items ≡ length events.now }
-            requires host { IsFree runtime.now host }
+            requires host { IsFreePass runtime.now host }
             requires none { (length begun.items ≡ 0) × (length told.items ≡ 0) }
             requires room { (vec_len passes ≤ vec_capacity begun) × (vec_len passes ≤ vec_capacity told) }
         {
@@ -66,7 +66,7 @@ fn synchronise_all<R: Threads + Wait + Sync>(
                 let event = &events[left.len()];
                 match scope.spawn(
                     move || -> Answer
-                        requires { IsFree runtime.now pass }
+                        requires { IsFreePass runtime.now pass }
                     {
                         let mut pass = pass;
                         runtime.sync(rt, alloc, &mut pass, event, 100_000)

@@ -15,12 +15,12 @@ use Rattle.te_serial.specs.Houses.{texts_of}
 use Rattle.te_runtime.specs.declared.working.Job.{Job}
 use Rattle.te_runtime.specs.Refusals.{HasStuck, HasRest}
 use Rattle.te_runtime.specs.Households.{IsHousehold}
-use Rattle.te_runtime.specs.Working.{IsReady, AreJobsOf}
+use Rattle.te_runtime.specs.Working.{IsJobReady, AreJobsOf}
 use Rattle.te_runtime.specs.Started.{AreLeft}
 use Rattle.te_terms.proofs.Lists.{get_at}
 use Rattle.te_runtime.proofs.HousesLeft.{AreDone, are_done, passes_of, passes_here, passes_idle, everyone, texts_are, household, all_ended}
 
-pub all_ready : (threads : List Thread) (lock : Lock) (jobs : List Job) → AreJobsOf threads lock jobs → All (IsReady lock) jobs
+pub all_ready : (threads : List Thread) (lock : Lock) (jobs : List Job) → AreJobsOf threads lock jobs → All (IsJobReady lock) jobs
 all_ready threads lock jobs are k d low = (are.each k (get_or jobs k d) (get_at jobs k d low)).0
 
 module _ (threads : List Thread) (lock : Lock) (jobs : List Job) (passes : List (Knowledge Entry)) (cores : List At) (are : AreJobsOf threads lock jobs)

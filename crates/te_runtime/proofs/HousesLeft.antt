@@ -31,7 +31,7 @@ use Rattle.te_serial.specs.Houses.{texts_of, IsHouse, CommitsTightly}
 use Rattle.te_runtime.specs.declared.working.Job.{Job}
 use Rattle.te_runtime.specs.Refusals.{HasStuck, HasRest}
 use Rattle.te_runtime.specs.Households.{withdrawals_by, is_withdrawal_by, IsHousehold}
-use Rattle.te_runtime.specs.Working.{WishedAlone, IsRun, IsHeld, Worked, HasStopped, AreJobsOf}
+use Rattle.te_runtime.specs.Working.{WishedAlone, IsRun, IsJobHeld, Worked, WorkHasStopped, AreJobsOf}
 use Rattle.te_runtime.proofs.OwnEntries.{in_whole, in_filtered}
 use Rattle.te_terms.proofs.Lists.{all_at, get_at, get_some, get-longer}
 
@@ -153,7 +153,7 @@ end_stands callers h k t how loose at =
 pub record AreDone (threads : List Thread) (lock : Lock) (done : List Job) : Type 0 where
   pub count : length done ≡ length threads
   pub each : (k : ℕ) (d : Job) → slice_get done k ≡ Some d
-      → IsHeld lock d × (d.pass.caller ≡ k) × (slice_get threads k ≡ Some d.core.thread) × HasStopped d.pass
+      → IsJobHeld lock d × (d.pass.caller ≡ k) × (slice_get threads k ≡ Some d.core.thread) × WorkHasStopped d.pass
 
 zip_length : (R : Job → Job → Type 0) (xs ys : List Job) → AllZip R xs ys → length ys ≡ length xs
 zip_length R [] [] z = refl
@@ -175,7 +175,7 @@ are_done threads lock jobs done are z = record {
       let from = zip_at Worked jobs done k d z at in
       let job = are.each k from.0 from.1 in
       let goes = from.2.goes in (
-        subst (λ (l : Lock). IsHeld l d) job.0.held.here goes.held,
+        subst (λ (l : Lock). IsJobHeld l d) job.0.held.here goes.held,
         goes.caller ∙ job.1,
         job.2 ∙ ap (λ (x : Thread). Some x) (sym goes.text),
         from.2.stopped,
@@ -338,7 +338,7 @@ module _ (threads : List Thread) (lock : Lock) (done : List Job) (are : AreDone 
         let begin = all_here (λ (p : Knowledge Entry). IsPrefix p.read board.entries) (passes_of done) k d.pass begins (pass_at k d at) in
         subst (λ (l : List Entry). slice_get l i ≡ Some e) begin.1 (get-longer d.pass.read begin.0 i e is)
 
-    stopped_ended : (k : ℕ) (d : Job) → slice_get done k ≡ Some d → ¬ HasRest board → ¬ HasStuck board → HasStopped d.pass
+    stopped_ended : (k : ℕ) (d : Job) → slice_get done k ≡ Some d → ¬ HasRest board → ¬ HasStuck board → WorkHasStopped d.pass
         → Stands (state board.callers board.entries) k ended
     stopped_ended k d at awake running (inr (inl (i, by, is))) = absurd (running (i, by, read_there k d i (entries.Stuck by) at is))
     stopped_ended k d at awake running (inr (inr (i, by, is))) = absurd (awake (i, by, read_there k d i (entries.Rest by) at is))

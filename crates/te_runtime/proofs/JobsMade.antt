@@ -9,7 +9,7 @@ use Rattle.te_history.specs.declared.entry.Entry.{Entry}
 use Rattle.te_history.specs.State.{posts_by}
 use Rattle.te_runtime.specs.declared.working.Job.{Job}
 use Rattle.te_runtime.specs.Households.{withdrawals_by}
-use Rattle.te_runtime.specs.Working.{IsRun, IsHeld, IsReady, AreJobsOf, IsFirstJob}
+use Rattle.te_runtime.specs.Working.{IsRun, IsJobHeld, IsJobReady, AreJobsOf, IsFirstJob}
 use Rattle.te_runtime.proofs.JobsStarted.{zip_push}
 use Rattle.te_terms.proofs.Lists.{at_or_last, found_here}
 
@@ -43,7 +43,7 @@ zip_one R [] (b ∷ bs) k y z at = absurd z
 zip_one R (a ∷ rest) (b ∷ bs) zero y z at = let same : b ≡ y = cc in (a, refl, subst (R a) same z.0)
 zip_one R (a ∷ rest) (b ∷ bs) (suc k) y z at = zip_one R rest bs k y z.1 at
 
-first_ready : (threads : List Thread) (lock : Lock) (k : ℕ) (j : Job) → IsFirstJob threads (new_pass lock k) j → IsReady lock j
+first_ready : (threads : List Thread) (lock : Lock) (k : ℕ) (j : Job) → IsFirstJob threads (new_pass lock k) j → IsJobReady lock j
 first_ready threads lock k j f = record {
   held = record {
     here = ap (λ (p : Knowledge Entry). p.lock) f.pass;

@@ -28,7 +28,7 @@ use Rattle.te_runtime.specs.Calls.{Called, RefusedAfterWait, board_of}
 use Rattle.te_runtime.specs.Refusals.{HasStuck, HasRest, RefusesOffer, RefusesEnding, RefusesResting}
 use Rattle.te_runtime.specs.Syncs.{CommitsBetween, IsSynced, HasWithdrawn, FailsLater, IsSyncRefused, HasEnded}
 use Rattle.te_runtime.specs.Households.{is_withdrawal_by, withdrawals_by}
-use Rattle.te_runtime.specs.Working.{WishedAlone, IsRun, HasStopped}
+use Rattle.te_runtime.specs.Working.{WishedAlone, IsRun, WorkHasStopped}
 use Rattle.te_runtime.proofs.OwnEntries.{last_read}
 use Rattle.te_terms.proofs.Lists.{all_both, get-last}
 
@@ -250,14 +250,14 @@ refused_resting budget event (inr (ticket, why)) = why.1
 -- ---- an end and a rest
 
 -- the end is the caller's own
-pub ended_own : {p q : Knowledge Entry} (how : How) → Called p q (entries.End q.caller how ∷ []) → HasStopped q
+pub ended_own : {p q : Knowledge Entry} (how : How) → Called p q (entries.End q.caller how ∷ []) → WorkHasStopped q
 ended_own {p} {q} how c =
     inl (length p.own, how, ap (λ (l : List Entry). slice_get l (length p.own)) c.own ∙ get-last p.own (entries.End q.caller how))
 
-pub rested_read : {p q : Knowledge Entry} → Called p q (entries.Rest q.caller ∷ []) → HasStopped q
+pub rested_read : {p q : Knowledge Entry} → Called p q (entries.Rest q.caller ∷ []) → WorkHasStopped q
 rested_read {p} {q} c = let there = last_read [] (entries.Rest q.caller) c in inr (inr (there.0, q.caller, there.1))
 
-pub rest_refused : (q : Knowledge Entry) (f : SyncFault) → RefusesResting (board_of q) f → HasStopped q
+pub rest_refused : (q : Knowledge Entry) (f : SyncFault) → RefusesResting (board_of q) f → WorkHasStopped q
 rest_refused q faults.Stuck r = inr (inl r)
 rest_refused q faults.Resting r = inr (inr r.1)
 rest_refused q (faults.Other status) r = absurd r
@@ -266,7 +266,7 @@ rest_refused q faults.Full r = absurd r
 rest_refused q (faults.Busy word) r = absurd r
 rest_refused q faults.Memory r = absurd r
 
-pub end_refused_stuck : (how : How) (q : Knowledge Entry) → RefusesEnding how (board_of q) q.caller faults.Stuck → HasStopped q
+pub end_refused_stuck : (how : How) (q : Knowledge Entry) → RefusesEnding how (board_of q) q.caller faults.Stuck → WorkHasStopped q
 end_refused_stuck (ways.Done values) q r = inr (inl r)
 end_refused_stuck (ways.Raised value) q r = inr (inl r)
 end_refused_stuck ways.Stuck q r = absurd r

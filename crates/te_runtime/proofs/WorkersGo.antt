@@ -21,7 +21,7 @@ use Rattle.te_runtime.specs.declared.fault.SyncFault.{SyncFault}
 use Rattle.te_runtime.specs.Calls.{Called}
 use Rattle.te_runtime.specs.Syncs.{IsSynced, IsSyncRefused}
 use Rattle.te_runtime.specs.Households.{withdrawals_by}
-use Rattle.te_runtime.specs.Working.{IsRun, IsHeld, IsReady, GoesOn, HasStopped, Worked}
+use Rattle.te_runtime.specs.Working.{IsRun, IsJobHeld, IsJobReady, WorkGoesOn, WorkHasStopped, Worked}
 use Rattle.te_runtime.proofs.OwnRuns.{Adds, adds_nothing, adds_end, adds_rest, leaves_core, synced_leaves, refused_soon, posts_few}
 
 -- ---- what a core wishes
@@ -58,8 +58,8 @@ ends_raised (raised u) v want = ap raised want
 abbrev pub with_pass : Job → Knowledge Entry → Job
 with_pass i q = record i { pass = q }
 
-module _ {lock : Lock} (i : Job) (held : IsHeld lock i) where
-  goes_by : (q : Knowledge Entry) (more : List Entry) → Called i.pass q more → Adds i.core.thread q.caller i.pass.own more [] 0 0 → GoesOn i (with_pass i q)
+module _ {lock : Lock} (i : Job) (held : IsJobHeld lock i) where
+  goes_by : (q : Knowledge Entry) (more : List Entry) → Called i.pass q more → Adds i.core.thread q.caller i.pass.own more [] 0 0 → WorkGoesOn i (with_pass i q)
   goes_by q more c adds =
       let l = leaves_core i.core more 0 0 c held.run adds in record {
         caller = l.same.1;
@@ -67,24 +67,24 @@ module _ {lock : Lock} (i : Job) (held : IsHeld lock i) where
         held = record { here = l.same.0; idle = l.idle; run = l.run; once = let w = l.withdrawals_are in let once = held.once in omega (arith, w, once) };
       }
 
-  pub goes_nothing : (q : Knowledge Entry) → Called i.pass q [] → GoesOn i (with_pass i q)
+  pub goes_nothing : (q : Knowledge Entry) → Called i.pass q [] → WorkGoesOn i (with_pass i q)
   goes_nothing q c = goes_by q [] c (adds_nothing i.core.thread q.caller i.pass.own)
 
-  pub goes_rested : (q : Knowledge Entry) → Called i.pass q (entries.Rest q.caller ∷ []) → GoesOn i (with_pass i q)
+  pub goes_rested : (q : Knowledge Entry) → Called i.pass q (entries.Rest q.caller ∷ []) → WorkGoesOn i (with_pass i q)
   goes_rested q c = goes_by q _ c (adds_rest i.core.thread q.caller i.pass.own q.caller)
 
   pub goes_ended : (q : Knowledge Entry) (how : How) → EndsSo (wish_at i.core.stand) how → Called i.pass q (entries.End q.caller how ∷ [])
-      → GoesOn i (with_pass i q)
+      → WorkGoesOn i (with_pass i q)
   goes_ended q how ends c =
       let wished : wish_at i.core.stand ≡ wish i.core.thread (taken q.caller i.pass.own) =
       sym (wish_run i.pass.caller i.pass.own i.core held.run) ∙ ap (λ (k : ℕ). wish i.core.thread (taken k i.pass.own)) (sym c.same.1) in
       goes_by q _ c (adds_end i.core.thread q.caller i.pass.own q.caller how (subst (λ (w : Wish). EndsSo w how) wished ends))
 
-module _ {lock : Lock} (i : Job) (ready : IsReady lock i) (event : Term) (wished : wish_at i.core.stand ≡ syncs event) where
+module _ {lock : Lock} (i : Job) (ready : IsJobReady lock i) (event : Term) (wished : wish_at i.core.stand ≡ syncs event) where
   wish_now : wish i.core.thread (taken i.pass.caller i.pass.own) ≡ syncs event
   wish_now = wish_run i.pass.caller i.pass.own i.core ready.held.run ∙ wished
 
-  pub goes_refused : (budget : ℕ) (q : Knowledge Entry) (f : SyncFault) → IsSyncRefused budget i.pass q event f → GoesOn i (with_pass i q)
+  pub goes_refused : (budget : ℕ) (q : Knowledge Entry) (f : SyncFault) → IsSyncRefused budget i.pass q event f → WorkGoesOn i (with_pass i q)
   goes_refused budget q f refused =
       let l = refused_soon i.core event ready.held.run ready.none wish_now budget f refused in record {
         caller = l.same.1;
@@ -95,7 +95,7 @@ module _ {lock : Lock} (i : Job) (ready : IsReady lock i) (event : Term) (wished
   -- an outcome was taken, and the core has moved on by it
   pub ready_synced : (q : Knowledge Entry) (outcome : Outcome) (core : At) → IsSynced i.pass q event outcome
       → ((so_far : List Outcome) → i.core ≡ core_after i.core.thread so_far → core ≡ core_after i.core.thread (so_far ++ outcome ∷ []))
-      → IsReady i.pass.lock (record { pass = q; core = core; ticket = i.ticket + 1 })
+      → IsJobReady i.pass.lock (record { pass = q; core = core; ticket = i.ticket + 1 })
   ready_synced q outcome core synced moves =
       let moved = moves (taken i.pass.caller i.pass.own) ready.held.run.stands in
       let l = synced_leaves i.core core event outcome ready.held.run wish_now synced moved in
@@ -107,7 +107,7 @@ module _ {lock : Lock} (i : Job) (ready : IsReady lock i) (event : Term) (wished
 
   pub goes_synced : (q : Knowledge Entry) (outcome : Outcome) (core : At) → IsSynced i.pass q event outcome
       → ((so_far : List Outcome) → i.core ≡ core_after i.core.thread so_far → core ≡ core_after i.core.thread (so_far ++ outcome ∷ []))
-      → GoesOn i (record { pass = q; core = core; ticket = i.ticket + 1 })
+      → WorkGoesOn i (record { pass = q; core = core; ticket = i.ticket + 1 })
   goes_synced q outcome core synced moves = record {
     caller = synced.appended.called.same.1;
     text = ap (λ (a : At). a.thread) (moves (taken i.pass.caller i.pass.own) ready.held.run.stands);
@@ -119,12 +119,12 @@ module _ {lock : Lock} (i : Job) (ready : IsReady lock i) (event : Term) (wished
 
 -- ---- one call after another
 
-pub goes_then : (i j k : Job) → GoesOn i j → GoesOn j k → GoesOn i k
+pub goes_then : (i j k : Job) → WorkGoesOn i j → WorkGoesOn j k → WorkGoesOn i k
 goes_then i j k g h = record {
   caller = h.caller ∙ g.caller;
   text = h.text ∙ g.text;
-  held = subst (λ (l : Lock). IsHeld l k) g.held.here h.held;
+  held = subst (λ (l : Lock). IsJobHeld l k) g.held.here h.held;
 }
 
-pub worked_then : (i j k : Job) → GoesOn i j → Worked j k → Worked i k
+pub worked_then : (i j k : Job) → WorkGoesOn i j → Worked j k → Worked i k
 worked_then i j k g w = record { goes = goes_then i j k g w.goes; stopped = w.stopped }

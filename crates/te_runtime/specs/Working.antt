@@ -27,36 +27,36 @@ pub record IsRun (t : ℕ) (own : List Entry) (core : At) : Type 0 where
   pub tight : AllByRecursion CommitsTightly own
 
 -- a pass of this lock, without the turn, and the core of its caller's thread; the caller took back one event at most
-pub record IsHeld (lock : Lock) (j : Job) : Type 0 where
+pub record IsJobHeld (lock : Lock) (j : Job) : Type 0 where
   pub here : j.pass.lock ≡ lock
   pub idle : j.pass.has_turn ≡ false
   pub run : IsRun j.pass.caller j.pass.own j.core
   pub once : withdrawals_by j.pass.caller j.pass.own ≤ 1
 
 -- so, and it took back none, and its next ticket is known
-pub record IsReady (lock : Lock) (j : Job) : Type 0 where
-  pub held : IsHeld lock j
+pub record IsJobReady (lock : Lock) (j : Job) : Type 0 where
+  pub held : IsJobHeld lock j
   pub none : withdrawals_by j.pass.caller j.pass.own ≡ 0
   pub ticket : j.ticket ≡ posts_by j.pass.caller j.pass.own
 
 -- the same caller's job later on
-pub record GoesOn (i j : Job) : Type 0 where
+pub record WorkGoesOn (i j : Job) : Type 0 where
   pub caller : j.pass.caller ≡ i.pass.caller
   pub text : j.core.thread ≡ i.core.thread
-  pub held : IsHeld i.pass.lock j
+  pub held : IsJobHeld i.pass.lock j
 
 -- the caller has ended, or was told to come back, or the board is stuck
-abbrev pub HasStopped : Knowledge Entry → Type 0
-HasStopped p = HasEnded p ⊎ (HasStuck (board_of p) ⊎ HasRest (board_of p))
+abbrev pub WorkHasStopped : Knowledge Entry → Type 0
+WorkHasStopped p = HasEnded p ⊎ (HasStuck (board_of p) ⊎ HasRest (board_of p))
 
 pub record Worked (i j : Job) : Type 0 where
-  pub goes : GoesOn i j
-  pub stopped : HasStopped j.pass
+  pub goes : WorkGoesOn i j
+  pub stopped : WorkHasStopped j.pass
 
 -- the job of each caller, in order, with the core of the thread of this number
 pub record AreJobsOf (threads : List Thread) (lock : Lock) (jobs : List Job) : Type 0 where
   pub count : length jobs ≡ length threads
-  pub each : (k : ℕ) (j : Job) → slice_get jobs k ≡ Some j → IsReady lock j × (j.pass.caller ≡ k) × (slice_get threads k ≡ Some j.core.thread)
+  pub each : (k : ℕ) (j : Job) → slice_get jobs k ≡ Some j → IsJobReady lock j × (j.pass.caller ≡ k) × (slice_get threads k ≡ Some j.core.thread)
 
 -- the job of a pass that has done nothing yet, with the core of the thread of its caller's number
 pub record IsFirstJob (threads : List Thread) (p : Knowledge Entry) (j : Job) : Type 0 where

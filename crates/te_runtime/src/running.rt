@@ -12,7 +12,7 @@ ghost use Rattle.te_search.specs.Findings.{IsBudget};
 ghost use Rattle.te_serial.specs.Houses.{texts_of, IsHouse, CommitsTightly};
 ghost use Rattle.te_runtime.specs.Refusals.{HasStuck, HasRest};
 ghost use Rattle.te_runtime.specs.Households.{withdrawals_by};
-ghost use Rattle.te_runtime.specs.Working.{IsReady, Worked, AreJobsOf};
+ghost use Rattle.te_runtime.specs.Working.{IsJobReady, Worked, AreJobsOf};
 ghost use Rattle.te_runtime.specs.Started.{IsStarted, AreLeft};
 
 use crate::gate::Gate;
@@ -97,7 +97,7 @@ fn run_jobs<R: Threads + Wait + Sync, G: Gate + Sync>(
     gate: &G,
     jobs: Vec<Job>,
 ) -> Result<(Vec<Pass<Board>>, Vec<Core>), NoMemory>
-    requires ready { All (IsReady runtime.now) jobs.items }
+    requires ready { All (IsJobReady runtime.now) jobs.items }
     requires budget { IsBudget budget }
     ensures { IfOk result (λ left. AreLeft jobs.items left.0.items left.1.items) }
 {
@@ -113,7 +113,7 @@ fn run_jobs<R: Threads + Wait + Sync, G: Gate + Sync>(
         thread::scope_env(),
         rt,
         |scope| -> (Vec<Pass<Board>>, Vec<Core>)
-            requires ready { All (IsReady runtime.now) jobs.items }
+            requires ready { All (IsJobReady runtime.now) jobs.items }
             requires budget { IsBudget budget }
             requires none { (length begun.items ≡ 0) × (length first.items ≡ 0) × (length second.items ≡ 0) }
             requires room { (vec_len jobs ≤ vec_capacity begun) × (vec_len jobs ≤ vec_capacity first) × (vec_len jobs ≤ vec_capacity second) }
@@ -129,7 +129,7 @@ fn run_jobs<R: Threads + Wait + Sync, G: Gate + Sync>(
                 let one = match scope.spawn_with(
                     promise,
                     move || -> Job
-                        requires ready { IsReady runtime.now job }
+                        requires ready { IsJobReady runtime.now job }
                         requires budget { IsBudget budget }
                         ensures { Worked job result }
                     { work(rt, alloc, runtime, budget, gate, refused, job) },

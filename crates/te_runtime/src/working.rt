@@ -8,7 +8,7 @@ ghost use Rattle.te_report.specs.OfScript.{EndsSo};
 ghost use Rattle.te_search.specs.Findings.{IsBudget};
 ghost use Rattle.te_runtime.specs.Calls.{board_of};
 ghost use Rattle.te_runtime.specs.Refusals.{HasStuck};
-ghost use Rattle.te_runtime.specs.Working.{IsHeld, IsReady, GoesOn, HasStopped, Worked};
+ghost use Rattle.te_runtime.specs.Working.{IsJobHeld, IsJobReady, WorkGoesOn, WorkHasStopped, Worked};
 
 use crate::fault::SyncFault;
 use crate::gate::Gate;
@@ -32,7 +32,7 @@ pub struct Job {
 
 // Tells all callers to come back, where that isn't refused: the thread can't go on.
 fn halt<R: Wait>(rt: &R, runtime: &TeRuntime, job: &mut Job)
-    requires held { IsHeld runtime.now job.old }
+    requires held { IsJobHeld runtime.now job.old }
     ensures { Worked job.old job.new }
 {
     match runtime.rest(rt, &mut job.pass) {
@@ -43,7 +43,7 @@ fn halt<R: Wait>(rt: &R, runtime: &TeRuntime, job: &mut Job)
 
 // Ends the caller.
 fn end<R: Wait>(rt: &R, runtime: &TeRuntime, job: &mut Job, how: How)
-    requires held { IsHeld runtime.now job.old }
+    requires held { IsJobHeld runtime.now job.old }
     requires wished { EndsSo (wish_at job.old.core.stand) how }
     requires stuck { how ≡ ways.Stuck → HasStuck (board_of job.old.pass) }
     ensures { Worked job.old job.new }
@@ -66,12 +66,12 @@ fn sync<R: Wait>(
     job: &mut Job,
     event: &Event,
 ) -> bool
-    requires ready { IsReady runtime.now job.old }
+    requires ready { IsJobReady runtime.now job.old }
     requires budget { IsBudget budget }
     requires wished { wish_at job.old.core.stand ≡ syncs event.now }
-    ensures goes { GoesOn job.old job.new }
-    ensures more { result ≡ true → IsReady runtime.now job.new }
-    ensures over { result ≡ false → HasStopped job.new.pass }
+    ensures goes { WorkGoesOn job.old job.new }
+    ensures more { result ≡ true → IsJobReady runtime.now job.new }
+    ensures over { result ≡ false → WorkHasStopped job.new.pass }
 {
     // The checker knows the types within a fault only where the body names them.
     let _named: Option<Status> = None;
@@ -102,11 +102,11 @@ fn advance<R: Wait, G: Gate>(
     gate: &G,
     job: &mut Job,
 ) -> bool
-    requires ready { IsReady runtime.now job.old }
+    requires ready { IsJobReady runtime.now job.old }
     requires budget { IsBudget budget }
-    ensures goes { GoesOn job.old job.new }
-    ensures more { result ≡ true → IsReady runtime.now job.new }
-    ensures over { result ≡ false → HasStopped job.new.pass }
+    ensures goes { WorkGoesOn job.old job.new }
+    ensures more { result ≡ true → IsJobReady runtime.now job.new }
+    ensures over { result ≡ false → WorkHasStopped job.new.pass }
 {
     let Ok(want) = job.core.want() else {
         halt(rt, runtime, job);
@@ -143,7 +143,7 @@ pub fn work<R: Wait, G: Gate>(
     refused: &AtomicBool,
     mut job: Job,
 ) -> Job
-    requires ready { IsReady runtime.now job }
+    requires ready { IsJobReady runtime.now job }
     requires budget { IsBudget budget }
     ensures { Worked job result }
 {

@@ -5,7 +5,7 @@ use Rattle.te_search.specs.Findings.{IsBudget}
 use Rattle.te_runtime.specs.declared.working.Job.{Job}
 use Rattle.te_runtime.specs.declared.running.Started.{Started}
 use Rattle.te_runtime.specs.declared.running.Started.TheVariants.{There, Here}
-use Rattle.te_runtime.specs.Working.{IsReady, Worked}
+use Rattle.te_runtime.specs.Working.{IsJobReady, Worked}
 use Rattle.te_runtime.specs.Started.{IsStarted, AreStarted, AreLeft}
 use Rattle.te_runtime.proofs.JobsStarted.{none_started, one_started, all_started, one_joined, all_joined, all_left, last_of}
 use Rattle.te_runtime.proofs.running.fn.run_jobs.scope.Goals as goal
@@ -27,18 +27,18 @@ starts-init g c =
 
 pub spawn_with-requires-clause-runs : goal.spawn_with-requires-clause-runs
 spawn_with-requires-clause-runs g c κs within = (
-  last_of (IsReady c.captures.runtime.now) c.pop.new.self.items c.in-Some.job
-      (subst (λ (l : List Job). All (IsReady c.captures.runtime.now) l) c.in-Some.ensures.items c.starts.invariant.ready),
+  last_of (IsJobReady c.captures.runtime.now) c.pop.new.self.items c.in-Some.job
+      (subst (λ (l : List Job). All (IsJobReady c.captures.runtime.now) l) c.in-Some.ensures.items c.starts.invariant.ready),
   c.requires.budget,
 )
 
 pub spawn_with-requires-in-Err : goal.spawn_with-requires-in-Err
 spawn_with-requires-in-Err g c κs within =
-    let ready : IsReady c.captures.runtime.now c.in-Some.job = last_of (IsReady c.captures.runtime.now) c.pop.new.self.items c.in-Some.job
-    (subst (λ (l : List Job). All (IsReady c.captures.runtime.now) l) c.in-Some.ensures.items c.starts.invariant.ready) in
+    let ready : IsJobReady c.captures.runtime.now c.in-Some.job = last_of (IsJobReady c.captures.runtime.now) c.pop.new.self.items c.in-Some.job
+    (subst (λ (l : List Job). All (IsJobReady c.captures.runtime.now) l) c.in-Some.ensures.items c.starts.invariant.ready) in
     let same = c.in-Err.ensures.err in (
       search (rules, within),
-      (search (rules, within), (subst (λ f. IsReady f.2.now f.6) (sym same) ready, subst (λ f. IsBudget f.3) (sym same) c.requires.budget)),
+      (search (rules, within), (subst (λ f. IsJobReady f.2.now f.6) (sym same) ready, subst (λ f. IsBudget f.3) (sym same) c.requires.budget)),
     )
 
 pub starts-preserved : goal.starts-preserved
@@ -51,8 +51,8 @@ starts-preserved g c =
       | in-Err w ↦ subst P (sym w.one-is) (subst (λ (j : Job). Worked j w.spawn_with-in-Err.result) (ap (λ f. f.6) w.in-Err.ensures.err) w.spawn_with-in-Err.ensures)
     ] in
     record {
-      ready = all_left (IsReady c.captures.runtime.now) c.pop.new.self.items (c.in-Some.job ∷ [])
-          (subst (λ l. All (IsReady c.captures.runtime.now) l) popped c.starts.invariant.ready);
+      ready = all_left (IsJobReady c.captures.runtime.now) c.pop.new.self.items (c.in-Some.job ∷ [])
+          (subst (λ l. All (IsJobReady c.captures.runtime.now) l) popped c.starts.invariant.ready);
       started = one_started c.of-was.result.value.items c.starts.queue.items c.pop.new.self.items c.starts.started.items c.push_reserved.new.self.items c.in-Some.job
           c.match-spawn_with.one c.starts.invariant.started popped pushed is;
       room = let a = c.push_reserved.ensures.len in let b = c.push_reserved.ensures.capacity in let d = c.in-Some.ensures.len in let r = c.starts.invariant.room in omega arith;
