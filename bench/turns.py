@@ -3,7 +3,8 @@
 
     bench/turns.py [--runs N]
 
-It proves and builds the program bench/turns.rattle over copies of the crates in a temporary folder. Each time is the least of
+It proves and builds the program of bench/turns, whose files end in .rattle so that no check of the repository takes them for
+a crate of its own, over copies of the crates in a temporary folder. Each time is the least of
 N runs (9), of the processor, less that of making the runtime: a free turn over 10,000,000, `poll` of a parked caller over
 10,000,000, and `offer` and `recall` from an empty board until it is full.
 """
@@ -25,8 +26,10 @@ def build(folder):
     shutil.copytree(os.path.join(TOP, "crates"), crates, ignore=shutil.ignore_patterns("out", "must-fail"))
     shutil.copy(os.path.join(TOP, "HANDLES"), folder)
     turns = os.path.join(crates, "turns")
-    os.makedirs(os.path.join(turns, "src"))
-    shutil.copy(os.path.join(TOP, "bench", "turns.rattle"), os.path.join(turns, "src", "main.rt"))
+    shutil.copytree(os.path.join(TOP, "bench", "turns"), turns)
+    for at, _, files in os.walk(turns):
+        for file in files:
+            os.rename(os.path.join(at, file), os.path.join(at, file.removesuffix(".rattle")))
     with open(os.path.join(TOP, "crates.txt")) as file:
         listed = file.read()
     with open(os.path.join(folder, "crates.txt"), "w") as file:
