@@ -20,6 +20,4 @@ mod serial;
 #[cfg(test)]
 mod stale;
 #[cfg(test)]
-mod threads;
-#[cfg(test)]
 mod waiting;
