@@ -1,4 +1,4 @@
-//! Tests of histories, boards, reports, forms, rounds and runtimes, as a user calls them.
+//! Tests of boards, of searches of them and of forms, as a user calls them.
 #![tactic(auto)]
 
 #[cfg(test)]
@@ -10,14 +10,4 @@ mod forms;
 #[cfg(test)]
 mod grouping;
 #[cfg(test)]
-mod history;
-#[cfg(test)]
-mod report;
-#[cfg(test)]
-mod runtime;
-#[cfg(test)]
-mod serial;
-#[cfg(test)]
 mod stale;
-#[cfg(test)]
-mod waiting;

@@ -1,7 +1,7 @@
 use Rattle.std.proofs.Common.{◌≡◌, ℕ, zero, suc, ◌<◌, Contains, List, [], ◌∷◌, ◌++◌, map, sym, ap, ◌∙◌, subst, arith}
 use Rattle.te_lock.specs.Lock.{Knowledge}
 use Rattle.te_history.specs.declared.entry.Entry.{Entry}
-use Rattle.te_tests_boards.proofs.runtime.ended.Goals as goal
+use Rattle.te_tests_runtimes.proofs.runtime.ended.Goals as goal
 
 all_four : (a b c d k : ℕ) → a ≡ 0 → b ≡ 1 → c ≡ 2 → d ≡ 3 → k < 4 → Contains (a ∷ b ∷ c ∷ d ∷ []) k
 all_four a b c d zero first second third fourth below = (0, omega arith, first)

@@ -1,6 +1,6 @@
 use Rattle.std.proofs.Common.{◌≡◌, false}
 use Rattle.te_lock.specs.Lock.{IsSamePass}
-use Rattle.te_tests_boards.proofs.runtime.works.Given as goal
+use Rattle.te_tests_runtimes.proofs.runtime.works.Given as goal
 
 -- the pass is the same, without the turn
 abbrev pub invariant-loop : goal.invariant-loop
