@@ -24,6 +24,10 @@ fn gives(number: i64) -> Outcome {
     Outcome::Gives(Value::of(&[Atom::Int(number)]).unwrap_or_default())
 }
 
+fn nothing() -> Outcome {
+    Outcome::Gives(Value::unit())
+}
+
 // always (4)
 fn fours(alloc: Global) -> Result<Event, Fail> {
     event(alloc, Node::Always(tuple(Calc::One(Prim::Int(4)))?))
@@ -161,10 +165,11 @@ fn all_synchronise<R: Threads + Wait + Sync>(
 
 #[test]
 fn three_callers_swap_in_a_ring(rt: HostRuntime) -> Result<(), Fail> {
-    let unit = Outcome::Gives(Value::unit());
     for _ in 0..20 {
-        let answers = all_synchronise(&rt, rt.alloc())?;
-        assert!(rt; answers == [Ok(gives(3)), Ok(unit), Ok(unit)]);
+        let [first, second, third] = all_synchronise(&rt, rt.alloc())?;
+        assert!(rt; first == Ok(gives(3)));
+        assert!(rt; second == Ok(nothing()));
+        assert!(rt; third == Ok(nothing()));
     }
     Ok(())
 }
