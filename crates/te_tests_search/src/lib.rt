@@ -15,3 +15,5 @@ mod looking;
 mod pair;
 #[cfg(test)]
 mod seeded;
+#[cfg(test)]
+mod steal;

@@ -1,0 +1,9 @@
+pub mod OrderKept
+pub mod TotalsChange
+pub mod RuleKept
+pub mod RelaysClosed
+pub mod LooksTaken
+pub mod LooksBrought
+pub mod SameParties
+pub mod AllOfMany
+pub mod WholeLooks
