@@ -15,13 +15,14 @@ ghost use Rattle.te_board.specs.Denials.{DeniesPost, DeniesCommit, DeniesPlayed,
 
 use crate::appending::{add, append};
 use crate::fault::BoardFault;
-use crate::matching::{are_parked, parked_of};
+use crate::matching::are_parked;
 use crate::snapshot::Snapshot;
 use std::alloc::Global;
 use std::marker::Model;
 use te_cert::Cert;
 use te_history::{
-    Entry, Hist, How, Phase, Status, StepFault, first_live, may_commit_played, play_commit,
+    Entry, Hist, How, Phase, Status, StepFault, first_live, may_commit_played, parked_of,
+    play_commit,
 };
 use te_lock::Kept;
 use te_terms::{Event, NoMemory, Outcome, Rows};

@@ -1,34 +1,14 @@
-// The parked callers of a history, copied, and compared with a list.
+// The parked callers of a history, compared with a list.
 
-ghost use Rattle.std.specs.Prelude.{◌≡◌, ◌≢◌, ◌↔◌, ◌<◌, false, IfOk, IsTrue};
+ghost use Rattle.std.specs.Prelude.{◌≡◌, ◌≢◌, ◌↔◌, ◌<◌, false, IsTrue};
 ghost use Rattle.te_terms.specs.Terms.{Term};
 ghost use Rattle.te_history.specs.declared.status.Status.TheVariants as statuses;
 ghost use Rattle.te_history.specs.State.{parked as parked_as, parked_list};
 ghost use Rattle.te_history.specs.Follows.{Stands};
 ghost use Rattle.te_history.specs.Histories.{now, HasStatus};
 
-use std::alloc::Global;
 use te_history::{Hist, Status};
-use te_terms::{NoMemory, Parked, Rows};
-
-/// The parked callers with ticket and event, threads rising; the codes of the events are shared.
-pub(crate) fn parked_of(alloc: Global, hist: &Hist) -> Result<Rows<Parked>, NoMemory>
-    ensures { IfOk result (λ rows. rows ≡ parked_list (now hist.now)) }
-{
-    let mut parked = Vec::new(alloc);
-    for thread in 0..hist.callers() {
-        let Status::Parked(ticket) = hist.status(thread) else {
-            continue;
-        };
-        let event = hist.parked_event(thread).copy()?;
-        parked.push(Parked {
-            thread,
-            ticket,
-            event,
-        })?;
-    }
-    Ok(Rows::from(parked))
-}
+use te_terms::Parked;
 
 /// Whether the parked callers are these.
 pub(crate) fn are_parked(hist: &Hist, parked: &[Parked]) -> bool

@@ -18,3 +18,4 @@ pub mod Lasting
 pub mod NoCommit
 pub mod RowsExchange
 pub mod HistoriesWorked
+pub mod ParkedLists

@@ -79,11 +79,12 @@ impl Hist {
         requires few { length self.old.entries < 2 ^ 31 }
         ensures { self.new ≡ pushed self.old entry }
     {
-        let place = self.entries.len() as u32;
-        sit(&mut self.seats, place, &entry);
-        self.phase = phase_after(self.phase, &entry);
-        self.resting = resting_after(self.resting, &entry);
+        let place = self.entries.len();
         self.entries.push_reserved(entry);
+        let entry = &self.entries[place];
+        sit(&mut self.seats, place as u32, entry);
+        self.phase = phase_after(self.phase, entry);
+        self.resting = resting_after(self.resting, entry);
     }
 
     /// The number of callers, 1 to 64.

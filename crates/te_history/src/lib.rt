@@ -7,6 +7,7 @@ mod entry;
 mod following;
 mod history;
 mod laws;
+mod parking;
 mod same;
 mod seat;
 mod status;
@@ -22,4 +23,6 @@ pub use laws::{
     declarations_stand, ended_stays, legal_is_loose, posts_alone_raise_room, refusals_are_one,
     room_goes_by_entries, stuck_boards_wait, tickets_are_given_once,
 };
+#[doc(hidden)]
+pub use parking::parked_of;
 pub use status::{How, Phase, Status};

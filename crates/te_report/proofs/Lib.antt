@@ -19,7 +19,6 @@ pub mod ValuesTold
 pub mod CommitsTold
 pub mod LinesTold
 pub mod SayingsFit
-pub mod ParkedLists
 pub mod Judged
 pub mod LinesRead
 pub mod SitesFit

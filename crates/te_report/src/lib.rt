@@ -4,7 +4,6 @@
 mod commits;
 mod commits_told;
 mod cutting;
-mod declaring;
 mod ending;
 mod entries;
 mod fault;

@@ -12,7 +12,6 @@ ghost use Rattle.te_report.specs.Judging.{HasUnposted, IsWishedAt, sayer, TakesE
 ghost use Rattle.te_report.specs.Sayings.{called_of, version_of};
 
 use crate::cutting::behind_prefix;
-use crate::declaring::parked_of;
 use crate::ending::Ending;
 use crate::fault::ReportFault;
 use crate::following::{first_cores, follow};
@@ -21,7 +20,7 @@ use crate::lines::{is_last, read_last, read_line};
 use crate::names::{Called, names_of};
 use crate::saying::Said;
 use std::alloc::Global;
-use te_history::{Entry, Hist, Status};
+use te_history::{Entry, Hist, Status, parked_of};
 use te_script::{Core, Script};
 use te_terms::{NoMemory, Parked, Rows};
 

@@ -12,6 +12,7 @@ pub mod EndsRefused
 pub mod OwnRuns
 pub mod WorkersGo
 pub mod JobsStarted
+pub mod NewsTold
 pub mod JobsMade
 pub mod HousesLeft
 pub mod HousesClosed

@@ -74,3 +74,8 @@ abbrev pub RefusesResting : BoardLog → SyncFault → Type 0
 RefusesResting b faults.Stuck = HasStuck b
 RefusesResting b faults.Resting = IsRunning (state_of b) × HasRest b
 RefusesResting b _ = ⊥
+
+-- copies of entries need memory alone
+abbrev pub RefusesNews : SyncFault → Type 0
+RefusesNews faults.Memory = Unit {0}
+RefusesNews _ = ⊥

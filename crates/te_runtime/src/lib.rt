@@ -17,6 +17,7 @@ mod resting;
 mod running;
 mod runtime;
 mod syncing;
+mod telling;
 mod turns;
 mod waking;
 mod working;

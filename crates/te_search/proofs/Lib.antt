@@ -16,6 +16,7 @@ pub mod Working
 pub mod Meeting
 pub mod Waiting
 pub mod Ending
+pub mod EndsAlone
 pub mod WorkKept
 pub mod EventsAdded
 pub mod PicksOfHits
@@ -28,6 +29,7 @@ pub mod SearchEnds
 pub mod NumbersListed
 pub mod WordsTold
 pub mod PastsJoined
+pub mod PastsBegin
 pub mod StacksMove
 pub mod NodesRunOut
 pub mod DigitsTell

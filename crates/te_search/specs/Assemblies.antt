@@ -111,6 +111,11 @@ abbrev pub IsOpenAt : List Member → List Path → List (Option ℕ) → Option
 IsOpenAt g paths joined None = (i m : ℕ) (x : Path) → slice_get joined i ≡ Some (Some m) → slice_get paths m ≡ Some x → IsFinal g x
 IsOpenAt g paths joined (Some i) = (m : ℕ) × (slice_get joined i ≡ Some (Some m)) × ((x : Path) → slice_get paths m ≡ Some x → ¬ IsFinal g x)
 
+-- the past of path p stands, in a thread that has no final path, at a path that isn't final
+abbrev pub LacksOne : List Member → List Path → List ℕ → ℕ → Type 0
+LacksOne g paths finals p = (x : Path) → slice_get paths p ≡ Some x → (t : ℕ) × (c : Path) × (clock_of x t ≡ Some c) × (¬ IsFinal g c)
+    × ((f : Path) → Holds (paths_by paths finals) f → thread_of f ≡ t → ⊥)
+
 -- the joined past has only these threads
 abbrev pub IsOfThreads : List ℕ → (ℕ → Option Path) → Type 0
 IsOfThreads threads J = (t : ℕ) (c : Path) → J t ≡ Some c → (i : ℕ) × (slice_get threads i ≡ Some t)

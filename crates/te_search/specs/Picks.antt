@@ -1,5 +1,5 @@
 -- The group that a joined past leads to. No public clause cites this module.
-use Rattle.std.specs.Prelude.{◌≡◌, ◌<◌, ℕ, List, [], ◌∷◌, ◌++◌, map, Bool, true, cond, Option, Some, None, is_some, slice_get}
+use Rattle.std.specs.Prelude.{◌≡◌, ◌<◌, ℕ, List, [], ◌∷◌, ◌++◌, map, take, Bool, true, cond, Option, Some, None, is_some, slice_get}
 use Rattle.te_terms.specs.declared.event.Outcome.{Outcome}
 use Rattle.te_terms.specs.declared.event.Parked.{Parked}
 use Rattle.te_terms.specs.Steps as steps
@@ -51,6 +51,10 @@ TellsHad g paths threads joined k answer = (ps : List Path) (x : Path) → Picks
 -- the choices and meetings of the joined past
 abbrev pub IsJointTrail : List steps.Member → List Path → List ℕ → List (Option ℕ) → List Move → Type 0
 IsJointTrail g paths threads joined word = (ps : List Path) → Picks g paths threads joined ps → map label_of word ≡ labels_of (any_rests_on ps) paths
+
+-- no path below the number has a choice or a meeting of the joined past
+abbrev pub HasNoneBelow : List steps.Member → List Path → List ℕ → List (Option ℕ) → ℕ → Type 0
+HasNoneBelow g paths threads joined n = (ps : List Path) → Picks g paths threads joined ps → labels_of (any_rests_on ps) (take n paths) ≡ []
 
 -- both ends of each meeting are among these threads
 abbrev pub AreMeetingsOf : List ℕ → List Label → Type 0

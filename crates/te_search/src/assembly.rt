@@ -1,8 +1,9 @@
 // From a final path to a group.
 
-ghost use Rattle.std.specs.Prelude.{◌≡◌, ◌≤◌, ◌<◌, ◌+◌, ◌-◌, length, ◌∷◌, [], slice_get, Some, Err, IfOk};
-ghost use Rattle.te_search.specs.Assemblies.{AssemblyStand, TellsFinal, AreNumbers, IsOpenAt, TellsLined, TakesIn, Assembles, TriesOnly, NamesPaths, joint, AreNone, later_number};
+ghost use Rattle.std.specs.Prelude.{◌≡◌, ◌≤◌, ◌<◌, ◌+◌, ◌-◌, length, ◌∷◌, [], slice_get, true, Some, Err, IfOk};
+ghost use Rattle.te_search.specs.Assemblies.{AssemblyStand, TellsFinal, AreNumbers, IsOpenAt, TellsLined, TakesIn, Assembles, TriesOnly, NamesPaths, joint, AreNone, LacksOne, later_number};
 ghost use Rattle.te_search.specs.Finals.{numbers_of, TellThreads};
+ghost use Rattle.te_search.specs.Works.{AreLow};
 ghost use Rattle.te_trail.specs.Paths.{Path};
 ghost use Rattle.te_search.specs.Searching.{AreUp};
 ghost use Rattle.te_search.specs.declared.assembly.Refused.TheVariants as refusals;
@@ -139,6 +140,25 @@ pub(crate) fn past_of(
 {
     let none = nothing_joined(alloc, threads.len())?;
     take_in(alloc, store, threads, p, &none)
+}
+
+/// Whether a final path can't go on to a group: the first thread of its past whose path isn't final has no final path.
+pub(crate) fn lacks_one(store: &TrailStore, threads: &[u32], finals: &Finals, p: u32) -> bool
+    requires path { p < length store.now.paths }
+    requires low { AreLow store.now.paths (numbers_of finals.now) }
+    requires told { TellThreads store.now.paths finals.now }
+    ensures { result ≡ true → LacksOne store.now.events store.now.paths (numbers_of finals.now) p }
+{
+    'places: for i in 0..threads.len() {
+        let thread = threads[i];
+        let Some(q) = store.clock(p, thread) else {
+            continue;
+        };
+        if !is_final(store, q) {
+            return finals.lacks(thread);
+        }
+    }
+    false
 }
 
 /// The joined past of a group, where the joined past of some final paths can be completed to one: an open thread is

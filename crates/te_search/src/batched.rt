@@ -15,7 +15,8 @@ ghost use Rattle.te_search.specs.Bounds.{enough_for};
 ghost use Rattle.te_search.specs.Findings.{IsGroupOf, IsUsedUp, IsBudget};
 ghost use Rattle.te_search.specs.Batches.{IsStart, NextBatch, IsLook, IsApplied, NoneTogether};
 ghost use Rattle.te_search.specs.Finals.{numbers_of, TellThreads};
-ghost use Rattle.te_search.specs.Batching.{HasLater, IsBatched, IsStarting, batches_of, EndsAreKept, KeepsOne, BatchStays, BatchGoesOn, MeetsThose, MeetsThese, EndsWith, BatchStepsTo, HasTried, IsSpentTrying};
+ghost use Rattle.te_search.specs.Batching.{HasLater, IsBatched, IsStarting, batches_of, EndsAreKept, KeepsOne, BatchStays, BatchGoesOn};
+ghost use Rattle.te_search.specs.Batching.{MeetsThose, MeetsThese, EndsWith, BatchStepsTo, HasTried, IsSpentTrying};
 ghost use Rattle.te_search.specs.declared.assembly.Refused.TheVariants as refusals;
 ghost use Rattle.te_search.specs.declared.finding.SearchFault.TheVariants as faults;
 ghost use Rattle.te_search.specs.declared.batched.Look.{Look};
@@ -431,6 +432,7 @@ impl Batched {
                 &self.work,
                 &self.threads,
                 &joined,
+                0,
             ) {
                 Ok(group) => Ok(Some(group.cert)),
                 Err(_) => Err(SearchFault::Memory),

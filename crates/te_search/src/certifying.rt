@@ -14,7 +14,8 @@ ghost use Rattle.te_search.specs.Assemblies.{AreNumbers, IsOpenAt};
 ghost use Rattle.te_search.specs.Works.{label_told, IsHit};
 ghost use Rattle.te_search.specs.Stacks.{EventsAreAmong};
 ghost use Rattle.te_search.specs.Plantings.{has_number};
-ghost use Rattle.te_search.specs.Picks.{TellsNamed, IsAmongNumbers, TellsHad, IsJointTrail, AreMeetingsOf, TakesMember, AreGathered, NumbersRise, IsPlaceAmong, AreMeets, TellsLetter, TellsMeeting};
+ghost use Rattle.te_search.specs.Picks.{TellsNamed, IsAmongNumbers, TellsHad, IsJointTrail, HasNoneBelow, TellsLetter, TellsMeeting};
+ghost use Rattle.te_search.specs.Picks.{AreMeetingsOf, TakesMember, AreGathered, NumbersRise, IsPlaceAmong, AreMeets};
 ghost use Rattle.te_search.specs.Findings.{IsGroupOf};
 
 use crate::listed::ParkedList;
@@ -58,14 +59,17 @@ fn has_move(store: &TrailStore, threads: &PlantedThreads, joined: &[Option<u32>]
     }
 }
 
-// The choices and meetings of a joined past, in order of making.
+// The choices and meetings of a joined past, in order of making. No path below `first` has one of them.
 fn joint_trail(
     alloc: Global,
     store: &TrailStore,
     moves: &[Option<Move>],
     threads: &PlantedThreads,
     joined: &[Option<u32>],
+    first: u32,
 ) -> Result<Vec<Move>, NoMemory>
+    requires low { first ≤ length store.now.paths }
+    requires none { HasNoneBelow store.now.events store.now.paths threads.now joined.now first }
     requires told { map label_told moves.now ≡ map labels_of_move store.now.paths }
     requires wide { length joined.now ≡ length threads.now }
     requires numbers { AreNumbers store.now.paths joined.now }
@@ -73,7 +77,7 @@ fn joint_trail(
     ensures few { IfOk result (λ word. length word.items ≤ length store.now.paths) }
 {
     let mut word = Vec::new(alloc);
-    'moves: for k in 0..store.len() {
+    'moves: for k in first..store.len() {
         let Some(made) = moves[k as usize] else {
             continue;
         };
@@ -240,20 +244,23 @@ fn gather(
     Ok(gathered)
 }
 
-/// The group of a joined past that was found.
+/// The group of a joined past that was found, of which no path below `first` has a move.
 pub(crate) fn certify(
     alloc: Global,
     parked: &ParkedList,
     work: &Work,
     threads: &PlantedThreads,
     joined: &[Option<u32>],
+    first: u32,
 ) -> Result<Group, NoMemory>
+    requires low { first ≤ length work.now.store.paths }
+    requires none { HasNoneBelow work.now.store.events work.now.store.paths threads.now joined.now first }
     requires hit { IsHit work.now threads.now joined.now }
     requires among { EventsAreAmong work.now.store.events (as_group parked.now) }
     requires rise { IsGroup (as_group parked.now) }
     ensures { IfOk result (λ group. IsGroupOf parked.now group.cert group.outcomes) }
 {
-    let word = joint_trail(alloc, &work.store, &work.moves, threads, joined)?;
+    let word = joint_trail(alloc, &work.store, &work.moves, threads, joined, first)?;
     let gathered = gather(alloc, &work.store, parked, threads, joined, &word)?;
     let meets = meetings(alloc, &gathered.names, &word)?;
     let _paths = work.store.len();

@@ -1,6 +1,6 @@
 // The final paths of a search, in the order of assembling, and those that may be of one thread.
 
-ghost use Rattle.std.specs.Prelude.{◌≡◌, ◌<◌, ℕ, [], ◌∷◌, ◌++◌, length, take, cond, nat_eq, min, OnOk, OnErr};
+ghost use Rattle.std.specs.Prelude.{◌≡◌, ◌<◌, ℕ, [], ◌∷◌, ◌++◌, length, take, cond, nat_eq, min, true, OnOk, OnErr};
 ghost use Rattle.te_pair.specs.Places.{without_last};
 ghost use Rattle.te_search.specs.Finals.{numbers_at, bucket_numbers};
 
@@ -67,6 +67,13 @@ impl Finals {
             Some(there) => there.as_slice(),
             None => &[],
         }
+    }
+
+    /// Whether the bucket of a thread is empty: then it has no final path.
+    pub(crate) fn lacks(&self, thread: u32) -> bool
+        ensures { result ≡ true → bucket_numbers (min thread 64) self.now ≡ [] }
+    {
+        self.bucket(thread).is_empty()
     }
 
     /// Puts a final path behind the others. After a refusal, for want of memory, they are as before.

@@ -1,12 +1,14 @@
 // A search for a group among parked events, event by event.
 
-ghost use Rattle.std.specs.Prelude.{◌≡◌, ◌≢◌, ◌≤◌, ◌<◌, ◌↔◌, ◌+◌, ℕ, length, Ok, Err, Some, None, IfOk, IfSome, IsTrue};
+ghost use Rattle.std.specs.Prelude.{◌≡◌, ◌≢◌, ◌≤◌, ◌<◌, ◌↔◌, ◌+◌, ℕ, length, take, Ok, Err, Some, None, IfOk, IfSome, IsTrue};
 ghost use Rattle.te_cert.specs.Certificates.{Certificate};
 ghost use Rattle.te_terms.specs.Joint.{IsGroup, as_group, CanCommit};
 ghost use Rattle.te_search.specs.Bounds.{enough_for};
 ghost use Rattle.te_search.specs.Findings.{IsGroupOf, IsUsedUp, IsBudget};
 ghost use Rattle.te_search.specs.Stacks.{HasLevels, IsStack, AwaitsPlanting, IsOpened, IsExploring, count_left};
 ghost use Rattle.te_search.specs.Works.{IsWithinBudget, IsHit};
+ghost use Rattle.te_search.specs.Assemblies.{AreNone};
+ghost use Rattle.te_search.specs.Picks.{HasNoneBelow};
 ghost use Rattle.te_search.specs.declared.finding.SearchFault.TheVariants as faults;
 ghost use Rattle.te_search.specs.declared.finding.Found.TheVariants as answers;
 
@@ -36,6 +38,19 @@ pub enum SearchFault {
     Spent { paths: u64, groups: u64 },
     /// Want of memory.
     Memory,
+}
+
+// The first place of a joined past that names a path.
+fn named_from(joined: &[Option<u32>]) -> usize
+    ensures { AreNone (take result joined.now) }
+{
+    'places: for i in 0..joined.len() {
+        match joined[i] {
+            Some(_) => return i,
+            None => {}
+        }
+    }
+    joined.len()
 }
 
 impl Work {
@@ -74,6 +89,23 @@ impl Stack {
         }
     }
 
+    // How many paths there were when the first event of a joined past was planted: none of them has a move of it.
+    fn first_path(&self, joined: &[Option<u32>]) -> u32
+        requires levels { HasLevels self.now }
+        requires hit { IsHit self.now.work self.now.threads joined.now }
+        ensures low { result ≤ length self.now.work.store.paths }
+        ensures none { HasNoneBelow self.now.work.store.events self.now.work.store.paths self.now.threads joined.now result }
+    {
+        let _paths = self.work.store.len();
+        let i = named_from(joined);
+        if i < self.levels.len() {
+            let level = &self.levels[i];
+            level.moves as u32
+        } else {
+            0
+        }
+    }
+
     // The group of a joined past that was found. Then its level is gone, as the search that found it isn't whole.
     fn take(
         &mut self,
@@ -90,7 +122,15 @@ impl Stack {
         ensures group { IfOk result (λ found. IfSome found (λ group. IsGroupOf self.old.parked group.cert group.outcomes)) }
         ensures spent { (paths groups : ℕ) → result ≡ Err (faults.Spent paths groups) → ⊥ }
     {
-        let group = certify(alloc, &self.parked, &self.work, &self.threads, joined);
+        let first = self.first_path(joined);
+        let group = certify(
+            alloc,
+            &self.parked,
+            &self.work,
+            &self.threads,
+            joined,
+            first,
+        );
         self.cut(level);
         match group {
             Ok(group) => Ok(Some(group)),

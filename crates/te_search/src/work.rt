@@ -9,7 +9,7 @@ ghost use Rattle.te_search.specs.Groups.{IsFinal};
 ghost use Rattle.te_trail.specs.Stores.{IsStore};
 ghost use Rattle.te_trail.specs.Trails.{IsAtChoice, IsUnmade, AreMeetingEnds, AreAgreeing, AreUnmet};
 
-use crate::assembly::{Refused, assemble, past_of};
+use crate::assembly::{Refused, assemble, lacks_one, past_of};
 use crate::finals::Finals;
 use std::alloc::Global;
 use te_pair::Waiting;
@@ -260,11 +260,15 @@ impl Work {
             return Err(Refused::Spent);
         }
         left -= 1;
-        let Ok(joined) = past_of(alloc, &self.store, threads, p) else {
-            return Err(Refused::Memory);
-        };
         let thread = self.store.thread(p);
         let Ok(()) = self.finals.push(p, thread) else {
+            return Err(Refused::Memory);
+        };
+        if lacks_one(&self.store, threads, &self.finals, p) {
+            self.groups = budget - self.store.len() as u64 - left;
+            return Ok(None);
+        }
+        let Ok(joined) = past_of(alloc, &self.store, threads, p) else {
             return Err(Refused::Memory);
         };
         let answer = assemble(

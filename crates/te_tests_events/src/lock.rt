@@ -100,55 +100,99 @@ fn ended(
     Ok(turn.close(passes))
 }
 
+// How many pairs the slip has, and the number in the last.
+fn last_of(slip: &Slip) -> (usize, u64) {
+    match slip.pairs.last() {
+        Some((_, number)) => (slip.pairs.len(), *number),
+        None => (0, 0),
+    }
+}
+
+/// What two passes see.
+#[derive(Clone, Copy, Debug, PartialEq)]
+struct Seen {
+    held: [u64; 2],
+    fronts: [u64; 2],
+    pairs: (usize, u64),
+}
+
+// What each pass of a new lock sees while the other has the turn, and the second once the first has left, with a pair or without.
+fn take_turns<R: Wait>(
+    rt: &R,
+    turn: &Turn<Slip>,
+    first: &mut Pass<Slip>,
+    second: &mut Pass<Slip>,
+) -> Option<Seen>
+    requires here { (first.old.lock ≡ turn.now) × (second.old.lock ≡ turn.now) }
+    requires idle { (first.old.has_turn ≡ false) × (second.old.has_turn ≡ false) }
+{
+    let slip = turn.try_turn(first).ok()?;
+    let Err(busy) = turn.try_turn(second) else {
+        return None;
+    };
+    turn.leave(first, slip);
+    let front = turn.front(second);
+    add(rt, turn, first, 5)?;
+    let fronts = [front, turn.front(second)];
+    let slip = turn.try_turn(second).ok()?;
+    let Err(busy_again) = turn.try_turn(first) else {
+        return None;
+    };
+    let pairs = last_of(&slip);
+    turn.leave(second, slip);
+    Some(Seen {
+        held: [busy.word, busy_again.word],
+        fronts,
+        pairs,
+    })
+}
+
+fn turns_of_two<R: Wait>(rt: &R, alloc: Global) -> Result<Option<Seen>, Fail> {
+    let (turn, mut first, mut second) = two(alloc)?;
+    Ok(take_turns(rt, &turn, &mut first, &mut second))
+}
+
 #[test]
 fn a_pair_is_read_by_the_other_caller(rt: HostRuntime) -> Result<(), Fail> {
-    let (turn, mut first, mut second) = two(rt.alloc())?;
-    add(&rt, &turn, &mut first, 5).ok_or("a pair")?;
-    assert!(rt; turn.front(&mut second) == 1);
-    let slip = turn.try_turn(&mut second).ok().ok_or("the turn")?;
-    assert!(rt; slip.pairs.as_slice() == [(0, 5)].as_slice());
-    assert!(rt; turn.try_turn(&mut first).err() == Some(Busy { word: 3 }));
-    turn.leave(&mut second, slip);
-    assert!(rt; turn.try_turn(&mut first).is_ok());
+    let seen = Seen {
+        held: [1, 3],
+        fronts: [0, 1],
+        pairs: (1, 5),
+    };
+    assert_eq!(rt; turns_of_two(&rt, rt.alloc())?, Some(seen));
     Ok(())
 }
 
-#[test]
-fn a_new_lock_is_held_by_one(rt: HostRuntime) -> Result<(), Fail> {
-    let (turn, mut first, mut second) = two(rt.alloc())?;
-    let slip = turn.try_turn(&mut first).ok().ok_or("the turn")?;
-    assert!(rt; turn.try_turn(&mut second).err() == Some(Busy { word: 1 }));
-    turn.leave(&mut first, slip);
-    assert!(rt; turn.front(&mut second) == 0);
-    Ok(())
+// The fronts of the second pass once it has met a note of the first, which had added a pair, without the turn and with it.
+fn meet_notes<R: Wait>(
+    rt: &R,
+    turn: &Turn<Slip>,
+    first: &mut Pass<Slip>,
+    second: &mut Pass<Slip>,
+) -> Option<[u64; 2]>
+    requires here { (first.old.lock ≡ turn.now) × (second.old.lock ≡ turn.now) }
+    requires idle { (first.old.has_turn ≡ false) × (second.old.has_turn ≡ false) }
+{
+    add(rt, turn, first, 5)?;
+    let note = turn.split(first);
+    turn.meet(second, note);
+    let front = turn.front(second);
+    add(rt, turn, first, 6)?;
+    let note = turn.split(first);
+    let slip = turn.turn(rt, second);
+    turn.meet(second, note);
+    turn.leave(second, slip);
+    Some([front, turn.front(second)])
+}
+
+fn fronts_of_two<R: Wait>(rt: &R, alloc: Global) -> Result<Option<[u64; 2]>, Fail> {
+    let (turn, mut first, mut second) = two(alloc)?;
+    Ok(meet_notes(rt, &turn, &mut first, &mut second))
 }
 
 #[test]
-fn a_note_is_met(rt: HostRuntime) -> Result<(), Fail> {
-    let (turn, mut first, mut second) = two(rt.alloc())?;
-    add(&rt, &turn, &mut first, 5).ok_or("a pair")?;
-    let note = turn.split(&mut first);
-    turn.meet(&mut second, note);
-    assert!(rt; turn.front(&mut second) == 1);
-    let slip = ended(rt.alloc(), turn, first, second)?;
-    assert!(rt; slip.pairs.as_slice() == [(0, 5)].as_slice());
-    Ok(())
-}
-
-#[test]
-fn a_note_is_met_with_the_turn(rt: HostRuntime) -> Result<(), Fail> {
-    let (turn, mut first, mut second) = two(rt.alloc())?;
-    add(&rt, &turn, &mut first, 5).ok_or("a pair")?;
-    let note = turn.split(&mut first);
-    let mut slip = turn.turn(&rt, &mut second);
-    turn.meet(&mut second, note);
-    slip.pairs.push((Turn::caller(&second), 6))?;
-    if slip.pairs.len() > 1000 {
-        return Err("two pairs".into());
-    }
-    turn.leave(&mut second, slip);
-    let slip = ended(rt.alloc(), turn, first, second)?;
-    assert!(rt; slip.pairs.as_slice() == [(0, 5), (1, 6)].as_slice());
+fn a_note_is_met_with_the_turn_or_without(rt: HostRuntime) -> Result<(), Fail> {
+    assert_eq!(rt; fronts_of_two(&rt, rt.alloc())?, Some([1, 2]));
     Ok(())
 }
 
@@ -157,14 +201,22 @@ fn two_threads_add_a_hundred_each(rt: HostRuntime) -> Result<(), Fail> {
     let alloc: Global = rt.alloc();
     let (turn, first, second) = two(alloc)?;
     let slip = both_add(&rt, alloc, turn, first, second)?;
-    assert!(rt; slip.pairs.len() == 200);
-    let mut next = [0u64; 2];
-    for (caller, number) in slip.pairs.as_slice() {
-        assert!(rt; *caller < 2 && next[*caller as usize] == *number && *number < 100);
-        next[*caller as usize] = *number + 1;
-    }
-    assert!(rt; next == [100, 100]);
+    assert_eq!(rt; slip.pairs.len(), 200);
+    assert_eq!(rt; runs_of(slip.pairs.as_slice()), Some([100, 100]));
     Ok(())
+}
+
+// How many pairs each of the two callers has, where its numbers rise from 0 one by one.
+fn runs_of(pairs: &[(u32, u64)]) -> Option<[u64; 2]> {
+    let mut next = [0u64; 2];
+    for (caller, number) in pairs {
+        let run = next.get_mut(*caller as usize)?;
+        if *run != *number || *number >= 100 {
+            return None;
+        }
+        *run = *number + 1;
+    }
+    Some(next)
 }
 
 fn both_add<R: Threads + Wait + Sync>(

@@ -6,6 +6,7 @@ use Rattle.te_reader.proofs.TextIsRead.{program_of_text_is_read}
 use Rattle.tevents.specs.declared.task.Task.TheVariants as tasks
 use Rattle.tevents.specs.Parts.{AreParts}
 use Rattle.tevents.specs.Checks.{IsLegalReport}
+use Rattle.tevents.specs.Runs.{in_rounds}
 use Rattle.tevents.specs.Causes.{AnswersParts, IsAnswer}
 use Rattle.tevents.specs.Inputs.{HasLegalReport, IsCheckedInput, HasReport, IsLiftedInput}
 use Rattle.te_report.specs.Told.{IsReadAs}
@@ -25,10 +26,10 @@ text_of read upper lower other rest p a b text = subst (λ (bytes : List ℕ). T
 -- ---- check
 
 pub checked_input : (budget : ℕ) (read written : List ℕ) (status : ℕ) (Grew : List ℕ → Type 0)
-    → IsAnswer (tasks.Check budget) read written status → status ≡ 0 → Grew written → IsCheckedInput read Grew
+    → IsAnswer in_rounds (tasks.Check budget) read written status → status ≡ 0 → Grew written → IsCheckedInput read Grew
 checked_input budget read written status Grew answer zero grew = by answer.told
   where
-    by : AnswersParts (tasks.Check budget) answer.upper answer.lower written status → IsCheckedInput read Grew
+    by : AnswersParts in_rounds (tasks.Check budget) answer.upper answer.lower written status → IsCheckedInput read Grew
     by (inr fault) = absurd (omega (arith, zero, fault.status_is))
     by (inl of) = elim of.told [
       | inl legal ↦ record {
@@ -39,7 +40,7 @@ checked_input budget read written status Grew answer zero grew = by answer.told
       | inr (inr faulty) ↦ absurd (omega (arith, zero, faulty.status_is))
     ]
 
-pub checked_at : (budget : ℕ) (read written : List ℕ) (status : ℕ) → IsAnswer (tasks.Check budget) read written status → HasLegalReport read → (status ≡ 0) ⊎ (status ≡ 7)
+pub checked_at : (budget : ℕ) (read written : List ℕ) (status : ℕ) → IsAnswer in_rounds (tasks.Check budget) read written status → HasLegalReport read → (status ≡ 0) ⊎ (status ≡ 7)
 checked_at budget read written status answer input = by answer.told
   where
     text : Text answer.upper input.script
@@ -49,7 +50,7 @@ checked_at budget read written status answer input = by answer.told
     legal_of script other = subst (λ (bytes : List ℕ). IsLegalReport script bytes input.history) (sym (parts_once read answer.upper answer.lower input.upper input.lower answer.parts input.parts).1)
         (subst (λ (p : Program). IsLegalReport p input.lower input.history) (text_once answer.upper input.script script text other) input.legal)
 
-    by : AnswersParts (tasks.Check budget) answer.upper answer.lower written status → (status ≡ 0) ⊎ (status ≡ 7)
+    by : AnswersParts in_rounds (tasks.Check budget) answer.upper answer.lower written status → (status ≡ 0) ⊎ (status ≡ 7)
     by (inr fault) = absurd (fault.no_script (input.script, text))
     by (inl of) = elim of.told [
       | inl legal ↦ inl legal.status_is
@@ -59,10 +60,10 @@ checked_at budget read written status answer input = by answer.told
 
 -- ---- lift
 
-pub lifted_input : (read written : List ℕ) (status : ℕ) (Grew : List ℕ → Type 0) → IsAnswer tasks.Lift read written status → status ≡ 0 → Grew written → IsLiftedInput read Grew
+pub lifted_input : (read written : List ℕ) (status : ℕ) (Grew : List ℕ → Type 0) → IsAnswer in_rounds tasks.Lift read written status → status ≡ 0 → Grew written → IsLiftedInput read Grew
 lifted_input read written status Grew answer zero grew = by answer.told
   where
-    by : AnswersParts tasks.Lift answer.upper answer.lower written status → IsLiftedInput read Grew
+    by : AnswersParts in_rounds tasks.Lift answer.upper answer.lower written status → IsLiftedInput read Grew
     by (inr fault) = absurd (omega (arith, zero, fault.status_is))
     by (inl of) = elim of.told [
       | inl lifted ↦ record {
@@ -74,7 +75,7 @@ lifted_input read written status Grew answer zero grew = by answer.told
       | inr none ↦ absurd (omega (arith, zero, none.status_is))
     ]
 
-pub lifted_at : (read written : List ℕ) (status : ℕ) → IsAnswer tasks.Lift read written status → HasReport read → status ≡ 0
+pub lifted_at : (read written : List ℕ) (status : ℕ) → IsAnswer in_rounds tasks.Lift read written status → HasReport read → status ≡ 0
 lifted_at read written status answer input = by answer.told
   where
     text : Text answer.upper input.script
@@ -85,7 +86,7 @@ lifted_at read written status answer input = by answer.told
         (sym (parts_once read answer.upper answer.lower input.upper input.lower answer.parts input.parts).1)
         (subst (λ (p : Program). IsReadAs p input.history input.ending input.lower) (text_once answer.upper input.script script text other) input.report)
 
-    by : AnswersParts tasks.Lift answer.upper answer.lower written status → status ≡ 0
+    by : AnswersParts in_rounds tasks.Lift answer.upper answer.lower written status → status ≡ 0
     by (inr fault) = absurd (fault.no_script (input.script, text))
     by (inl of) = elim of.told [
       | inl lifted ↦ lifted.status_is

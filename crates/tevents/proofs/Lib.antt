@@ -13,13 +13,17 @@ pub mod NumbersGiven
 pub mod RowsFound
 pub mod CommandMade
 pub mod PostsCounted
+pub mod WithdrawalsCounted
+pub mod SyncsCounted
 pub mod RoomForScripts
 pub mod FirstRun
+pub mod RunsCompleted
 pub mod EntriesCounted
 pub mod GeneratedScripts
 pub mod WordsOnce
 pub mod RulesFound
 pub mod PartsRead
+pub mod CallsEnded
 pub mod ParkedRise
 pub mod GroupsCommit
 pub mod DeclaredTruly

@@ -13,6 +13,7 @@ use Rattle.tevents.specs.declared.task.Task.{Task}
 use Rattle.tevents.specs.declared.task.Task.TheVariants as tasks
 use Rattle.tevents.specs.Parts.{HasRule, IsRuled, AreParts}
 use Rattle.tevents.specs.Checks.{IsDecided, IsLifted, IsRefusedReport}
+use Rattle.tevents.specs.Runs.{Way}
 use Rattle.tevents.specs.Causes.{ReportsFault, Tells, PartsFor, AnswersParts, IsAnswer, most_of}
 use Rattle.tevents.proofs.RulesFound.{parts_of}
 
@@ -187,20 +188,20 @@ wants_report tasks.Print = ⊥
 wants_report (tasks.Check budget) = Unit {0}
 wants_report tasks.Lift = Unit {0}
 
-told_of_long : (task : Task) → wants_report task → (xs ys : List ℕ) (script : Program) (written : List ℕ) (status : ℕ)
-    → 67108864 < length xs → 67108864 < length ys → Tells task xs script written status
-    → Tells task ys script written status
-told_of_long (tasks.Run budget) w xs ys script written status more most h = absurd w
-told_of_long tasks.Print w xs ys script written status more most h = absurd w
-told_of_long (tasks.Check budget) w xs ys script written status more most h = checked_of_long budget script xs ys written status more most h
-told_of_long tasks.Lift w xs ys script written status more most h = lifted_of_long script xs ys written status more most h
+told_of_long : (way : Way) (task : Task) → wants_report task → (xs ys : List ℕ) (script : Program) (written : List ℕ) (status : ℕ)
+    → 67108864 < length xs → 67108864 < length ys → Tells way task xs script written status
+    → Tells way task ys script written status
+told_of_long way (tasks.Run budget) w xs ys script written status more most h = absurd w
+told_of_long way tasks.Print w xs ys script written status more most h = absurd w
+told_of_long way (tasks.Check budget) w xs ys script written status more most h = checked_of_long budget script xs ys written status more most h
+told_of_long way tasks.Lift w xs ys script written status more most h = lifted_of_long script xs ys written status more most h
 
 module _ (read given : List ℕ) where
   -- where a script alone is wanted, more than it may have is a fault of its bytes
-  alone : (task : Task) (written : List ℕ) (status : ℕ) → ((xs : List ℕ) → PartsFor task xs xs [])
+  alone : (way : Way) (task : Task) (written : List ℕ) (status : ℕ) → ((xs : List ℕ) → PartsFor task xs xs [])
       → ((xs upper lower : List ℕ) → PartsFor task xs upper lower → xs ≡ upper) → given ≡ take 1048577 read
-      → 1048576 < length given → IsAnswer task given written status → IsAnswer task read written status
-  alone task written status whole same first long answer = by answer.told
+      → 1048576 < length given → IsAnswer way task given written status → IsAnswer way task read written status
+  alone way task written status whole same first long answer = by answer.told
     where
       is : length given ≡ length answer.upper
       is = ap length (same given answer.upper answer.lower answer.parts)
@@ -208,20 +209,20 @@ module _ (read given : List ℕ) where
       far : 1048576 < length read
       far = all_long read given 1048576 first long
 
-      by : AnswersParts task answer.upper answer.lower written status → IsAnswer task read written status
+      by : AnswersParts way task answer.upper answer.lower written status → IsAnswer way task read written status
       by (inl of) = absurd (let few : length answer.upper ≤ 1048576 = of.text.size in omega (arith, few, is, long))
       by (inr fault) = record { upper = read; lower = []; parts = whole read; told = inr (is_fault_of_long answer.upper read written status (omega (arith, is, long)) far fault) }
 
-  beside : (task : Task) (written : List ℕ) (status : ℕ) → wants_report task
+  beside : (way : Way) (task : Task) (written : List ℕ) (status : ℕ) → wants_report task
       → ((xs upper lower : List ℕ) → PartsFor task xs upper lower → AreParts xs upper lower)
       → ((xs upper lower : List ℕ) → AreParts xs upper lower → PartsFor task xs upper lower) → given ≡ take 68157445 read
-      → 68157444 < length given → IsAnswer task given written status → IsAnswer task read written status
-  beside task written status wants as_parts from_parts first long answer = by (cases_lt 1048576 (length answer.upper)) answer.told
+      → 68157444 < length given → IsAnswer way task given written status → IsAnswer way task read written status
+  beside way task written status wants as_parts from_parts first long answer = by (cases_lt 1048576 (length answer.upper)) answer.told
     where
       parts : AreParts given answer.upper answer.lower
       parts = as_parts given answer.upper answer.lower answer.parts
 
-      by : (1048576 < length answer.upper) ⊎ (length answer.upper ≤ 1048576) → AnswersParts task answer.upper answer.lower written status → IsAnswer task read written status
+      by : (1048576 < length answer.upper) ⊎ (length answer.upper ≤ 1048576) → AnswersParts way task answer.upper answer.lower written status → IsAnswer way task read written status
       by (inl far) (inl of) = absurd (let few : length answer.upper ≤ 1048576 = of.text.size in omega (arith, few, far))
       by (inl far) (inr fault) = (let all : (upper : List ℕ) × (lower : List ℕ) × AreParts read upper lower = parts_of read in record {
         upper = all.0;
@@ -245,25 +246,25 @@ module _ (read given : List ℕ) where
                 script = of.script;
                 text = of.text;
                 told =
-                    told_of_long task wants answer.lower (answer.lower ++ rest read given 68157444 first long) of.script
+                    told_of_long way task wants answer.lower (answer.lower ++ rest read given 68157444 first long) of.script
                     written status both.0 more of.told;
               })
               | inr fault ↦ inr fault
             ];
           })
 
-  long_answer : (task : Task) (written : List ℕ) (status : ℕ) → given ≡ take (most_of task + 1) read
-      → most_of task < length given → IsAnswer task given written status → IsAnswer task read written status
-  long_answer (tasks.Run budget) written status first long answer = alone (tasks.Run budget) written status (λ xs. (refl, refl)) (λ xs upper lower p. p.0) first long answer
-  long_answer tasks.Print written status first long answer = alone tasks.Print written status (λ xs. (refl, refl)) (λ xs upper lower p. p.0) first long answer
-  long_answer (tasks.Check budget) written status first long answer = beside (tasks.Check budget) written status tt (λ xs upper lower p. p) (λ xs upper lower p. p) first long answer
-  long_answer tasks.Lift written status first long answer = beside tasks.Lift written status tt (λ xs upper lower p. p) (λ xs upper lower p. p) first long answer
+  long_answer : (way : Way) (task : Task) (written : List ℕ) (status : ℕ) → given ≡ take (most_of task + 1) read
+      → most_of task < length given → IsAnswer way task given written status → IsAnswer way task read written status
+  long_answer way (tasks.Run budget) written status first long answer = alone way (tasks.Run budget) written status (λ xs. (refl, refl)) (λ xs upper lower p. p.0) first long answer
+  long_answer way tasks.Print written status first long answer = alone way tasks.Print written status (λ xs. (refl, refl)) (λ xs upper lower p. p.0) first long answer
+  long_answer way (tasks.Check budget) written status first long answer = beside way (tasks.Check budget) written status tt (λ xs upper lower p. p) (λ xs upper lower p. p) first long answer
+  long_answer way tasks.Lift written status first long answer = beside way tasks.Lift written status tt (λ xs upper lower p. p) (λ xs upper lower p. p) first long answer
 
-  pub answer_to_all : (task : Task) (written : List ℕ) (status : ℕ) → given ≡ take (most_of task + 1) read
-      → (length given ≤ most_of task → given ≡ read) → IsAnswer task given written status
-      → IsAnswer task read written status
-  answer_to_all task written status first whole answer = by (cases_lt (most_of task) (length given))
+  pub answer_to_all : (way : Way) (task : Task) (written : List ℕ) (status : ℕ) → given ≡ take (most_of task + 1) read
+      → (length given ≤ most_of task → given ≡ read) → IsAnswer way task given written status
+      → IsAnswer way task read written status
+  answer_to_all way task written status first whole answer = by (cases_lt (most_of task) (length given))
     where
-      by : (most_of task < length given) ⊎ (length given ≤ most_of task) → IsAnswer task read written status
-      by (inl long) = long_answer task written status first long answer
-      by (inr short) = subst (λ (bytes : List ℕ). IsAnswer task bytes written status) (whole short) answer
+      by : (most_of task < length given) ⊎ (length given ≤ most_of task) → IsAnswer way task read written status
+      by (inl long) = long_answer way task written status first long answer
+      by (inr short) = subst (λ (bytes : List ℕ). IsAnswer way task bytes written status) (whole short) answer

@@ -13,7 +13,7 @@ use Rattle.tevents.specs.declared.words.Mode.{Mode}
 use Rattle.tevents.specs.declared.words.Mode.TheVariants as modes
 use Rattle.tevents.specs.Summaries.{IsSummary}
 use Rattle.tevents.specs.FaultLines.{fault_line}
-use Rattle.tevents.specs.SerialRuns.{IsRunReport}
+use Rattle.tevents.specs.Runs.{Way, in_rounds, in_threads, IsRunReport}
 use Rattle.tevents.specs.Parts.{AreParts}
 use Rattle.tevents.specs.Checks.{IsDecided, IsLifted}
 
@@ -92,39 +92,43 @@ PartsFor tasks.Print read upper lower = (read ≡ upper) × (lower ≡ [])
 PartsFor (tasks.Check budget) read upper lower = AreParts read upper lower
 PartsFor tasks.Lift read upper lower = AreParts read upper lower
 
--- what a task tells of a script, and of the bytes that should be its report
-abbrev pub Tells : Task → List ℕ → Program → List ℕ → ℕ → Type 0
-Tells (tasks.Run budget) lower = IsRunReport budget
-Tells tasks.Print lower = IsPrinted
-Tells (tasks.Check budget) lower = λ script. IsDecided budget script lower
-Tells tasks.Lift lower = λ script. IsLifted script lower
+-- what a task tells of a script, whose threads it runs this way if any, and of the bytes that should be its report
+abbrev pub Tells : Way → Task → List ℕ → Program → List ℕ → ℕ → Type 0
+Tells way (tasks.Run budget) lower = IsRunReport way budget
+Tells way tasks.Print lower = IsPrinted
+Tells way (tasks.Check budget) lower = λ script. IsDecided budget script lower
+Tells way tasks.Lift lower = λ script. IsLifted script lower
 
 -- what a task tells of these parts
-abbrev pub AnswersParts : Task → List ℕ → List ℕ → List ℕ → ℕ → Type 0
-AnswersParts task upper lower written status = IsOf (Tells task lower) upper written status ⊎ ReportsFault upper written status
+abbrev pub AnswersParts : Way → Task → List ℕ → List ℕ → List ℕ → ℕ → Type 0
+AnswersParts way task upper lower written status = IsOf (Tells way task lower) upper written status ⊎ ReportsFault upper written status
 
 -- a text that a task may write at these bytes, and the status that it then has
-pub record IsAnswer (task : Task) (read written : List ℕ) (status : ℕ) : Type 0 where
+pub record IsAnswer (way : Way) (task : Task) (read written : List ℕ) (status : ℕ) : Type 0 where
   pub upper : List ℕ
   pub lower : List ℕ
   pub parts : PartsFor task read upper lower
-  pub told : AnswersParts task upper lower written status
+  pub told : AnswersParts way task upper lower written status
 
 abbrev pub IsSerialAnswer : ℕ → List ℕ → List ℕ → ℕ → Type 0
-IsSerialAnswer budget = IsAnswer (tasks.Run budget)
+IsSerialAnswer budget = IsAnswer in_rounds (tasks.Run budget)
+
+abbrev pub IsRunAnswer : ℕ → List ℕ → List ℕ → ℕ → Type 0
+IsRunAnswer budget = IsAnswer in_threads (tasks.Run budget)
 
 abbrev pub IsPrintAnswer : List ℕ → List ℕ → ℕ → Type 0
-IsPrintAnswer = IsAnswer tasks.Print
+IsPrintAnswer = IsAnswer in_rounds tasks.Print
 
 abbrev pub IsCheckAnswer : ℕ → List ℕ → List ℕ → ℕ → Type 0
-IsCheckAnswer budget = IsAnswer (tasks.Check budget)
+IsCheckAnswer budget = IsAnswer in_rounds (tasks.Check budget)
 
 abbrev pub IsLiftAnswer : List ℕ → List ℕ → ℕ → Type 0
-IsLiftAnswer = IsAnswer tasks.Lift
+IsLiftAnswer = IsAnswer in_rounds tasks.Lift
 
 -- what a call writes by what its words say
 abbrev pub AnswersIn : Mode → ℕ → ℕ → List ℕ → List ℕ → ℕ → Type 0
 AnswersIn modes.Serial budget number read written status = IsSerialAnswer budget read written status
+AnswersIn modes.Run budget number read written status = IsRunAnswer budget read written status
 AnswersIn modes.Print budget number read written status = IsPrintAnswer read written status
 AnswersIn modes.Check budget number read written status = IsCheckAnswer budget read written status
 AnswersIn modes.Lift budget number read written status = IsLiftAnswer read written status

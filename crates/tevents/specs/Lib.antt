@@ -1,7 +1,8 @@
 pub mod Words
 pub mod Repeats
 pub mod StuckEnds
-pub mod SerialRuns
+pub mod Runs
+pub mod Completing
 pub mod Headline
 pub mod Summaries
 pub mod FaultLines

@@ -6,7 +6,7 @@ use Rattle.te_history.specs.declared.entry.Entry.{Entry}
 use Rattle.te_history.specs.declared.entry.Entry.TheVariants as entries
 use Rattle.te_report.specs.declared.ending.Ending.{Ending}
 use Rattle.te_report.specs.declared.ending.Ending.TheVariants as endings
-use Rattle.tevents.specs.SerialRuns.{RunEndsSo}
+use Rattle.tevents.specs.Runs.{in_rounds, RunEndsSo}
 
 abbrev pub posts_in : List Entry → ℕ
 posts_in [] = 0
@@ -42,7 +42,7 @@ summary_status (endings.Spent front paths groups) = 7
 pub record IsSummary (number budget : ℕ) (written : List ℕ) (status : ℕ) : Type 0 where
   pub history : List Entry
   pub ending : Ending
-  pub run : RunEndsSo budget (generated number) history ending
+  pub run : RunEndsSo in_rounds budget (generated number) history ending
   pub text : written ≡ summary_text number (length (generated number).threads) history ending
   pub ends : HasSummary ending
   pub status_is : status ≡ summary_status ending

@@ -40,6 +40,7 @@ program = with_rule (with_rule (with_rule (without_name (new_app (codes "tevents
 
 abbrev pub mode_name : Mode → Text
 mode_name modes.Serial = codes "serial"
+mode_name modes.Run = codes "run"
 mode_name modes.Print = codes "print"
 mode_name modes.Gen = codes "gen"
 mode_name modes.Check = codes "check"

@@ -1,23 +1,27 @@
-ghost use Rattle.std.specs.Prelude.{◌≡◌, ◌≢◌, ◌⊎◌, IfOk};
+ghost use Rattle.std.specs.Prelude.{◌≡◌, ◌≢◌, ◌⊎◌, ℕ, length, IfOk};
 ghost use Rattle.te_io.specs.Stream.{GrewBy, GrewByPrefix};
 ghost use Rattle.te_io.specs.Causes.{Rose};
+ghost use Rattle.te_reader.specs.declared.fault.ScriptFault.TheVariants as faults;
 ghost use Rattle.te_script.specs.Scripts.{IsProgram};
 ghost use Rattle.te_search.specs.Findings.{IsBudget};
-ghost use Rattle.tevents.specs.SerialRuns.{IsRunReport, IsStatusAt};
+ghost use Rattle.tevents.specs.Runs.{Way, in_rounds, RunEndsSo, IsRunReport, IsStatusAt};
 ghost use Rattle.tevents.specs.FaultLines.{fault_line};
-ghost use Rattle.tevents.specs.Causes.{Tells, PartsFor, IsAnswer, IsTask, IsPrinted};
+ghost use Rattle.tevents.specs.Causes.{Tells, PartsFor, IsAnswer, IsRunAnswer, IsTask, IsPrinted};
 
 use crate::checking::{check, lift};
 use crate::faults::put_fault;
 use crate::parting::part;
 use crate::reporting::{has_stuck_end, report_of};
-use crate::running::run_rounds;
+use crate::running::{Run, run_rounds, run_workers};
 use crate::task::Task;
 use std::alloc::Global;
+use std::sync::Wait;
+use std::thread::Threads;
 use te_history::Hist;
 use te_io::{Sink, write_whole};
 use te_reader::{ScriptFault, print_script, read_script};
 use te_report::Ending;
+use te_runtime::Gate;
 use te_script::Script;
 use te_terms::{NoMemory, Rows};
 
@@ -32,15 +36,33 @@ pub(crate) struct Written {
 /// no script. The one refusal is want of memory.
 pub(crate) fn answer(alloc: Global, task: Task, bytes: &[u8]) -> Result<Written, NoMemory>
     requires { IsTask task }
-    ensures { IfOk result (λ told. IsAnswer task bytes.now told.text told.status) }
+    ensures { IfOk result (λ told. IsAnswer in_rounds task bytes.now told.text told.status) }
 {
     let (upper, lower) = parts_for(task, bytes);
     match read_script(alloc, upper) {
         Ok(script) => tell(alloc, task, &script, lower),
-        Err(told) => match told {
-            ScriptFault::Memory => Err(NoMemory),
-            _ => fault(alloc, told),
-        },
+        Err(told) => fault(alloc, told),
+    }
+}
+
+/// What a run of the script in threads of their own answers to these bytes, or the line that tells the fault of bytes that
+/// are no script. The one refusal is want of memory.
+pub(crate) fn answer_by_threads<R: Threads + Wait + Sync, G: Gate + Sync>(
+    rt: &R,
+    alloc: Global,
+    budget: u64,
+    bytes: &[u8],
+    gate: &G,
+) -> Result<Written, NoMemory>
+    requires { IsBudget budget }
+    ensures { IfOk result (λ told. IsRunAnswer budget bytes.now told.text told.status) }
+{
+    match read_script(alloc, bytes) {
+        Ok(script) => {
+            let run = run_workers(rt, alloc, &script, budget, gate)?;
+            report(alloc, &script, &run)
+        }
+        Err(told) => fault(alloc, told),
     }
 }
 
@@ -60,7 +82,7 @@ fn parts_for(task: Task, bytes: &[u8]) -> (&[u8], &[u8])
 fn tell(alloc: Global, task: Task, script: &Script, lower: &[u8]) -> Result<Written, NoMemory>
     requires task { IsTask task }
     requires program { IsProgram script.now }
-    ensures { IfOk result (λ told. Tells task lower.now script.now told.text told.status) }
+    ensures { IfOk result (λ told. Tells in_rounds task lower.now script.now told.text told.status) }
 {
     match task {
         Task::Run { budget } => run_and_report(alloc, script, budget),
@@ -74,9 +96,20 @@ fn tell(alloc: Global, task: Task, script: &Script, lower: &[u8]) -> Result<Writ
 fn run_and_report(alloc: Global, script: &Script, budget: u64) -> Result<Written, NoMemory>
     requires budget { IsBudget budget }
     requires program { IsProgram script.now }
-    ensures { IfOk result (λ told. IsRunReport budget script.now told.text told.status) }
+    ensures { IfOk result (λ told. IsRunReport in_rounds budget script.now told.text told.status) }
 {
     let run = run_rounds(alloc, script, budget)?;
+    report(alloc, script, &run)
+}
+
+// The report of a run.
+fn report(alloc: Global, script: &Script, run: &Run) -> Result<Written, NoMemory>
+    requires program { IsProgram script.now }
+    requires callers { run.now.board.callers ≡ length script.now.threads }
+    requires ends { (way : Way) × (budget : ℕ) × RunEndsSo way budget script.now run.now.board.entries run.now.ending }
+    ensures { (way : Way) (budget : ℕ) → RunEndsSo way budget script.now run.now.board.entries run.now.ending
+        → IfOk result (λ told. IsRunReport way budget script.now told.text told.status) }
+{
     let hist = run.board.history();
     let text = report_of(alloc, script, hist, run.ending)?;
     Ok(Written {
@@ -95,10 +128,14 @@ fn print(alloc: Global, script: &Script) -> Result<Written, NoMemory>
     })
 }
 
-// The line that tells the fault of bytes that are no script.
+// The line that tells the fault of bytes that are no script; want of memory has none.
 fn fault(alloc: Global, fault: ScriptFault) -> Result<Written, NoMemory>
-    ensures { IfOk result (λ told. (told.text ≡ fault_line fault) × (told.status ≡ 5)) }
+    ensures named { IfOk result (λ told. fault ≢ faults.Memory) }
+    ensures line { IfOk result (λ told. (told.text ≡ fault_line fault) × (told.status ≡ 5)) }
 {
+    if matches!(fault, ScriptFault::Memory) {
+        return Err(NoMemory);
+    }
     let mut text = Vec::new(alloc);
     put_fault(&mut text, fault)?;
     Ok(Written {

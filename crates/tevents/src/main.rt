@@ -20,29 +20,38 @@ use std::env;
 use std::io::ErrorKind;
 use std::process::ExitCode;
 use te_io::{StdSink, StdSource};
+use te_runtime::OpenGate;
 
 fn main(rt: HostRuntime) -> ExitCode {
-    ExitCode::from(status(&rt))
+    let status = match words_of(&rt) {
+        Ok(words) => {
+            let mut source = StdSource::new(rt.reader());
+            let mut sink = StdSink::new(rt.stdout());
+            tevents(
+                &rt,
+                rt.alloc(),
+                words.as_slice(),
+                &mut source,
+                &mut sink,
+                &OpenGate,
+            )
+        }
+        Err(status) => status,
+    };
+    ExitCode::from(status)
 }
 
-/// The status of the program at its own words, input and output. A word that isn't text is a faulty
+/// The words behind the program's name, or the status with which it ends for want of them. A word that isn't text is a faulty
 /// command line, as any other word that isn't known.
-fn status(rt: &HostRuntime) -> u8 {
+fn words_of(rt: &HostRuntime) -> Result<Vec<String>, u8> {
     match env::args(rt) {
         Ok(words) => match words.skip(1).collect(rt.alloc()) {
-            Ok(words) => run(rt, &words),
-            Err(_) => 9,
+            Ok(words) => Ok(words),
+            Err(_) => Err(9),
         },
         Err(error) => match error.kind() {
-            ErrorKind::InvalidData => 2,
-            _ => 9,
+            ErrorKind::InvalidData => Err(2),
+            _ => Err(9),
         },
     }
-}
-
-/// Makes the call at these words, with standard input and output.
-fn run(rt: &HostRuntime, words: &Vec<String>) -> u8 {
-    let mut source = StdSource::new(rt.reader());
-    let mut sink = StdSink::new(rt.stdout());
-    tevents(rt.alloc(), words.as_slice(), &mut source, &mut sink)
 }

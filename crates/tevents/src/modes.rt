@@ -5,14 +5,18 @@ ghost use Rattle.te_io.specs.Stream.{GrewBy, GrewByPrefix};
 ghost use Rattle.te_io.specs.Causes.{Rose};
 ghost use Rattle.te_reader.specs.declared.fault.ScriptFault.{ScriptFault};
 ghost use Rattle.te_search.specs.Findings.{IsBudget};
+ghost use Rattle.tevents.specs.Runs.{in_rounds};
 ghost use Rattle.tevents.specs.FaultLines.{fault_line};
-ghost use Rattle.tevents.specs.Causes.{IsAnswer, IsSerialAnswer, IsPrintAnswer, IsCheckAnswer, IsLiftAnswer, IsTask, most_of, IsStatus, IsTold, IsSilent, IsReadWhole};
+ghost use Rattle.tevents.specs.Causes.{IsAnswer, IsSerialAnswer, IsRunAnswer, IsPrintAnswer, IsCheckAnswer, IsLiftAnswer, IsTask, most_of, IsStatus, IsTold, IsSilent, IsReadWhole};
 
-use crate::answering::{answer, write};
+use crate::answering::{answer, answer_by_threads, write};
 use crate::task::Task;
 use std::alloc::Global;
+use std::sync::Wait;
+use std::thread::Threads;
 use te_io::{ReadFault, Sink, Source, read_up_to};
 use te_reader::MOST_BYTES;
+use te_runtime::Gate;
 
 // Those of a script, of the line `---` with its line feed, and of a report.
 const MOST_BYTES_WITH_REPORT: usize = MOST_BYTES + 4 + 67_108_864;
@@ -42,6 +46,44 @@ pub(crate) fn serial_run<S: Source, K: Sink>(
         × GrewByPrefix (K.bytes_held sink.old) (K.bytes_held sink.new) written }
 {
     task_run(alloc, Task::Run { budget }, source, sink)
+}
+
+/// Runs each thread of the script that the source gives in a thread of its own, through the gate before each sync, by a
+/// budget of 1 to 1,000,000 for each search; runs in serial rounds what these leave undone; writes the report of the run to
+/// the sink, and answers the status of the program. It waits for all the threads that it starts.
+pub(crate) fn threads_run<R: Threads + Wait + Sync, S: Source, K: Sink, G: Gate + Sync>(
+    rt: &R,
+    alloc: Global,
+    budget: u64,
+    source: &mut S,
+    sink: &mut K,
+    gate: &G,
+) -> u8
+    requires { IsBudget budget }
+    ensures statuses { IsStatus result }
+    ensures told { IsTold result → (read : List ℕ) → S.bytes_left source.old ≡ Some read
+        → (written : List ℕ) × IsRunAnswer budget read written result
+        × GrewBy (K.bytes_held sink.old) (K.bytes_held sink.new) written }
+    ensures read_to_the_end { IsReadWhole result → (read : List ℕ) → S.bytes_left source.old ≡ Some read
+        → S.bytes_left source.new ≡ Some [] }
+    ensures line { result ≡ 5 → (fault : ScriptFault) × GrewBy (K.bytes_held sink.old) (K.bytes_held sink.new) (fault_line fault) }
+    ensures unwritten { IsSilent result → sink.new ≡ sink.old }
+    ensures known { result ≡ 2 → ⊥ }
+    ensures source_failed { result ≡ 3 → Rose (S.faults source.old) (S.faults source.new) }
+    ensures sink_failed { result ≡ 4 → Rose (K.faults sink.old) (K.faults sink.new) }
+    ensures cut_short { result ≡ 4 → (read : List ℕ) → S.bytes_left source.old ≡ Some read
+        → (written : List ℕ) × (status : ℕ) × IsRunAnswer budget read written status
+        × GrewByPrefix (K.bytes_held sink.old) (K.bytes_held sink.new) written }
+{
+    let bytes = match read_up_to(alloc, source, MOST_BYTES) {
+        Ok(bytes) => bytes,
+        Err(ReadFault::Failed) => return 3,
+        Err(ReadFault::Memory) => return 9,
+    };
+    match answer_by_threads(rt, alloc, budget, bytes.as_slice(), gate) {
+        Ok(told) => write(sink, &told),
+        Err(_) => 9,
+    }
 }
 
 /// Writes the canonical text of the script that the source gives to the sink, and answers the status of the program. It
@@ -131,7 +173,7 @@ fn task_run<S: Source, K: Sink>(alloc: Global, task: Task, source: &mut S, sink:
     requires { IsTask task }
     ensures statuses { IsStatus result }
     ensures told { IsTold result → (read : List ℕ) → S.bytes_left source.old ≡ Some read
-        → (written : List ℕ) × IsAnswer task read written result
+        → (written : List ℕ) × IsAnswer in_rounds task read written result
         × GrewBy (K.bytes_held sink.old) (K.bytes_held sink.new) written }
     ensures read_to_the_end { IsReadWhole result → (read : List ℕ) → S.bytes_left source.old ≡ Some read
         → S.bytes_left source.new ≡ Some [] }
@@ -141,7 +183,7 @@ fn task_run<S: Source, K: Sink>(alloc: Global, task: Task, source: &mut S, sink:
     ensures source_failed { result ≡ 3 → Rose (S.faults source.old) (S.faults source.new) }
     ensures sink_failed { result ≡ 4 → Rose (K.faults sink.old) (K.faults sink.new) }
     ensures cut_short { result ≡ 4 → (read : List ℕ) → S.bytes_left source.old ≡ Some read
-        → (written : List ℕ) × (status : ℕ) × IsAnswer task read written status
+        → (written : List ℕ) × (status : ℕ) × IsAnswer in_rounds task read written status
         × GrewByPrefix (K.bytes_held sink.old) (K.bytes_held sink.new) written }
 {
     let bytes = match read_up_to(alloc, source, most(task)) {

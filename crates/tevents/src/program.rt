@@ -6,25 +6,31 @@ ghost use Rattle.te_reader.specs.declared.fault.ScriptFault.{ScriptFault};
 ghost use Rattle.tevents.specs.declared.words.Words.{Words};
 ghost use Rattle.tevents.specs.declared.words.Mode.TheVariants as modes;
 ghost use Rattle.tevents.specs.Words.{Says, AreRefused};
-ghost use Rattle.tevents.specs.Headline.{IsHeadline};
+ghost use Rattle.tevents.specs.Headline.{mode_of, IsHeadline};
+ghost use Rattle.tevents.specs.Runs.{Way};
 ghost use Rattle.tevents.specs.FaultLines.{fault_line};
 ghost use Rattle.tevents.specs.Summaries.{IsSummary};
 ghost use Rattle.tevents.specs.Inputs.{HasLegalReport, IsCheckedInput, HasReport, IsLiftedInput};
 ghost use Rattle.tevents.specs.Causes.{IsStatus, IsDone, HasStopped, IsTold, IsReadWhole, IsSilent, IsScriptText, Answers};
 
 use crate::generating::gen_run;
-use crate::modes::{check_run, lift_run, print_run, serial_run};
+use crate::modes::{check_run, lift_run, print_run, serial_run, threads_run};
 use crate::words::{Mode, WordFault, read_words};
 use std::alloc::Global;
+use std::sync::Wait;
+use std::thread::Threads;
 use te_io::{Sink, Source};
+use te_runtime::Gate;
 
 /// Does what the words tell, and answers the status of the program. The words are those after the program's name: a
 /// mode, and the options `--budget N`, from 1 to 1,000,000, by default 100,000, and `--number N`, from 0 to 999, by
-/// default 0. An option that a mode doesn't use is ignored. The call waits for nobody, and returns.
+/// default 0. An option that a mode doesn't use is ignored. In the mode `run` the call starts threads, which pass the gate
+/// before each sync, and waits for them all; in every other mode it waits for nobody, and returns.
 ///
 /// | mode | does |
 /// |---|---|
 /// | `serial` | reads a script from the source, runs its threads in rounds, and writes the report of the run |
+/// | `run` | reads a script from the source, runs each of its threads in a thread of its own, and in rounds what these leave undone, and writes the report of the run |
 /// | `print` | reads a script from the source, and writes its canonical text |
 /// | `gen` | runs the generated script of the number in rounds, and writes a summary |
 /// | `check` | reads a script, a line `---` and a report, and decides whether the report is one of a whole legal run of the script |
@@ -32,28 +38,30 @@ use te_io::{Sink, Source};
 ///
 /// | status | when | written |
 /// |---|---|---|
-/// | 0 | done; of `serial`: the threads have run, and none ended stuck | the report, the text, or the summary |
-/// | 1 | `serial`: the threads have run, and one ended stuck | the report |
+/// | 0 | done; of `serial` and `run`: the threads have run, and none ended stuck | the report, the text, or the summary |
+/// | 1 | `serial`, `run`: the threads have run, and one ended stuck | the report |
 /// | 2 | the words are none of the command's, or their mode is none | nothing, and nothing is read |
 /// | 3 | the source failed | nothing |
 /// | 4 | the sink failed | a prefix of a text that the call could have written |
 /// | 5 | the bytes are no text of a script | the line of its fault, as `script fault 3 at 1:14` |
-/// | 6 | `serial`: the history had no room for a post and all that may follow it | the report of what was done by then |
-/// | 7 | `serial`, `gen`, `check`: a search has used up its budget | the report of what was done by then, the summary, or a line that tells it |
+/// | 6 | `serial`, `run`: the history had no room for a post and all that may follow it | the report of what was done by then |
+/// | 7 | `serial`, `run`, `gen`, `check`: a search has used up its budget | the report of what was done by then, the summary, or a line that tells it |
 /// | 8 | `check`, `lift`: the bytes behind the script are no report that the mode asks for | the line of the fault, as `report fault 3 at line 4` |
 /// | 9 | want of memory | nothing |
-pub fn tevents<S: Source, K: Sink>(
+pub fn tevents<R: Threads + Wait + Sync, S: Source, K: Sink, G: Gate + Sync>(
+    rt: &R,
     alloc: Global,
     words: &[String],
     source: &mut S,
     sink: &mut K,
+    gate: &G,
 ) -> u8
     ensures statuses { IsStatus result }
 
-    // 0 and 1 of `serial`: what was read is a script, and what was written is the report of one serial run of it.
-    ensures headline { IsDone result → (w : Words) → Says (map string_bytes words.now) w → w.mode ≡ modes.Serial
+    // 0 and 1 of `serial` and `run`: what was read is a script, and what was written is the report of one whole run of it.
+    ensures headline { IsDone result → (w : Words) → Says (map string_bytes words.now) w → (way : Way) → w.mode ≡ mode_of way
         → (read : List ℕ) → S.bytes_left source.old ≡ Some read
-        → (written : List ℕ) × IsHeadline read written result
+        → (written : List ℕ) × IsHeadline way read written result
         × GrewBy (K.bytes_held sink.old) (K.bytes_held sink.new) written }
 
     // 0 of `check` and `lift`: the first part is a script, and the other a report of it.
@@ -106,7 +114,7 @@ pub fn tevents<S: Source, K: Sink>(
         × GrewByPrefix (K.bytes_held sink.old) (K.bytes_held sink.new) written }
 
     // Where no end failed and there was memory, a script is run or printed.
-    ensures runs { (w : Words) → Says (map string_bytes words.now) w → w.mode ≡ modes.Serial
+    ensures runs { (w : Words) → Says (map string_bytes words.now) w → (way : Way) → w.mode ≡ mode_of way
         → (read : List ℕ) → S.bytes_left source.old ≡ Some read → IsScriptText read
         → ¬ Rose (S.faults source.old) (S.faults source.new) → ¬ Rose (K.faults sink.old) (K.faults sink.new)
         → result ≢ 9 → IsDone result ⊎ HasStopped result }
@@ -129,6 +137,7 @@ pub fn tevents<S: Source, K: Sink>(
     match read_words(alloc, words) {
         Ok(said) => match said.mode {
             Mode::Serial => serial_run(alloc, said.budget, source, sink),
+            Mode::Run => threads_run(rt, alloc, said.budget, source, sink, gate),
             Mode::Print => print_run(alloc, source, sink),
             Mode::Check => check_run(alloc, said.budget, source, sink),
             Mode::Lift => lift_run(alloc, source, sink),

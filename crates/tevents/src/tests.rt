@@ -4,13 +4,17 @@ mod modes;
 mod printing;
 mod reading;
 mod refusals;
+mod threads;
 mod wishing;
 
 use crate::program::tevents;
 use std::alloc::{AllocError, Global};
+use std::sync::Wait;
 use std::test::Fail;
+use std::thread::Threads;
 use te_io::{MemSink, MemSource, SteadySink, SteadySource};
 use te_reader::MOST_BYTES;
+use te_runtime::OpenGate;
 
 const EXCHANGE: &[u8] =
     b"channels c; thread a { x <- sync send c (7); } thread b { y <- sync recv c; emit y; }";
@@ -34,11 +38,22 @@ fn words(alloc: Global, spelled: &[&str]) -> Result<Vec<String>, AllocError> {
 }
 
 /// The status of `serial` at this script, and a sink with what it writes.
-fn serial(alloc: Global, script: &[u8]) -> Result<(u8, SteadySink), Fail> {
+fn serial<R: Threads + Wait + Sync>(
+    rt: &R,
+    alloc: Global,
+    script: &[u8],
+) -> Result<(u8, SteadySink), Fail> {
     let mut source = SteadySource::new(alloc, script)?;
     let mut sink = SteadySink::new(alloc, 10_000)?;
     let words = words(alloc, &["serial"])?;
-    let status = tevents(alloc, words.as_slice(), &mut source, &mut sink);
+    let status = tevents(
+        rt,
+        alloc,
+        words.as_slice(),
+        &mut source,
+        &mut sink,
+        &OpenGate,
+    );
     Ok((status, sink))
 }
 
@@ -91,7 +106,7 @@ fn scripts_have_these_reports(rt: HostRuntime) -> Result<(), Fail> {
         ),
         (&b""[..], 5, &b"script fault 8 at 1:1\n"[..]),
     ] {
-        let (answered, sink) = serial(rt.alloc(), script)?;
+        let (answered, sink) = serial(&rt, rt.alloc(), script)?;
         assert_eq!(rt; sink.bytes(), written);
         assert_eq!(rt; answered, status);
     }
@@ -101,6 +116,7 @@ fn scripts_have_these_reports(rt: HostRuntime) -> Result<(), Fail> {
 #[test]
 fn independent_pairs_commit_apart_in_either_order(rt: HostRuntime) -> Result<(), Fail> {
     let (status, sink) = serial(
+        &rt,
         rt.alloc(),
         b"channels c d; thread a { x <- sync send c (1); } thread b { x <- sync recv c; } \
             thread e { x <- sync send d (2); } thread f { x <- sync recv d; }",
@@ -133,11 +149,11 @@ fn sixty_four_threads_end_and_one_more_is_refused(rt: HostRuntime) -> Result<(),
         report.push_str(&format!(in rt.alloc(); "{} end t{number} done\n", number + 1)?)?;
     }
     report.push_str("closed 64\n")?;
-    let (status, sink) = serial(rt.alloc(), script.as_bytes())?;
+    let (status, sink) = serial(&rt, rt.alloc(), script.as_bytes())?;
     assert_eq!(rt; sink.bytes(), report.as_bytes());
     assert_eq!(rt; status, 0);
     script.push_str("thread t64 { }\n")?;
-    let (status, sink) = serial(rt.alloc(), script.as_bytes())?;
+    let (status, sink) = serial(&rt, rt.alloc(), script.as_bytes())?;
     assert_eq!(rt; sink.bytes(), &b"script fault 9 (threads) at 65:1\n"[..]);
     assert_eq!(rt; status, 5);
     Ok(())
@@ -147,14 +163,14 @@ fn sixty_four_threads_end_and_one_more_is_refused(rt: HostRuntime) -> Result<(),
 fn a_script_has_at_most_its_limit_of_bytes(rt: HostRuntime) -> Result<(), Fail> {
     let mut script = Vec::from_slice(rt.alloc(), b"thread a { }")?;
     script.resize(MOST_BYTES, b' ')?;
-    let (status, sink) = serial(rt.alloc(), script.as_slice())?;
+    let (status, sink) = serial(&rt, rt.alloc(), script.as_slice())?;
     assert_eq!(rt;
         sink.bytes(),
         &b"tevents report 2\n1 end a done\nclosed 1\n"[..]
     );
     assert_eq!(rt; status, 0);
     script.push(b' ')?;
-    let (status, sink) = serial(rt.alloc(), script.as_slice())?;
+    let (status, sink) = serial(&rt, rt.alloc(), script.as_slice())?;
     assert_eq!(rt; sink.bytes(), &b"script fault 9 (bytes) at 1:1\n"[..]);
     assert_eq!(rt; status, 5);
     Ok(())
@@ -172,13 +188,21 @@ fn other_words_are_refused_and_nothing_is_touched(rt: HostRuntime) -> Result<(),
         &["--help"][..],
         &["serial", "--budget", "0"][..],
         &["serial", "--budget", "1000001"][..],
+        &["run", "--budget", "0"][..],
         &["gen", "--number", "1000"][..],
         &["gen", "--number"][..],
     ] {
         let words = words(rt.alloc(), spelled)?;
         let mut source = SteadySource::new(rt.alloc(), EXCHANGE)?;
         let mut sink = SteadySink::new(rt.alloc(), 10_000)?;
-        let status = tevents(rt.alloc(), words.as_slice(), &mut source, &mut sink);
+        let status = tevents(
+            &rt,
+            rt.alloc(),
+            words.as_slice(),
+            &mut source,
+            &mut sink,
+            &OpenGate,
+        );
         assert_eq!(rt; status, 2);
         assert_eq!(rt; sink.bytes(), &b""[..]);
     }
@@ -197,7 +221,14 @@ fn a_failing_end_is_told(rt: HostRuntime) -> Result<(), Fail> {
     ] {
         let mut source = MemSource::new(rt.alloc(), EXCHANGE, 40, source_fails)?;
         let mut sink = MemSink::new(rt.alloc(), 10_000, 10, sink_fails)?;
-        let answered = tevents(rt.alloc(), words.as_slice(), &mut source, &mut sink);
+        let answered = tevents(
+            &rt,
+            rt.alloc(),
+            words.as_slice(),
+            &mut source,
+            &mut sink,
+            &OpenGate,
+        );
         assert_eq!(rt; sink.bytes(), held);
         assert_eq!(rt; answered, status);
     }

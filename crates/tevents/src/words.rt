@@ -16,6 +16,7 @@ use std::alloc::{AllocError, Global};
 #[derive(Clone, Copy, PartialEq, Eq, Debug)]
 pub(crate) enum Mode {
     Serial,
+    Run,
     Print,
     Gen,
     Check,
@@ -116,6 +117,7 @@ fn mode_of(text: &str) -> Option<Mode>
 {
     match text {
         "serial" => Some(Mode::Serial),
+        "run" => Some(Mode::Run),
         "print" => Some(Mode::Print),
         "gen" => Some(Mode::Gen),
         "check" => Some(Mode::Check),

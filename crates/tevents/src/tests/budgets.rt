@@ -8,9 +8,12 @@ use super::{EXCHANGE, words};
 use crate::program::tevents;
 use crate::running::run_rounds;
 use std::alloc::Global;
+use std::sync::Wait;
 use std::test::Fail;
+use std::thread::Threads;
 use te_io::{SteadySink, SteadySource};
 use te_reader::read_script;
+use te_runtime::OpenGate;
 use te_script::{Script, generate};
 use te_search::enough;
 
@@ -24,12 +27,24 @@ fn enough_at_first(alloc: Global, script: &Script) -> Result<Option<u64>, Fail>
 }
 
 /// The status of `serial` by a budget.
-fn status_by(alloc: Global, budget: u64, script: &[u8]) -> Result<u8, Fail> {
+fn status_by<R: Threads + Wait + Sync>(
+    rt: &R,
+    alloc: Global,
+    budget: u64,
+    script: &[u8],
+) -> Result<u8, Fail> {
     let number = format!(in alloc; "{budget}")?;
     let words = words(alloc, &["serial", "--budget", number.as_str()])?;
     let mut source = SteadySource::new(alloc, script)?;
     let mut sink = SteadySink::new(alloc, 10_000)?;
-    Ok(tevents(alloc, words.as_slice(), &mut source, &mut sink))
+    Ok(tevents(
+        rt,
+        alloc,
+        words.as_slice(),
+        &mut source,
+        &mut sink,
+        &OpenGate,
+    ))
 }
 
 #[test]
@@ -47,7 +62,7 @@ fn a_budget_that_is_enough_ends_the_run(rt: HostRuntime) -> Result<(), Fail> {
     ] {
         let script = read_script(alloc, bytes).ok().ok_or("a script")?;
         assert_eq!(rt; enough_at_first(alloc, &script)?, Some(budget));
-        assert_eq!(rt; status_by(alloc, budget, bytes)?, status);
+        assert_eq!(rt; status_by(&rt, alloc, budget, bytes)?, status);
     }
     let rings = generate(alloc, 20)?;
     assert_eq!(rt; enough_at_first(alloc, &rings)?, None);

@@ -3,8 +3,11 @@
 use super::{EXCHANGE, EXCHANGE_REPORT, serial, words};
 use crate::program::tevents;
 use std::alloc::Global;
+use std::sync::Wait;
 use std::test::Fail;
+use std::thread::Threads;
 use te_io::{SteadySink, SteadySource};
+use te_runtime::OpenGate;
 
 // The report of the exchange in the first version, line by line.
 const LINES: [&[u8]; 9] = [
@@ -31,7 +34,8 @@ fn without_line(alloc: Global, left_out: usize) -> Result<Vec<u8>, Fail> {
 }
 
 /// The status of a call with these words at a script, a line `---` and a report, and a sink with what it writes.
-fn call(
+pub(super) fn call<R: Threads + Wait + Sync>(
+    rt: &R,
     alloc: Global,
     spelled: &[&str],
     script: &[u8],
@@ -43,7 +47,14 @@ fn call(
     let mut source = SteadySource::new(alloc, input.as_slice())?;
     let mut sink = SteadySink::new(alloc, 10_000)?;
     let words = words(alloc, spelled)?;
-    let status = tevents(alloc, words.as_slice(), &mut source, &mut sink);
+    let status = tevents(
+        rt,
+        alloc,
+        words.as_slice(),
+        &mut source,
+        &mut sink,
+        &OpenGate,
+    );
     Ok((status, sink))
 }
 
@@ -144,7 +155,7 @@ const CHECKS: &[(&[&str], &[u8], &[u8], u8, &[u8])] = &[
 #[test]
 fn reports_are_decided_and_lifted(rt: HostRuntime) -> Result<(), Fail> {
     for (spelled, script, report, status, written) in CHECKS {
-        let (answered, sink) = call(rt.alloc(), spelled, script, report)?;
+        let (answered, sink) = call(&rt, rt.alloc(), spelled, script, report)?;
         assert_eq!(rt; sink.bytes(), *written);
         assert_eq!(rt; answered, *status);
     }
@@ -158,7 +169,7 @@ fn a_report_without_a_line_is_refused_there(rt: HostRuntime) -> Result<(), Fail>
         (&["check"][..], 0, &b"legal 7\n"[..]),
         (&["lift"][..], 0, EXCHANGE_REPORT),
     ] {
-        let (answered, sink) = call(rt.alloc(), spelled, EXCHANGE, whole.as_slice())?;
+        let (answered, sink) = call(&rt, rt.alloc(), spelled, EXCHANGE, whole.as_slice())?;
         assert_eq!(rt; sink.bytes(), written);
         assert_eq!(rt; answered, status);
     }
@@ -171,7 +182,7 @@ fn a_report_without_a_line_is_refused_there(rt: HostRuntime) -> Result<(), Fail>
             4
         };
         let text = without_line(rt.alloc(), n)?;
-        let (answered, sink) = call(rt.alloc(), &["check"], EXCHANGE, text.as_slice())?;
+        let (answered, sink) = call(&rt, rt.alloc(), &["check"], EXCHANGE, text.as_slice())?;
         let wanted = format!(in rt.alloc(); "report fault {fault} at line {n}\n")?;
         assert_eq!(rt; sink.bytes(), wanted.as_bytes());
         assert_eq!(rt; answered, 8);
@@ -227,14 +238,20 @@ pub(super) fn traders(alloc: Global, turned: bool) -> Result<String, Fail> {
 #[test]
 fn the_traders_run_is_legal(rt: HostRuntime) -> Result<(), Fail> {
     let script = traders(rt.alloc(), false)?;
-    let (status, report) = serial(rt.alloc(), script.as_bytes())?;
+    let (status, report) = serial(&rt, rt.alloc(), script.as_bytes())?;
     assert!(rt;
         report.bytes().ends_with(
             b"97 end a done ()\n98 end b done (7)\n99 end c done (22)\n100 end d done (20)\n101 end e done (21)\nclosed 101\n"
         )
     );
     assert_eq!(rt; status, 0);
-    let (status, sink) = call(rt.alloc(), &["check"], script.as_bytes(), report.bytes())?;
+    let (status, sink) = call(
+        &rt,
+        rt.alloc(),
+        &["check"],
+        script.as_bytes(),
+        report.bytes(),
+    )?;
     assert_eq!(rt; sink.bytes(), &b"legal 101\n"[..]);
     assert_eq!(rt; status, 0);
     Ok(())

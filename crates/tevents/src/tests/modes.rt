@@ -4,8 +4,11 @@ use super::checks::BRANCHES;
 use super::{serial, words};
 use crate::program::tevents;
 use std::alloc::Global;
+use std::sync::Wait;
 use std::test::Fail;
+use std::thread::Threads;
 use te_io::{SteadySink, SteadySource};
+use te_runtime::OpenGate;
 
 // Three threads that pass a number round: no two of them can commit.
 pub(super) const RING: &[u8] =
@@ -98,7 +101,7 @@ const REPORTS: &[(&[u8], u8, &[u8])] = &[
 #[test]
 fn scripts_of_the_whole_language_have_these_reports(rt: HostRuntime) -> Result<(), Fail> {
     for (script, status, report) in REPORTS {
-        let (answered, sink) = serial(rt.alloc(), script)?;
+        let (answered, sink) = serial(&rt, rt.alloc(), script)?;
         let mut text = Vec::from_slice(rt.alloc(), b"tevents report 2\n")?;
         text.extend_from_slice(report)?;
         assert_eq!(rt; sink.bytes(), text.as_slice());
@@ -108,11 +111,22 @@ fn scripts_of_the_whole_language_have_these_reports(rt: HostRuntime) -> Result<(
 }
 
 /// The status of a call with these words and nothing to read, and a sink with what it writes.
-fn call(alloc: Global, spelled: &[&str]) -> Result<(u8, SteadySink), Fail> {
+fn call<R: Threads + Wait + Sync>(
+    rt: &R,
+    alloc: Global,
+    spelled: &[&str],
+) -> Result<(u8, SteadySink), Fail> {
     let mut source = SteadySource::new(alloc, b"")?;
     let mut sink = SteadySink::new(alloc, 1_000)?;
     let words = words(alloc, spelled)?;
-    let status = tevents(alloc, words.as_slice(), &mut source, &mut sink);
+    let status = tevents(
+        rt,
+        alloc,
+        words.as_slice(),
+        &mut source,
+        &mut sink,
+        &OpenGate,
+    );
     Ok((status, sink))
 }
 
@@ -135,7 +149,7 @@ fn generated_scripts_have_these_summaries(rt: HostRuntime) -> Result<(), Fail> {
             &b"gen 0 spent front 3 paths 1 groups 0\n"[..],
         ),
     ] {
-        let (answered, sink) = call(rt.alloc(), spelled)?;
+        let (answered, sink) = call(&rt, rt.alloc(), spelled)?;
         assert_eq!(rt; sink.bytes(), summary);
         assert_eq!(rt; answered, status);
     }
@@ -147,7 +161,14 @@ fn a_budget_that_is_used_up_is_told(rt: HostRuntime) -> Result<(), Fail> {
     let words = words(rt.alloc(), &["serial", "--budget=1"])?;
     let mut source = SteadySource::new(rt.alloc(), RING)?;
     let mut sink = SteadySink::new(rt.alloc(), 1_000)?;
-    let status = tevents(rt.alloc(), words.as_slice(), &mut source, &mut sink);
+    let status = tevents(
+        &rt,
+        rt.alloc(),
+        words.as_slice(),
+        &mut source,
+        &mut sink,
+        &OpenGate,
+    );
     assert_eq!(rt;
         sink.bytes(),
         &b"tevents report 2\n1 post a 0 at 1.0\n2 post b 0 at 1.0\n3 post c 0 at 1.0\n\
@@ -165,7 +186,14 @@ fn a_history_that_is_full_is_told(rt: HostRuntime) -> Result<(), Fail> {
     let mut source = SteadySource::new(rt.alloc(), script)?;
     let mut sink = SteadySink::new(rt.alloc(), 10_000_000)?;
     let words = words(rt.alloc(), &["serial"])?;
-    let status = tevents(rt.alloc(), words.as_slice(), &mut source, &mut sink);
+    let status = tevents(
+        &rt,
+        rt.alloc(),
+        words.as_slice(),
+        &mut source,
+        &mut sink,
+        &OpenGate,
+    );
     assert_eq!(rt; status, 6);
     assert!(rt;
         sink.bytes()

@@ -10,7 +10,8 @@ use Rattle.te_history.specs.Histories.{now}
 use Rattle.te_history.proofs.AfterEntry.{length-state}
 use Rattle.te_history.proofs.CanPlay.{event_of}
 use Rattle.te_history.proofs.Commits.{same_or_other}
-use Rattle.te_board.proofs.ParkedLists.{other_next, agrees_more, too_short, another, at_end, not_at_end}
+use Rattle.te_history.proofs.ParkedLists.{other_next}
+use Rattle.te_board.proofs.ParkedLists.{agrees_more, too_short, another, at_end, not_at_end}
 use Rattle.te_board.proofs.matching.are_parked.Goals as goal
 
 beyond : (a b : ℕ) → false ≡ ltb a b → b ≤ a

@@ -1,7 +1,14 @@
-use Rattle.std.proofs.Common.{arith, ◌≡◌, ◌≤◌, ◌<◌, ◌+◌, ◌∷◌, [], ◌∙◌, ap, sym, None, Some, length, length-append}
+use Rattle.std.proofs.Common.{arith, ◌≡◌, ◌≤◌, ◌<◌, ◌+◌, ◌∷◌, [], ◌∙◌, ap, sym, None, Some, length, map, length-append}
+use Rattle.te_trail.specs.Trails.{label_of}
 use Rattle.te_terms.proofs.Lists.{get_at, get_some}
 use Rattle.te_search.proofs.PastsJoined.{trail_untold, trail_without, trail_with, none_at, as_long}
 use Rattle.te_search.proofs.certifying.joint_trail.Goals as goal
+
+pub moves-init : goal.moves-init
+moves-init c = (
+  (let n : length c.new-word.result.items ≡ 0 = ap length c.new-word.ensures.items in omega (arith, n)),
+  λ ps p. ap (map label_of) c.new-word.ensures.items ∙ sym (c.requires.none ps p),
+)
 
 pub moves-preserved-in_default : goal.moves-preserved-in_default
 moves-preserved-in_default c = (

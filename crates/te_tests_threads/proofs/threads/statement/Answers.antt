@@ -13,11 +13,13 @@ IsPlain e = (written channels : ℕ) → IsEvent (record { written = written; le
 
 first_of : (channels : ℕ) (code : List Node) (e : Expr) → code ≡ nodes.Always e ∷ [] → IsPlain e → AreStatements channels 1 0 (sync 0 (term_under code 0) ∷ [])
 first_of channels code e is plain =
-    subst (λ (ns : List Node). AreStatements channels 1 0 (sync 0 (term_under ns 0) ∷ [])) (sym is) (omega arith, plain 0 channels, record { low = omega arith; few = omega arith; few_fresh = omega arith }, refl)
+    subst (λ (ns : List Node). AreStatements channels 1 0 (sync 0 (term_under ns 0) ∷ [])) (sym is)
+    (omega arith, plain 0 channels, record { low = omega arith; few = omega arith; few_fresh = omega arith }, refl)
 
 later_of : (channels : ℕ) (code : List Node) (e : Expr) → code ≡ nodes.Always e ∷ [] → IsPlain e → AreStatements channels 1 1 (sync 0 (term_under code 0) ∷ [])
 later_of channels code e is plain =
-    subst (λ (ns : List Node). AreStatements channels 1 1 (sync 0 (term_under ns 0) ∷ [])) (sym is) (omega arith, plain 1 channels, record { low = omega arith; few = omega arith; few_fresh = omega arith }, refl)
+    subst (λ (ns : List Node). AreStatements channels 1 1 (sync 0 (term_under ns 0) ∷ [])) (sym is)
+    (omega arith, plain 1 channels, record { low = omega arith; few = omega arith; few_fresh = omega arith }, refl)
 
 pub returns-in_ok-code-in-Some-clause-first : goal.returns-in_ok-code-in-Some-clause-first
 returns-in_ok-code-in-Some-clause-first c = λ channels. first_of channels c.in_ok-code-in-Some.code.value c.integer.result c.in_ok-code-in-Some.ensures c.integer.ensures

@@ -25,6 +25,25 @@ returns-in-Serial-clause-cut_short g c = λ four w says read left.
       answer.3,
     )
 
+pub returns-in-Run-clause-told : goal.returns-in-Run-clause-told
+returns-in-Run-clause-told g c = λ told w says read left.
+    let answer = c.threads_run.ensures.told told read left in (
+      answer.0,
+      answers_in w c.in-Ok.said modes.Run read answer.0 c.threads_run.result
+          (says_once (map string_bytes c.args.words.now) w c.in-Ok.said says c.in-Ok.ensures.ok) c.in-Run.is answer.1,
+      answer.2,
+    )
+
+pub returns-in-Run-clause-cut_short : goal.returns-in-Run-clause-cut_short
+returns-in-Run-clause-cut_short g c = λ four w says read left.
+    let answer = c.threads_run.ensures.cut_short four read left in (
+      answer.0,
+      answer.1,
+      answers_in w c.in-Ok.said modes.Run read answer.0 answer.1
+          (says_once (map string_bytes c.args.words.now) w c.in-Ok.said says c.in-Ok.ensures.ok) c.in-Run.is answer.2,
+      answer.3,
+    )
+
 pub returns-in-Print-clause-told : goal.returns-in-Print-clause-told
 returns-in-Print-clause-told g c = λ told w says read left.
     let answer = c.print_run.ensures.told told read left in (

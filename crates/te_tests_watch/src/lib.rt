@@ -1,0 +1,7 @@
+//! Tests of observers, as their callers use them.
+#![tactic(auto)]
+
+#[cfg(test)]
+mod calls;
+#[cfg(test)]
+mod rows;

@@ -1,0 +1,4 @@
+pub mod Shadowing
+pub mod OneName
+pub mod Counting
+pub mod NewsPublished
