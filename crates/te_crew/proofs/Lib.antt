@@ -1,1 +1,1 @@
-mod BatchesOfNumbers
+pub mod BatchesOfNumbers

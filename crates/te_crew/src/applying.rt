@@ -22,8 +22,9 @@ fn take_at(looks: &mut [Option<Look>], i: usize) -> Option<Look>
     looks[i].take()
 }
 
-// Each path of the batch does what its look says: the certificate of a group, where one is found on the way.
-pub(crate) fn apply_all(
+/// Each path of the batch does what its look says: the certificate of a group, where one is found on the way. A path without
+/// a look had no memory for it. It is public for the crates above alone, as those of `looking` are.
+pub fn apply_all(
     search: &mut Search,
     batch: &[u32],
     looks: &mut [Option<Look>],

@@ -1,6 +1,6 @@
 // The looks at the paths of a batch, shared among workers.
 
-ghost use Rattle.std.specs.Prelude.{◌≡◌, ◌<◌, ◌≤◌, ℕ, length, slice_get, IfOk, IfSome, Some};
+ghost use Rattle.std.specs.Prelude.{◌≡◌, ◌<◌, ◌≤◌, ℕ, length, slice_get, All, IfOk, IfSome, Some, None};
 ghost use Rattle.te_search.specs.Batches.{IsLook};
 ghost use Rattle.te_crew.specs.Shares.{HasBatch, AreLooks, IsCrew};
 
@@ -27,9 +27,9 @@ fn compares_many(search: &Search, batch: &[u32]) -> bool
     false
 }
 
-// How many workers look at the paths of a batch: one alone, where few kept ends are compared. A path is compared with no
-// more ends than there are paths up to the last of its batch.
-fn crew_for(search: &Search, batch: &[u32], workers: u32) -> usize
+/// How many workers look at the paths of a batch: one alone, where few kept ends are compared. A path is compared with no
+/// more ends than there are paths up to the last of its batch. It is public for the crates above alone.
+pub fn crew_for(search: &Search, batch: &[u32], workers: u32) -> usize
     requires batch { HasBatch search.now batch.now }
     requires workers { IsCrew workers }
     ensures some { 0 < result }
@@ -46,9 +46,10 @@ fn crew_for(search: &Search, batch: &[u32], workers: u32) -> usize
     }
 }
 
-// No look yet, for each of so many paths.
-fn no_looks(alloc: Global, count: usize) -> Result<Vec<Option<Look>>, NoMemory>
-    ensures { IfOk result (λ looks. length looks.items ≡ count) }
+/// No look yet, for each of so many paths. It is public for the crates above alone.
+pub fn no_looks(alloc: Global, count: usize) -> Result<Vec<Option<Look>>, NoMemory>
+    ensures count { IfOk result (λ looks. length looks.items ≡ count) }
+    ensures none { IfOk result (λ looks. All (λ look. look ≡ None) looks.items) }
 {
     let mut looks = Vec::new(alloc);
     while looks.len() < count {
@@ -57,8 +58,8 @@ fn no_looks(alloc: Global, count: usize) -> Result<Vec<Option<Look>>, NoMemory>
     Ok(looks)
 }
 
-// The look at the path at a place of the batch, where there is memory for it.
-fn look_at(search: &Search, batch: &[u32], i: usize) -> Option<Look>
+/// The look at the path at a place of the batch, where there is memory for it. It is public for the crates above alone.
+pub fn look_at(search: &Search, batch: &[u32], i: usize) -> Option<Look>
     requires batch { HasBatch search.now batch.now }
     requires place { i < length batch.now }
     ensures { IfSome result (λ look. (p : ℕ) → slice_get batch.now i ≡ Some p → IsLook search.now p look) }
@@ -69,9 +70,9 @@ fn look_at(search: &Search, batch: &[u32], i: usize) -> Option<Look>
     }
 }
 
-// The looks at the paths of the batch, in order, by so many workers: each takes a piece of the batch, and none waits for
-// another. Where no thread can be made, they work one after another.
-pub(crate) fn looks_of<R: Threads + Sync>(
+/// The looks at the paths of the batch, in order, by so many workers: each takes a piece of the batch, and none waits for
+/// another. Where no thread can be made, they work one after another. It is public for the crates above alone.
+pub fn looks_of<R: Threads + Sync>(
     rt: &R,
     alloc: Global,
     search: &Search,
