@@ -68,7 +68,8 @@ pub begun : (s : Stack) (i : ℕ) (l : Level) → HasLevels s → slice_get s.le
 begun s i l h e = record { mark = m.0; level = k; same = same; low = omega (arith, same, k.before.paths) }
   where
     m : (m : Mark) × (slice_get s.work.store.marks i ≡ Some m)
-    m = get_some s.work.store.marks i (let a : i < length s.levels.items = get_low s.levels.items l i e in let b : length s.levels.items ≡ length s.work.store.marks = h.levels.as_long in omega (arith, a, b))
+    m = get_some s.work.store.marks i (let a : i < length s.levels.items = get_low s.levels.items l i e in
+        let b : length s.levels.items ≡ length s.work.store.marks = h.levels.as_long in omega (arith, a, b))
 
     k : IsLevel (lists_of s.work) i l m.0
     k = h.levels.each i l m.0 e m.1

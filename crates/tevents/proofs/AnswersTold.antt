@@ -166,7 +166,8 @@ done_closes : (status : ℕ) → IsDone status → (status ≡ 6 → ⊥) × (st
 done_closes status (inl z) = (λ e. omega (arith, z, e), λ e. omega (arith, z, e))
 done_closes status (inr o) = (λ e. omega (arith, o, e), λ e. omega (arith, o, e))
 
-headline_of_run : (way : Way) (budget : ℕ) (read written : List ℕ) (status : ℕ) (script : Program) → Text read script → IsRunReport way budget script written status → IsDone status → IsHeadline way read written status
+headline_of_run : (way : Way) (budget : ℕ) (read written : List ℕ) (status : ℕ) (script : Program) → Text read script
+    → IsRunReport way budget script written status → IsDone status → IsHeadline way read written status
 headline_of_run way budget read written status script text told done = by told.ending refl
   where
     by : (e : Ending) → told.ending ≡ e → IsHeadline way read written status

@@ -23,12 +23,14 @@ none_generated number = all_each HasNoRepeat (generated_thread (rounds_of number
 
 -- ---- the summary of a run
 
-has_summary : (number budget : ℕ) (p : Program) (history : List Entry) (ending : Ending) → IsProgram p → p ≡ generated number → RunEndsSo in_rounds budget p history ending → HasSummary ending
+has_summary : (number budget : ℕ) (p : Program) (history : List Entry) (ending : Ending) → IsProgram p → p ≡ generated number
+    → RunEndsSo in_rounds budget p history ending → HasSummary ending
 has_summary number budget p history endings.Closed is same run = tt
 has_summary number budget p history endings.Full is same run = never_full p is (subst HasNoRepeats (sym same) (none_generated number)) history run.0.run run.1
 has_summary number budget p history (endings.Spent front paths groups) is same run = tt
 
-pub summarised : (number budget : ℕ) (p : Program) (history : List Entry) (ending : Ending) (written : List ℕ) (status : ℕ) → IsProgram p → p ≡ generated number → RunEndsSo in_rounds budget p history ending
+pub summarised : (number budget : ℕ) (p : Program) (history : List Entry) (ending : Ending) (written : List ℕ) (status : ℕ) → IsProgram p
+    → p ≡ generated number → RunEndsSo in_rounds budget p history ending
     → written ≡ summary_text number (length p.threads) history ending → status ≡ summary_status ending → IsSummary number budget written status
 summarised number budget p history ending written status is same run text told = record {
   history = history;

@@ -261,7 +261,8 @@ module _ (callers : ℕ) (threads : List Thread) (h : List Entry) (c : IsCounted
       → ((by ticket : ℕ) (event : Term) → e ≢ entries.Post by ticket event) → (changed s e).callers ≡ s.callers
       → LooselyFollows callers h e → IsCounted callers threads (h ++ e ∷ [])
   stood e none takes no_withdrawal other same follows = record {
-    each = λ t x st. still t x e (none t) (takes t) (no_withdrawal t) (c.each t x (subst (λ (cs : List Standing). slice_get cs t ≡ Some x) same (subst (λ (z : State). Stands z t x) (state-after callers h e) st)));
+    each = λ t x st. still t x e (none t) (takes t) (no_withdrawal t)
+        (c.each t x (subst (λ (cs : List Standing). slice_get cs t ≡ Some x) same (subst (λ (z : State). Stands z t x) (state-after callers h e) st)));
     few = few_still e none;
     room = room_still e follows other none;
   }

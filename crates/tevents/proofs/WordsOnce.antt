@@ -13,7 +13,8 @@ abbrev letter : Mode → ℕ
 letter m = slice_index (mode_name m) 0
 
 abbrev mode_of_letter : ℕ → Mode
-mode_of_letter n = if nat_eq n 115 then modes.Serial else (if nat_eq n 114 then modes.Run else (if nat_eq n 112 then modes.Print else (if nat_eq n 103 then modes.Gen else (if nat_eq n 99 then modes.Check else modes.Lift))))
+mode_of_letter n = if nat_eq n 115 then modes.Serial else (if nat_eq n 114 then modes.Run else (if nat_eq n 112 then modes.Print
+    else (if nat_eq n 103 then modes.Gen else (if nat_eq n 99 then modes.Check else modes.Lift))))
 
 letter_tells : (m : Mode) → mode_of_letter (letter m) ≡ m
 letter_tells modes.Serial = refl

@@ -51,7 +51,8 @@ invariant_of-result g c =
     c.compare_exchange-found.ensures.7 c.if-found-front.true
     ∙ (ap (λ s. all_of s.log ++ c.plain-offer.result.ask.items) c.again-seen.ensures ∙ ap (λ (b : Batch). all_of old ++ b.items) c.plain-offer.ensures.1) in
     let shown : shadow_of c.after-view.result ≡ shadow view.callers (all_of old ++ news) =
-    c.after-view.ensures.shadow ∙ (ap (λ (es : List Entry). shadow_from (shadow_of view) es) c.as_slice.ensures) ∙ (ap (λ (s : Shadow). shadow_from s news) c.notice.invariant.0 ∙ sym (shadow-from view.callers (all_of old) news)) in
+    c.after-view.ensures.shadow ∙ (ap (λ (es : List Entry). shadow_from (shadow_of view) es) c.as_slice.ensures)
+    ∙ (ap (λ (s : Shadow). shadow_from s news) c.notice.invariant.0 ∙ sym (shadow-from view.callers (all_of old) news)) in
     let law : IsLawful view.callers (all_of old ++ news) =
     subst (λ (p : Published). IsLawful p.watch.callers (p.list ++ news)) (sym c.notice.view_is) c.requires.law in
     let new = all_of c.compare_exchange-found.new.seen.log in (

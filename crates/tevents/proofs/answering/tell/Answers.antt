@@ -19,10 +19,13 @@ returns-in-Run c = told_so in_rounds (λ told. told.text) (λ told. told.status)
     (tasks.Run c.in-Run.budget) c.args.lower.now c.args.script.now c.in-Run.is c.run_and_report.ensures
 
 pub returns-in-Print : goal.returns-in-Print
-returns-in-Print c = told_so in_rounds (λ told. told.text) (λ told. told.status) c.print.result c.args.task tasks.Print c.args.lower.now c.args.script.now c.in-Print.is c.print.ensures
+returns-in-Print c = told_so in_rounds (λ told. told.text) (λ told. told.status) c.print.result c.args.task
+    tasks.Print c.args.lower.now c.args.script.now c.in-Print.is c.print.ensures
 
 pub returns-in-Check : goal.returns-in-Check
-returns-in-Check c = told_so in_rounds (λ told. told.text) (λ told. told.status) c.check.result c.args.task (tasks.Check c.in-Check.budget) c.args.lower.now c.args.script.now c.in-Check.is c.check.ensures
+returns-in-Check c = told_so in_rounds (λ told. told.text) (λ told. told.status) c.check.result c.args.task
+    (tasks.Check c.in-Check.budget) c.args.lower.now c.args.script.now c.in-Check.is c.check.ensures
 
 pub returns-in-Lift : goal.returns-in-Lift
-returns-in-Lift c = told_so in_rounds (λ told. told.text) (λ told. told.status) c.lift.result c.args.task tasks.Lift c.args.lower.now c.args.script.now c.in-Lift.is c.lift.ensures
+returns-in-Lift c = told_so in_rounds (λ told. told.text) (λ told. told.status) c.lift.result c.args.task
+    tasks.Lift c.args.lower.now c.args.script.now c.in-Lift.is c.lift.ensures

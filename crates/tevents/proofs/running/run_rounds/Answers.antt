@@ -13,7 +13,8 @@ first_board : (script : Program) (board : BoardLog) (callers : ℕ) → board �
     → board ≡ record { callers = length script.threads; entries = [] }
 first_board script board callers is count = is ∙ ap (λ (n : ℕ). record { callers = n; entries = [] }) count
 
-begun : (script : Program) (board : BoardLog) (cores : List At) → board ≡ record { callers = length script.threads; entries = [] } → cores ≡ fresh_cores script.threads → IsBegun in_rounds script board cores
+begun : (script : Program) (board : BoardLog) (cores : List At) → board ≡ record { callers = length script.threads; entries = [] }
+    → cores ≡ fresh_cores script.threads → IsBegun in_rounds script board cores
 begun script board cores is fresh =
     subst (λ (b : BoardLog). IsBegun in_rounds script b cores) (sym is) (record {
       callers = refl;
