@@ -15,5 +15,3 @@ mod looking;
 mod pair;
 #[cfg(test)]
 mod seeded;
-#[cfg(test)]
-mod steal;
