@@ -1,11 +1,11 @@
 #!/usr/bin/env python3
-"""Measures `find_with` against `find` on lists that can't commit.
+"""Measures `find_with` and `find_steal` against `find` on lists that can't commit.
 
-    bench/crew.py [--runs N]
+    bench/crew.py [--runs N] [--instructions]
 
 It proves and builds the program bench/crew.rattle over copies of the crates in a temporary folder, and a second time with each
 look taken twice, which tells the share of the looks. Each time is the least of N runs (9), by the clock; the runs of one list
-take turns.
+take turns. With --instructions, callgrind counts those of one run each on the first list instead, for machines that others use.
 
 blocked   one thread receives from each of 14 or 15 others, which each choose what to send, and can't go on with any sum:
           65,575 or 131,114 paths, of which each is compared with two ends at most.
@@ -13,6 +13,7 @@ apart     2^8 to 2^12 ends each for sending and for receiving on one channel, of
 """
 import argparse
 import os
+import re
 import shutil
 import subprocess
 import sys
@@ -22,6 +23,7 @@ import time
 TOP = os.path.dirname(os.path.dirname(os.path.abspath(__file__)))
 LISTS = (("blocked", "14"), ("blocked", "15"), ("apart", "8"), ("apart", "10"), ("apart", "11"), ("apart", "12"))
 WORKERS = ("1", "2", "4", "16")
+THIEVES = ("1", "3", "7")
 LOOK = "    match search.look(batch[i]) {\n"
 
 
@@ -44,7 +46,7 @@ def build(folder, is_doubled):
     with open(os.path.join(TOP, "crates.txt")) as file:
         listed = file.read()
     with open(os.path.join(folder, "crates.txt"), "w") as file:
-        file.write(listed + "crew: te_crew te_search te_terms\n")
+        file.write(listed + "crew: te_steal te_crew te_search te_terms\n")
     subprocess.run(["git", "init", "-q", folder], check=True)
     built = subprocess.run(["rt", "run", "--", "apart", "1", "find"], cwd=crew, capture_output=True, text=True, check=False)
     if built.returncode != 0:
@@ -59,19 +61,40 @@ def run(words):
     return time.perf_counter() - before
 
 
+def instructions(words):
+    """The instructions that callgrind counts in one run."""
+    done = subprocess.run(
+        ["valgrind", "--tool=callgrind", "--callgrind-out-file=/dev/null", *words], capture_output=True, text=True, check=True
+    )
+    return int(re.search(r"Collected : (\d+)", done.stderr).group(1))
+
+
+def times(found, find):
+    """What each way took, as times what `find` took."""
+    return ", ".join(f"{way} {each / find:.2f}" for way, each in found)
+
+
 def main():
     parser = argparse.ArgumentParser()
     parser.add_argument("--runs", type=int, default=9)
+    parser.add_argument("--instructions", action="store_true")
     order = parser.parse_args()
+    ways = [["find"], *(["workers", many] for many in WORKERS), *(["thieves", many] for many in THIEVES)]
+    names = [" ".join(way) for way in ways]
     with tempfile.TemporaryDirectory() as folder:
-        once, twice = (build(os.path.join(folder, name), name == "twice") for name in ("once", "twice"))
+        once = build(os.path.join(folder, "once"), False)
+        if order.instructions:
+            find, *found = [instructions([once, *LISTS[0], *way]) for way in ways]
+            print(f"{' '.join(LISTS[0])}: find {find} instructions; times find: {times(zip(names[1:], found), find)}")
+            return
+        twice = build(os.path.join(folder, "twice"), True)
         print(f"{os.cpu_count()} processors, the least of {order.runs} runs")
         for what, size in LISTS:
-            orders = [[once, what, size, "find"], *([once, what, size, workers] for workers in WORKERS), [twice, what, size, "1"]]
+            orders = [*([once, what, size, *way] for way in ways), [twice, what, size, *ways[1]]]
             rounds = [[run(words) for words in orders] for _ in range(order.runs)]
             find, *found, doubled = [min(each) for each in zip(*rounds)]
-            told = ", ".join(f"{workers} {each / find:.2f}" for workers, each in zip(WORKERS, found))
-            print(f"{what} {size}: find {find:.3f} s; find_with by workers, times find: {told}; looks {(doubled - found[0]) / found[0]:.0%}")
+            told = times(zip(names[1:], found), find)
+            print(f"{what} {size}: find {find:.3f} s; times find: {told}; looks {(doubled - found[0]) / found[0]:.0%}")
 
 
 if __name__ == "__main__":
