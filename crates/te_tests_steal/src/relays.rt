@@ -46,6 +46,7 @@ fn each_number_is_taken_in_order(rt: HostRuntime) -> Result<(), Fail> {
 }
 
 // How many numbers were taken, and which of 0 to 63, a bit for each.
+#[derive(Drop)]
 struct Taken {
     count: AtomicU64,
     bits: AtomicU64,
