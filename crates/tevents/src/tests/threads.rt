@@ -55,7 +55,7 @@ fn one_thread_has_the_report_of_serial_rounds(rt: HostRuntime) -> Result<(), Fai
             "1",
             7,
             &b"tevents report 2\n1 post a 0 at 1.0\n2 withdraw a 0\n3 rest a\n4 post a 1 at 1.0\n\
-                spent 5 front 4 paths 1 groups 0\n"[..],
+                spent 4 front 4 paths 1 groups 0\n"[..],
         ),
     ] {
         let (answered, sink) = run(&rt, rt.alloc(), budget, script, &OpenGate)?;
