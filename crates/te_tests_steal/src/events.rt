@@ -92,7 +92,12 @@ pub(crate) fn ring(alloc: Global) -> Result<Vec<Parked>, Fail>
     ensures { IfOk result (λ parked. IsGroup (as_group parked.items)) }
 {
     let first = event(alloc, &[send(0), recv(2), Node::Then(0, 1)], 0)?;
-    parked(alloc, first, passes_on(alloc, 0, 1)?, passes_on(alloc, 1, 2)?)
+    parked(
+        alloc,
+        first,
+        passes_on(alloc, 0, 1)?,
+        passes_on(alloc, 1, 2)?,
+    )
 }
 
 /// What the first two could meet rests on both branches of the third.
