@@ -47,7 +47,8 @@ fn disarmed(
     ensures width { length looks.new ≡ length looks.old }
     ensures count { IfOk result (λ thieves. length thieves ≡ length robbers.items) }
     ensures of_relay { (owner : OwnerOf) → All (λ r. IsThiefOf owner r.thief) robbers.items → IfOk result (All (IsThiefOf owner)) }
-    ensures looks { (s : Batches) (batch took : List ℕ) → AreLooksAt s batch took looks.old whole.old → All (IsRobber s batch) robbers.items → IfOk result (λ thieves. AreLooksAt s batch (took ++ concat (map took_by thieves)) looks.new whole.new) }
+    ensures looks { (s : Batches) (batch took : List ℕ) → AreLooksAt s batch took looks.old whole.old
+        → All (IsRobber s batch) robbers.items → IfOk result (λ thieves. AreLooksAt s batch (took ++ concat (map took_by thieves)) looks.new whole.new) }
 {
     let mut rest = robbers;
     let mut thieves = Rows::new(alloc);
