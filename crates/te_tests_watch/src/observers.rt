@@ -1,6 +1,6 @@
 // Sixteen observers, in threads of their own, read while entries are published.
 
-ghost use Rattle.std.specs.Prelude.{◌≡◌, [], false};
+ghost use Rattle.std.specs.Prelude.{◌≡◌, false};
 ghost use mathlib.Core.List.{IsPrefix};
 
 use crate::calls::{offer_or_recall, sends};
@@ -110,7 +110,7 @@ fn publishes_beside<R: Threads + Wait + Sync>(
     requires here { pass.old.lock ≡ runtime.now }
     requires idle { pass.old.has_turn ≡ false }
     requires callers { publisher.old.watch.callers ≡ runtime.now.callers }
-    requires nothing { publisher.old.list ≡ [] }
+    requires goes_on { IsPrefix publisher.old.list pass.old.read }
 {
     let event = sends(alloc)?;
     let counter = AtomicU32::new(0);
@@ -122,7 +122,7 @@ fn publishes_beside<R: Threads + Wait + Sync>(
             requires here { pass.now.lock ≡ runtime.now }
             requires idle { pass.now.has_turn ≡ false }
             requires callers { publisher.now.watch.callers ≡ runtime.now.callers }
-            requires nothing { publisher.now.list ≡ [] }
+            requires goes_on { IsPrefix publisher.now.list pass.now.read }
         {
             let started = scope.spawn(
                 move || -> Result<Vec<(Observer, bool)>, AllocError> {
@@ -156,7 +156,7 @@ fn observes<R: Threads + Wait + Sync + Abort>(
     requires here { pass.old.lock ≡ runtime.now }
     requires idle { pass.old.has_turn ≡ false }
     requires callers { publisher.old.watch.callers ≡ runtime.now.callers }
-    requires nothing { publisher.old.list ≡ [] }
+    requires goes_on { IsPrefix publisher.old.list pass.old.read }
 {
     let Seen {
         begun,
