@@ -9,9 +9,10 @@ use Rattle.te_watch.specs.contracts.observer.Observer as observer
 use Rattle.te_watch.specs.contracts.observer.Observer.TheInside as inside
 
 inside_send : IsSend inside.the_row
-inside_send = recorded_send _ _ _ (inside.the_type).to_one (struct_send (shape inside.the_type)
-    (search (option.the_field_send, reader.the_send, notice.the_sync, frees, send, sync) depth 30,
-    (notice.the_send, (search crosses depth 10, (search sendable, tt)))))
+inside_send = recorded_send _ _ _ (inside.the_type).to_one (struct_send (shape inside.the_type) (
+  search (option.the_field_send, reader.the_send, notice.the_sync, frees, send, sync) depth 30,
+  (notice.the_send, (search crosses depth 10, (search sendable, tt))),
+))
 
 pub observer_send : IsSend observer.the_row
 observer_send = view_send inside.the_row _ _ _ _ inside_send

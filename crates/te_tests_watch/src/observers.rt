@@ -124,11 +124,9 @@ fn publishes_beside<R: Threads + Wait + Sync>(
             requires callers { publisher.now.watch.callers ≡ runtime.now.callers }
             requires goes_on { IsPrefix publisher.now.list pass.now.read }
         {
-            let started = scope.spawn(
-                move || -> Result<Vec<(Observer, bool)>, AllocError> {
-                    thread::map_vec(rt, observers, &|observer| reads(observer, begun))
-                },
-            );
+            let started = scope.spawn(move || -> Result<Vec<(Observer, bool)>, AllocError> {
+                thread::map_vec(rt, observers, &|observer| reads(observer, begun))
+            });
             match started {
                 Ok(readers) => {
                     let all = all_begin(begun);
