@@ -1,1 +1,2 @@
 pub mod PassesGrow
+pub mod Sending
