@@ -12,6 +12,7 @@ pub mod DigitLaws
 pub mod ByteKinds
 pub mod ReservedWords
 pub mod TokenSteps
+pub mod TextSteps
 pub mod CalculationSteps
 pub mod NoneNamed
 pub mod TallyLemmas

@@ -1,4 +1,4 @@
-ghost use Rattle.std.specs.Prelude.{◌≡◌, ◌↔◌, ◌<◌, true, length, IsTrue, IfSome};
+ghost use Rattle.std.specs.Prelude.{◌≡◌, ◌↔◌, ◌<◌, true, length, drop, IsTrue, IfSome};
 ghost use Rattle.te_reader.specs.Heads.{word_first, sign_first, name_first, inner_first, bound_first, integer_first, Takes, TakesBytes, IsEndOfText};
 ghost use Rattle.te_reader.specs.Lexed.{lexed};
 ghost use Rattle.te_reader.specs.Tokens.{AreTokens};
@@ -35,6 +35,17 @@ impl<'a> Cursor<'a> {
         Cursor { head, rest }
     }
 
+    // Goes on behind the token that stands here.
+    #[inline(never)]
+    fn advance(&mut self)
+        requires { 0 < length self.old.tokens }
+        ensures { self.new ≡ record self.old { tokens = drop 1 self.old.tokens } }
+    {
+        let (head, rest) = lexeme(self.rest);
+        self.head = head;
+        self.rest = rest;
+    }
+
     /// A second cursor at the same place.
     pub fn copy(&self) -> Cursor<'a>
         ensures { result ≡ self.now }
@@ -62,7 +73,7 @@ impl<'a> Cursor<'a> {
     {
         match self.head {
             Lexeme::Word(found) if is_same_word(word, found) => {
-                *self = Cursor::new(self.rest);
+                self.advance();
                 true
             }
             _ => false,
@@ -76,7 +87,7 @@ impl<'a> Cursor<'a> {
     {
         match self.head {
             Lexeme::Sign(found) if is_same_sign(sign, found) => {
-                *self = Cursor::new(self.rest);
+                self.advance();
                 true
             }
             _ => false,
@@ -93,7 +104,7 @@ impl<'a> Cursor<'a> {
     {
         match self.head {
             Lexeme::Name(spelling) => {
-                *self = Cursor::new(self.rest);
+                self.advance();
                 Some(spelling)
             }
             _ => None,
@@ -107,7 +118,7 @@ impl<'a> Cursor<'a> {
     {
         match self.head {
             Lexeme::Inner(spelling) => {
-                *self = Cursor::new(self.rest);
+                self.advance();
                 Some(spelling)
             }
             _ => None,
@@ -122,7 +133,7 @@ impl<'a> Cursor<'a> {
     {
         match self.head {
             Lexeme::Name(spelling) | Lexeme::Inner(spelling) => {
-                *self = Cursor::new(self.rest);
+                self.advance();
                 Some(spelling)
             }
             _ => None,
@@ -136,7 +147,7 @@ impl<'a> Cursor<'a> {
     {
         match self.head {
             Lexeme::Integer(spelling) => {
-                *self = Cursor::new(self.rest);
+                self.advance();
                 Some(spelling)
             }
             _ => None,

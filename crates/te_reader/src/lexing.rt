@@ -1,4 +1,4 @@
-ghost use Rattle.std.specs.Prelude.{◌≡◌, ◌≤◌, true, length, drop, slice_index};
+ghost use Rattle.std.specs.Prelude.{◌≡◌, ◌≢◌, ◌≤◌, ◌↔◌, true, false, length, drop, slice_index, IsTrue};
 ghost use Rattle.std.specs.List.{prefix_len};
 ghost use Rattle.std.specs.Char.{is_ascii_alphabetic, is_ascii_digit};
 ghost use Rattle.te_script.specs.Names.{is_word_byte};
@@ -19,10 +19,18 @@ fn is_blank(b: u8) -> bool
 fn is_word_byte(b: u8) -> bool
     ensures { result ≡ is_word_byte b }
 {
-    b.is_ascii_alphanumeric() || b == b'_'
+    b.is_ascii_lowercase() || b.is_ascii_digit() || b == b'_' || b.is_ascii_uppercase()
+}
+
+// Whether a byte stands neither in a blank nor at the front of a comment.
+fn is_solid(b: u8) -> bool
+    ensures { IsTrue result ↔ (is_blank b ≡ false) × (b ≢ 35) }
+{
+    !is_blank(b) && b != b'#'
 }
 
 // The text behind its first bytes.
+#[inline(always)]
 fn behind(text: &[u8], len: usize) -> &[u8]
     requires { len ≤ length text.now }
     ensures { result.now ≡ drop len text.now }
@@ -30,8 +38,26 @@ fn behind(text: &[u8], len: usize) -> &[u8]
     &text[len..]
 }
 
-// How many bytes of blanks and comments stand at the front.
+// How many bytes of blanks and comments stand at the front. Most tokens stand at once or behind one space.
+#[inline(always)]
 fn gap_len(text: &[u8]) -> usize
+    ensures within { result ≤ length text.now }
+    ensures same { lexed (drop result text.now) ≡ lexed text.now }
+    ensures spots { spots (drop result text.now) ≡ spots text.now }
+    ensures at_token { IsAtToken (drop result text.now) }
+{
+    if !text.is_empty() && is_solid(text[0]) {
+        return 0;
+    }
+    if text.len() > 1 && text[0] == b' ' && is_solid(text[1]) {
+        return 1;
+    }
+    long_gap_len(text)
+}
+
+// How many bytes of blanks and comments stand at the front, whatever they are.
+#[inline(never)]
+fn long_gap_len(text: &[u8]) -> usize
     ensures within { result ≤ length text.now }
     ensures same { lexed (drop result text.now) ≡ lexed text.now }
     ensures spots { spots (drop result text.now) ≡ spots text.now }
@@ -65,6 +91,7 @@ fn digits_len(text: &[u8]) -> usize
 }
 
 // A reserved word or a name, at a letter.
+#[inline(always)]
 fn word_or_name<'a>(text: &'a [u8]) -> (Lexeme<'a>, &'a [u8])
     requires { is_ascii_alphabetic (slice_index text.now 0) ≡ true }
     ensures tokens { IsHeaded result.0 result.1.now text.now }
@@ -78,6 +105,7 @@ fn word_or_name<'a>(text: &'a [u8]) -> (Lexeme<'a>, &'a [u8])
 }
 
 // An inner name, at a `_`.
+#[inline(always)]
 fn inner_name<'a>(text: &'a [u8]) -> (Lexeme<'a>, &'a [u8])
     requires { slice_index text.now 0 ≡ 95 }
     ensures tokens { IsHeaded result.0 result.1.now text.now }
@@ -88,6 +116,7 @@ fn inner_name<'a>(text: &'a [u8]) -> (Lexeme<'a>, &'a [u8])
 }
 
 // An integer, at a digit.
+#[inline(always)]
 fn digits<'a>(text: &'a [u8]) -> (Lexeme<'a>, &'a [u8])
     requires { is_ascii_digit (slice_index text.now 0) ≡ true }
     ensures tokens { IsHeaded result.0 result.1.now text.now }
@@ -98,6 +127,7 @@ fn digits<'a>(text: &'a [u8]) -> (Lexeme<'a>, &'a [u8])
 }
 
 // `-`, or an integer where a digit follows.
+#[inline(always)]
 fn minus<'a>(text: &'a [u8]) -> (Lexeme<'a>, &'a [u8])
     requires { slice_index text.now 0 ≡ 45 }
     ensures tokens { IsHeaded result.0 result.1.now text.now }
@@ -112,6 +142,7 @@ fn minus<'a>(text: &'a [u8]) -> (Lexeme<'a>, &'a [u8])
 }
 
 // `<-`, or `<` by itself.
+#[inline(always)]
 fn less<'a>(text: &'a [u8]) -> (Lexeme<'a>, &'a [u8])
     requires { slice_index text.now 0 ≡ 60 }
     ensures tokens { IsHeaded result.0 result.1.now text.now }
@@ -125,6 +156,7 @@ fn less<'a>(text: &'a [u8]) -> (Lexeme<'a>, &'a [u8])
 }
 
 // The sign of one byte that no other token begins with.
+#[inline(always)]
 fn one_sign(b: u8) -> Lexeme<'static>
     ensures { IsOneSign result b (one_sign b) }
 {
@@ -145,6 +177,7 @@ fn one_sign(b: u8) -> Lexeme<'static>
 }
 
 /// What stands at the front of a text that begins with no blank and no comment, with the text behind it.
+#[inline(always)]
 pub fn lexeme_at<'a>(text: &'a [u8]) -> (Lexeme<'a>, &'a [u8])
     requires { IsAtToken text.now }
     ensures tokens { IsHeaded result.0 result.1.now text.now }
@@ -170,6 +203,7 @@ pub fn lexeme_at<'a>(text: &'a [u8]) -> (Lexeme<'a>, &'a [u8])
 }
 
 /// The text behind the blanks and comments at its front.
+#[inline(always)]
 pub fn behind_gap(text: &[u8]) -> &[u8]
     ensures same { lexed result.now ≡ lexed text.now }
     ensures spots { spots result.now ≡ spots text.now }
@@ -179,6 +213,7 @@ pub fn behind_gap(text: &[u8]) -> &[u8]
 }
 
 /// What stands at the front of a text behind its blanks and comments, with the text behind it.
+#[inline(always)]
 pub fn lexeme<'a>(text: &'a [u8]) -> (Lexeme<'a>, &'a [u8])
     ensures tokens { stream_headed result.0 (lexed result.1.now) ≡ lexed text.now }
     ensures name { HasByte result.0 }

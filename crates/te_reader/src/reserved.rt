@@ -5,6 +5,7 @@ ghost use Rattle.te_reader.specs.Lexed.{word_among, reserved_as};
 use crate::token::Word;
 
 /// The reserved word of this spelling, if it is one.
+#[inline(always)]
 #[tactic(auto, unfolding(crate::specs::Lexed::reserved_as))]
 pub fn reserved_word(bytes: &[u8]) -> Option<Word>
     ensures { result ≡ reserved_as bytes.now }
@@ -20,6 +21,7 @@ pub fn reserved_word(bytes: &[u8]) -> Option<Word>
     }
 }
 
+#[inline(always)]
 fn of_two(bytes: &[u8]) -> Option<Word>
     ensures { result ≡ word_among (Word.Do ∷ Word.If ∷ []) bytes.now }
 {
@@ -32,6 +34,7 @@ fn of_two(bytes: &[u8]) -> Option<Word>
     }
 }
 
+#[inline(always)]
 fn of_four(bytes: &[u8]) -> Option<Word>
     ensures { result ≡ word_among (Word.Sync ∷ Word.Send ∷ Word.Recv ∷ Word.Emit ∷ Word.Else ∷ []) bytes.now }
 {
@@ -50,6 +53,7 @@ fn of_four(bytes: &[u8]) -> Option<Word>
     }
 }
 
+#[inline(always)]
 fn of_five(bytes: &[u8]) -> Option<Word>
     ensures { result ≡ word_among (Word.Never ∷ Word.Throw ∷ Word.Catch ∷ Word.Fresh ∷ []) bytes.now }
 {
@@ -66,6 +70,7 @@ fn of_five(bytes: &[u8]) -> Option<Word>
     }
 }
 
+#[inline(always)]
 fn of_six(bytes: &[u8]) -> Option<Word>
     ensures { result ≡ word_among (Word.Thread ∷ Word.Always ∷ Word.Choose ∷ Word.Repeat ∷ []) bytes.now }
 {
@@ -82,8 +87,18 @@ fn of_six(bytes: &[u8]) -> Option<Word>
     }
 }
 
+// Byte by byte: for a word that is known the compiler makes a few tests of it, and no call.
+#[inline(always)]
 fn is_same(bytes: &[u8], word: &[u8]) -> bool
     ensures { result ≡ bytes_eq bytes.now word.now }
 {
-    bytes == word
+    if bytes.len() != word.len() {
+        return false;
+    }
+    'bytes: for i in 0..bytes.len() {
+        if bytes[i] != word[i] {
+            return false;
+        }
+    }
+    true
 }

@@ -150,6 +150,7 @@ fn share(
     ensures never { IsErrOf result Refused → ⊥ }
 {
     let shared = Arc::new(alloc, code)?;
+    stmts.reserve(drafts.len())?;
     for draft in drafts {
         let code = Arc::try_clone(&shared)?;
         stmts.push(Stmt::Sync {
